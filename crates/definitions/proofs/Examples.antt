@@ -1,0 +1,233 @@
+-- Worked examples, about the definitions alone and by computation: document 01's printed list, the rows that it marks under
+-- 'Checked by hand', its refusals, and the slips that it rules out.
+use Prim.Native.Nat.{ℕ}
+use Prim.Native.String.{String}
+use lib.Dec.{T}
+use lib.Ieee.{Float, binary64, toBits}
+use mathlib.Core.Bool.{Bool}
+use mathlib.Core.List.{List, [], _++_, _∷_, flatMap, map}
+use mathlib.Core.Option.{Option, none, some}
+use mathlib.Core.Path.{_≡_, refl}
+use Rattle.definitions.specs.AlleleSubset.{likelihoodSubset}
+use Rattle.definitions.specs.Alleles.{allelesOf, writtenAlleles}
+use Rattle.definitions.specs.Answers.{callProgram, combineProgram, printedAnswer}
+use Rattle.definitions.specs.Bytes.{joinedBy, sameBytes, text}
+use Rattle.definitions.specs.CalledGenotypes.{gqFromPl}
+use Rattle.definitions.specs.CalledList.{calledData, calledList}
+use Rattle.definitions.specs.Checked.{Checked, _>>=_, accepted, refused}
+use Rattle.definitions.specs.ClipAndReference.{LetterChoice}
+use Rattle.definitions.specs.CombinedList.{Texts, combinedList, combinedRecords, inputOf}
+use Rattle.definitions.specs.Genotypes.{SampleData, bestGenotype, genotypeIndex}
+use Rattle.definitions.specs.Likelihoods.{log10FromPl}
+use Rattle.definitions.specs.Lines.{line}
+use Rattle.definitions.specs.ListReader.{writtenList}
+use Rattle.definitions.specs.Lists.{allOf}
+use Rattle.definitions.specs.Numbers.{decimal, decimals, writtenOrMissing}
+use Rattle.definitions.specs.Printed.{printedValues, writtenGenotype}
+use Rattle.definitions.specs.Records.{Record}
+use Rattle.definitions.specs.ReverseTrim.{trimmedAlleles}
+use Rattle.definitions.proofs.Evaluated.{evaluated}
+
+-- ---- texts, written shortly
+
+-- a site group on contig c with no GQ and AD
+abbrev siteGroup : String → String → String → String → String → String → String → List ℕ
+siteGroup sample start end ref alt dp pl =
+    line "site" (text sample) ++ line "contig" (text "c") ++ line "start" (text start) ++ line "end" (text end)
+    ++ line "ref" (text ref) ++ line "alt" (text alt)
+    ++ line "gq" (text ".") ++ line "dp" (text dp) ++ line "ad" (text ".") ++ line "pl" (text pl)
+
+-- a site with PL alone; a site, and a block, with no values
+abbrev withPl : String → String → String → String → String → String → List ℕ
+withPl sample start end ref alt pl = siteGroup sample start end ref alt "." pl
+
+abbrev bare : String → String → String → String → String → List ℕ
+bare sample start end ref alt = withPl sample start end ref alt "."
+
+abbrev block : String → String → String → List ℕ
+block start end ref = bare "0" start end ref "<NON_REF>"
+
+abbrev one : List ℕ
+one = text "samples=1\nsample=S0\n"
+
+abbrev two : List ℕ
+two = text "samples=2\nsample=S0\nsample=S1\n"
+
+-- ---- what is looked at
+
+-- without a reference no letter is chosen, so any choice will do
+abbrev anyChoice : LetterChoice
+anyChoice contig position = 0
+
+-- a cohort, with no clip and no reference
+abbrev alone : List ℕ → Texts
+alone cohort = record { cohort = cohort; clip = none; reference = none }
+
+abbrev recordsOf : List ℕ → Checked (List Record)
+recordsOf cohort = inputOf (alone cohort) >>= λ x. combinedRecords x anyChoice 8192
+
+-- the answers, one after the other, with `;` between
+abbrev shown : {A : Type 0} → (A → List ℕ) → Checked (List A) → List ℕ
+shown show (refused n) = line "refused" (decimal n)
+shown show (accepted as′) = joinedBy 59 (map show as′)
+
+-- the alleles of each record of a cohort
+abbrev allelesIn : List ℕ → List ℕ
+allelesIn cohort = shown (λ (r : Record). writtenAlleles (allelesOf (r .alleles))) (recordsOf cohort)
+
+-- with the samples' PL
+abbrev allelesAndPl : List ℕ → List ℕ
+allelesAndPl cohort =
+    shown (λ (r : Record). writtenAlleles (allelesOf (r .alleles)) ++ flatMap (λ (v : SampleData). text " " ++ writtenOrMissing decimals (v .pl)) (r .sampleData))
+    (recordsOf cohort)
+
+-- `pos` and `end` of each record of a cohort
+abbrev spans : List ℕ → List ℕ
+spans cohort = shown (λ (r : Record). decimal (r .pos) ++ text "-" ++ writtenOrMissing decimal (r .end)) (recordsOf cohort)
+
+-- what the whole call answers, with this much scratch and output
+abbrev answerWithin : ℕ → ℕ → Texts → List ℕ
+answerWithin scratchLength outLength t = printedAnswer (combinedList t scratchLength outLength anyChoice)
+
+abbrev answer : List ℕ → List ℕ
+answer cohort = answerWithin 8192 65536 (alone cohort)
+
+-- one site of one sample, as the whole call answers it
+abbrev answerToSite : String → String → String → String → String → List ℕ
+answerToSite start end ref alt pl = answer (one ++ withPl "0" start end ref alt pl)
+
+abbrev trimmed : String → List ℕ
+trimmed alleles = printedAnswer (trimmedAlleles (text alleles) 65536)
+
+-- a sample with this PL and AD and no more
+abbrev withValues : List ℕ → List ℕ → SampleData
+withValues ad pl = record { gt = none; gq = none; dp = none; ad = some ad; pl = some pl }
+
+-- ---- the tables
+
+pub record Row : Type 0 where
+  pub found : List ℕ
+  pub wanted : String
+
+infixl 4 _gives_
+abbrev _gives_ : List ℕ → String → Row
+found gives wanted = record { found = found; wanted = wanted }
+
+-- what document 01 marks under 'Checked by hand'
+abbrev pub checkedByHand : List Row
+checkedByHand =
+    (decimal (genotypeIndex 0 2) gives "3")
+    ∷ (decimal (genotypeIndex 15 15) gives "135")
+    ∷ (allelesIn (two ++ bare "0" "10" "10" "A" "G,<NON_REF>" ++ bare "1" "10" "11" "AT" "A,<NON_REF>") gives "AT,A,GT,<NON_REF>;A,*,<NON_REF>")
+    ∷ (allelesAndPl (one ++ withPl "0" "20" "22" "ACG" "A,<NON_REF>" "1,2,3,4,5,6")
+    gives "ACG,A,<NON_REF> 1,2,3,4,5,6;A,*,<NON_REF> 1,2,3,4,5,6;A,*,<NON_REF> 1,2,3,4,5,6")
+    ∷ (allelesAndPl (one ++ withPl "0" "20" "21" "AC" "GT,<NON_REF>" "1,2,3,4,5,6") gives "AC,GT,<NON_REF> 1,2,3,4,5,6;A,*,<NON_REF> 1,4,6,4,6,6")
+    ∷ (printedValues (calledData 3 2 (withValues (7 ∷ 8 ∷ 9 ∷ []) (90 ∷ 80 ∷ 70 ∷ 10 ∷ 20 ∷ 30 ∷ []))) gives "gq=10\ndp=.\nad=7,8\npl=0,10,10\n")
+    ∷ (decimal (gqFromPl (0 ∷ 0 ∷ 5 ∷ [])) gives "0")
+    ∷ (decimal (gqFromPl (0 ∷ 150 ∷ 200 ∷ [])) gives "99")
+    ∷ (trimmed "AAT,AT" gives "AA,A")
+    ∷ (trimmed "CAT,GAT" gives "C,G")
+    ∷ (trimmed "AT,T" gives "AT,T")
+    ∷ (writtenGenotype (bestGenotype 2 (5 ∷ 5 ∷ 9 ∷ [])) gives "0/0")
+    ∷ (spans (one ++ block "10" "12" "A" ++ block "13" "15" "A") gives "10-15")
+    ∷ (spans (one ++ block "10" "12" "A" ++ block "13" "15" "C") gives "10-12;13-15")
+    ∷ (spans (one ++ block "10" "12" "A" ++ block "14" "15" "A") gives "10-12;14-15")
+    ∷ []
+
+-- 'What is sent back': the example of each row; then the greatest number and one more, no sites, and absent files
+abbrev pub refusals : List Row
+refusals =
+    (answerToSite "010" "10" "A" "<NON_REF>" "." gives "refused=1\n")
+    ∷ (answer (text "samples=0\n") gives "refused=2\n")
+    ∷ (answer (two ++ bare "2" "10" "10" "A" "<NON_REF>") gives "refused=3\n")
+    ∷ (answerToSite "10" "9" "A" "<NON_REF>" "." gives "refused=4\n")
+    ∷ (answerToSite "10" "10" "A" "G,G" "." gives "refused=5\n")
+    ∷ (answerToSite "10" "10" "A" "G" "." gives "refused=6\n")
+    ∷ (answerToSite "10" "12" "A" "G,<NON_REF>" "." gives "refused=7\n")
+    ∷ (answerToSite "10" "10" "A" "<NON_REF>" "0,30" gives "refused=8\n")
+    ∷ (answerWithin 8192 65536 (record { cohort = one; clip = none; reference = some (text "contig=c\nfirst=1\nbases=AX\n") }) gives "refused=9\n")
+    ∷ (answerWithin 1 65536 (alone (one ++ block "10" "19" "A")) gives "refused=10\n")
+    ∷ (answerWithin 8192 65536 (record {
+      cohort = one ++ block "10" "19" "A";
+      clip = some (text "contig=c\nstart=13\nend=19\n");
+      reference = some (text "contig=c\nfirst=1\nbases=AC\n");
+    }) gives "refused=11\n")
+    ∷ (answer (two ++ bare "0" "10" "11" "AT" "A,<NON_REF>" ++ bare "1" "10" "10" "C" "G,<NON_REF>") gives "refused=12\n")
+    ∷ (answer
+    (text "samples=3\nsample=S0\nsample=S1\nsample=S2\n"
+    ++ bare "0" "10" "10" "A" "AA,AC,AG,AT,CA,CC,<NON_REF>"
+    ++ bare "1" "10" "10" "A" "CG,CT,GA,GC,GG,GT,<NON_REF>"
+    ++ bare "2" "10" "10" "A" "TA,TC,TG,TT,AAA,AAC,<NON_REF>") gives "refused=13\n")
+    ∷ (answerWithin 8192 0 (alone one) gives "refused=14\n")
+    ∷ (shown (λ (x : Float). decimal (toBits binary64 x)) (likelihoodSubset (map log10FromPl (0 ∷ 30 ∷ [])) 2 (0 ∷ []) 136) gives "refused=15\n")
+    ∷ (spans (one ++ block "2147483647" "2147483647" "A") gives "2147483647-.")
+    ∷ (answerToSite "1" "2147483648" "A" "<NON_REF>" "." gives "refused=1\n")
+    ∷ (answer one gives "samples=1\nsample=S0\nrecords=0\n")
+    ∷ (trimmed "AT,AT" gives "refused=5\n")
+    ∷ (combineProgram none none none anyChoice gives "refused=1\n")
+    ∷ (callProgram none gives "refused=1\n")
+    ∷ []
+
+-- 'Slips to rule out' that the rows above would let through, and which of two refusals decides
+abbrev pub slips : List Row
+slips =
+    (allelesIn (two ++ bare "0" "10" "10" "A" "*,<NON_REF>" ++ bare "1" "10" "11" "AT" "A,<NON_REF>") gives "AT,A,*,<NON_REF>;A,*,<NON_REF>")
+    ∷ (decimal (gqFromPl (30 ∷ 0 ∷ 20 ∷ [])) gives "20")
+    ∷ (spans (one ++ siteGroup "0" "10" "12" "A" "<NON_REF>" "7" "." ++ siteGroup "0" "13" "15" "A" "<NON_REF>" "8" ".") gives "10-12;13-15")
+    ∷ (shown (λ (x : Float). decimal (toBits binary64 x)) (likelihoodSubset (map log10FromPl (40 ∷ 0 ∷ 50 ∷ 60 ∷ 70 ∷ 80 ∷ [])) 3 (2 ∷ 0 ∷ []) 136)
+    gives "13839561654909534208;13835058055282163712;0")
+    ∷ (answerToSite "10" "9" "A" "G,G" "." gives "refused=4\n")
+    ∷ (answerToSite "10" "12" "A" "G,<NON_REF>" "0,30" gives "refused=7\n")
+    ∷ (answer (one ++ withPl "0" "10" "10" "A" "<NON_REF>" "0,30" ++ bare "0" "010" "10" "A" "<NON_REF>") gives "refused=8\n")
+    ∷ []
+
+-- a row's test: what is found is what is wanted
+abbrev pub right : Row → Bool
+right r = sameBytes (r .found) (text (r .wanted))
+
+pub checkedByHand-right : T (allOf right checkedByHand)
+unfolding evaluated
+checkedByHand-right = tt
+
+pub refusals-right : T (allOf right refusals)
+unfolding evaluated
+refusals-right = tt
+
+pub slips-right : T (allOf right slips)
+unfolding evaluated
+slips-right = tt
+
+-- ---- the printed list
+
+abbrev pub exampleCohort : List ℕ
+exampleCohort =
+    text "samples=2\nsample=S0\nsample=S1\n"
+    ++ text "site=0\ncontig=c\nstart=10\nend=11\nref=A\nalt=<NON_REF>\ngq=30\ndp=9\nad=9,0\npl=0,30,300\n"
+    ++ text "site=1\ncontig=c\nstart=10\nend=10\nref=A\nalt=G,<NON_REF>\ngq=40\ndp=8\nad=4,4,0\npl=40,0,50,60,70,80\n"
+
+abbrev pub exampleList : List ℕ
+exampleList =
+    text "samples=2\nsample=S0\nsample=S1\nrecords=2\n"
+    ++ text "contig=c\npos=10\nend=.\nref=A\nalt=G,<NON_REF>\n"
+    ++ text "gt=0/0\ngq=30\ndp=9\nad=9,0,0\npl=0,30,300,30,300,300\n"
+    ++ text "gt=0/1\ngq=40\ndp=8\nad=4,4,0\npl=40,0,50,60,70,80\n"
+    ++ text "contig=c\npos=11\nend=.\nref=A\nalt=<NON_REF>\n"
+    ++ text "gt=0/0\ngq=30\ndp=9\nad=9,0\npl=0,30,300\n"
+    ++ text "gt=.\ngq=.\ndp=.\nad=.\npl=.\n"
+
+pub printed : combineProgram (some exampleCohort) none none anyChoice ≡ exampleList
+unfolding evaluated
+printed = refl
+
+-- the printed list, read back, has the names and records that it was printed from
+pub readBack : writtenList exampleList ≡ (recordsOf exampleCohort >>= λ rs. accepted (record { names = text "S0" ∷ text "S1" ∷ []; records = rs }))
+unfolding evaluated
+readBack = refl
+
+-- its called list
+pub called : callProgram (some exampleList)
+    ≡ text "samples=2\nsample=S0\nsample=S1\nrecords=1\ncontig=c\npos=10\nref=A\nalt=G\n"
+    ++ text "gq=30\ndp=9\nad=9,0\npl=0,30,300\n"
+    ++ text "gq=40\ndp=8\nad=4,4\npl=40,0,50\n"
+unfolding evaluated
+called = refl
