@@ -6,14 +6,14 @@ use lib.Dec.{T}
 use lib.Ieee.{Float, binary64, toBits}
 use mathlib.Core.Bool.{Bool}
 use mathlib.Core.List.{List, [], _++_, _∷_, flatMap, map}
-use mathlib.Core.Option.{Option, none, some}
+use mathlib.Core.Option.{none, some}
 use mathlib.Core.Path.{_≡_, refl}
 use Rattle.definitions.specs.AlleleSubset.{likelihoodSubset}
 use Rattle.definitions.specs.Alleles.{allelesOf, writtenAlleles}
 use Rattle.definitions.specs.Answers.{callProgram, combineProgram, printedAnswer}
 use Rattle.definitions.specs.Bytes.{joinedBy, sameBytes, text}
 use Rattle.definitions.specs.CalledGenotypes.{gqFromPl}
-use Rattle.definitions.specs.CalledList.{calledData, calledList}
+use Rattle.definitions.specs.CalledList.{calledData}
 use Rattle.definitions.specs.Checked.{Checked, _>>=_, accepted, refused}
 use Rattle.definitions.specs.ClipAndReference.{LetterChoice}
 use Rattle.definitions.specs.CombinedList.{Texts, combinedList, combinedRecords, inputOf}

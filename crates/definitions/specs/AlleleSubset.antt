@@ -48,7 +48,7 @@ unfoldable pub subsetFits : List Float → ℕ → List ℕ → Bool
 subsetFits gl n keep =
     eqb (length gl) (genotypeCount n) && allOf inRange gl && leb (length keep) maxAlleles && allOf (λ a. ltb a n) keep
 
--- `subset_log10_genotype_likelihoods` with this much output: the keep list is taken as given.
+-- `subset_log10_genotype_likelihoods` with this much output: the keep list as it is, with its order and repeats.
 unfoldable pub likelihoodSubset : List Float → ℕ → List ℕ → ℕ → Checked (List Float)
 likelihoodSubset gl n keep outLength = do
   require 15 (alleleCountFits n && subsetFits gl n keep)
