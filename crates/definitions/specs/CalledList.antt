@@ -1,24 +1,19 @@
 -- The called list: the records of a combined list that call a variant, without `<NON_REF>`.
 use Prim.Native.Nat.{suc, ℕ}
 use lib.ListN.{drop, length, take}
-use mathlib.Core.Bool.{Bool, _&&_, false, not, true}
+use mathlib.Core.Bool.{Bool, _&&_, not}
 use mathlib.Core.List.{List, _++_, flatMap, map}
-use mathlib.Core.Option.{Option, Option·getD, Option·map, none, some}
+use mathlib.Core.Option.{Option·getD, Option·map, none}
 use Rattle.definitions.specs.Alleles.{RefAlts, allelesOf, nonRef, onlyNonRef, sameAllele, writtenAlleles}
 use Rattle.definitions.specs.CalledGenotypes.{gqFromPl, plWithoutAllele}
 use Rattle.definitions.specs.Checked.{Checked, _>>=_, within}
 use Rattle.definitions.specs.Genotypes.{SampleData}
 use Rattle.definitions.specs.Lines.{line}
 use Rattle.definitions.specs.ListReader.{writtenList}
-use Rattle.definitions.specs.Lists.{anyOf, filterBy, indexWhere}
+use Rattle.definitions.specs.Lists.{anyOf, filterBy, indexWhere, isThere}
 use Rattle.definitions.specs.Numbers.{decimal}
 use Rattle.definitions.specs.Printed.{printedHeader, printedValues}
 use Rattle.definitions.specs.Records.{Record}
-
--- a value is there
-unfoldable pub isThere : {A : Type 0} → Option A → Bool
-isThere none = false
-isThere (some a) = true
 
 -- A record is called unless no ALT but `<NON_REF>` is there or no sample has PL (document 01: it is dropped).
 unfoldable pub isCalled : Record → Bool
