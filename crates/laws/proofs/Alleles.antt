@@ -43,9 +43,13 @@ block-is r h =
   where
     go : (l : List Allele) → length l ≡ 1 → anyOf (sameAllele nonRef) l ≡ true → l ≡ nonRef ∷ []
     go [] e k = absurd (omega arith)
-    go (x ∷ []) e k = let w = any-member _ _ k in ap (λ (y : Allele). y ∷ []) (sym (List·Memᴰ·eq-of-singleton (w .1)) ∙ sym (allele-is _ _ (w .2)))
+    go (x ∷ []) e k =
+        let (a, m, same) = any-member _ _ k in
+        ap (λ (y : Allele). y ∷ []) (sym (List·Memᴰ·eq-of-singleton m) ∙ sym (allele-is _ _ same))
     go (x ∷ y ∷ l) e k = absurd (omega arith)
 
 pub is-block : (r : RefAlts) → r .alts ≡ nonRef ∷ [] → length (r .ref) ≡ 1 → isBlock r ≡ true
 unfolding isBlock onlyNonRef hasNonRef anyOf sameAllele
-is-block r h k = both (subst (λ (l : List Allele). (eqb (length l) 1 && anyOf (sameAllele nonRef) l) ≡ true) (sym h) refl) (eq-eqb _ _ k)
+is-block r h k =
+    let only = subst (λ (l : List Allele). (eqb (length l) 1 && anyOf (sameAllele nonRef) l) ≡ true) (sym h) refl in
+    both only (eq-eqb _ _ k)
