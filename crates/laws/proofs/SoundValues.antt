@@ -54,7 +54,7 @@ pub record CountedTo (most : ℕ) (ns : List ℕ) : Type 0 where
   pub at-most : length ns ≤ most
   pub in-range : Every InRange ns
 
-pub number-sound : (s : List ℕ) (n : ℕ) → number s ≡ some n → n ≤ maxNumber
+pub number-sound : (s : List ℕ) (n : ℕ) → number s ≡ some n → InRange n
 unfolding number
 number-sound s n e = after-only-if _ _ e λ t p.
     let small = both-of (allOf isDigit s && noLeadingZero s) (leb (digitsValue s) maxNumber) t .1 in
