@@ -1,10 +1,9 @@
 -- REF of a record: what starts there is a prefix of it, and it is extended as samples are put in.
 use Prim.Native.Nat.{_≤_, ℕ}
-use lib.Dec.{ltb}
 use lib.ListN.{drop, length, length-append, length-take, take, take-append-drop}
 use lib.Seq.{drop-append-le, drop-append-seam}
 use mathlib.Core.Bool.{Bool, cond, false, true}
-use mathlib.Core.List.{List, List·Memᴰ·head, List·Memᴰ·not-nil, List·Memᴰ·tail, [], _++_, _∷_, map}
+use mathlib.Core.List.{List, List·Memᴰ·head, List·Memᴰ·not-nil, Memᴰ·map, [], _++_, _∷_, map}
 use mathlib.Core.Logic.{_⊎_, inl, inr}
 use mathlib.Core.Option.{Option, none, some}
 use mathlib.Core.Path.{_∙_, _≡_, ap, refl, sym}
@@ -16,22 +15,14 @@ use Rattle.definitions.specs.ClipAndReference.{LetterChoice, ReferenceSegment}
 use Rattle.definitions.specs.Cohort.{Site}
 use Rattle.definitions.specs.Lists.{allOf, anyOf, filterBy}
 use Rattle.definitions.specs.MergedRef.{firstRef, longest, mergedRef, refLetter, sharedRef, siteRef, startsAt}
+use Rattle.laws.proofs.Alleles.{block-is}
 use Rattle.laws.proofs.Bytes.{same-is}
 use Rattle.laws.proofs.Checked.{accepted-same, after-required}
 use Rattle.laws.proofs.Every.{every-member, every-passed}
-use Rattle.laws.proofs.Members.{_∈_, any-member, filter-member, map-member, member-any, member-filter, member-map}
+use Rattle.laws.proofs.Members.{_∈_, any-member, filter-member, member-any, member-filter, member-map}
+use Rattle.laws.proofs.MergedRefSound.{longest-in}
 use Rattle.demands.specs.Inserted.{unnumbered}
-use Rattle.demands.proofs.ExtendedAlleles.{Extends, block-is}
-
-longest-in : (l : List (List ℕ)) → (longest l ≡ []) ⊎ (longest l ∈ l)
-unfolding longest
-longest-in [] = inl refl
-longest-in (x ∷ l) = go (ltb (length (longest l)) (length x)) (longest-in l)
-  where
-    go : (b : Bool) → (longest l ≡ []) ⊎ (longest l ∈ l) → (cond b x (longest l) ≡ []) ⊎ (cond b x (longest l) ∈ x ∷ l)
-    go true r = inr (List·Memᴰ·head refl)
-    go false (inl e) = inl e
-    go false (inr m) = inr (List·Memᴰ·tail m)
+use Rattle.demands.proofs.ExtendedAlleles.{Extends}
 
 first-ref : (l : List Site) {s : Site} → s ∈ l → ((t : Site) → t ∈ l → length (siteRef t) ≡ 1)
     → length (take 1 (firstRef l)) ≡ 1
@@ -55,7 +46,7 @@ module _ (reference : Option (List ReferenceSegment)) (choose : LetterChoice) (g
   unfolding isPrefix refs
   starts-prefix s m h =
       let w = shared (member-any _ _ m h) in
-      let e : siteRef s ≡ take (length (siteRef s)) (longest refs) = same-is _ _ (every-member (map-member _ _ (filter-member _ _ m h)) (every-passed _ _ (w .0))) in (
+      let e : siteRef s ≡ take (length (siteRef s)) (longest refs) = same-is _ _ (every-member (Memᴰ·map _ (filter-member _ _ m h)) (every-passed _ _ (w .0))) in (
         drop (length (siteRef s)) (longest refs),
         sym (w .1) ∙ sym (take-append-drop (length (siteRef s)) (longest refs)) ∙ ap (λ (x : List ℕ). x ++ drop (length (siteRef s)) (longest refs)) (sym e),
       )
