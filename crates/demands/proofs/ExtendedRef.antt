@@ -1,4 +1,4 @@
--- REF of a record: what starts there is a prefix of it, and it is extended as samples are put in.
+-- REF of a record (`mergedRef` of definitions): what starts there is a prefix of it, and it is extended as samples are put in.
 use Prim.Native.Nat.{_≤_, ℕ}
 use lib.Dec.{ltb}
 use lib.ListN.{drop, length, length-append, length-take, take, take-append-drop}
@@ -39,25 +39,29 @@ unfolding firstRef
 first-ref [] m h = absurd (List·Memᴰ·not-nil m)
 first-ref (x ∷ l) m h = length-take 1 (siteRef x) ∙ omega (arith, h x (List·Memᴰ·head refl))
 
-module _ (reference : Option (List ReferenceSegment)) (choose : LetterChoice) (g : List ℕ) (q : ℕ) (covering : List Site) (ref : List ℕ)
-    (made : mergedRef reference choose g q covering ≡ accepted ref) where
+module _ (reference : Option (List ReferenceSegment)) (choose : LetterChoice) (g : List ℕ) (q : ℕ) (covering : List Site)
+    (ref : List ℕ) (made : mergedRef reference choose g q covering ≡ accepted ref) where
+  -- the REFs of the sites that start there
   refs : List (List ℕ)
   refs = map siteRef (filterBy (startsAt q) covering)
 
   shared : anyOf (startsAt q) covering ≡ true → (allOf (λ r. isPrefix r (longest refs)) refs ≡ true) × (longest refs ≡ ref)
   unfolding mergedRef sharedRef refs
   shared e =
-      let h : sharedRef refs ≡ accepted ref = ap (λ (b : Bool). cond b (sharedRef refs) (refLetter reference choose g q covering)) (sym e) ∙ made in
+      let h : sharedRef refs ≡ accepted ref =
+      ap (λ (b : Bool). cond b (sharedRef refs) (refLetter reference choose g q covering)) (sym e) ∙ made in
       after-required _ _ _ h λ t k. (t, accepted-same k)
 
   -- the REF of a site that starts there is a prefix
   pub starts-prefix : (s : Site) → s ∈ covering → startsAt q s ≡ true → (u : List ℕ) × (ref ≡ siteRef s ++ u)
   unfolding isPrefix refs
   starts-prefix s m h =
-      let w = shared (member-any _ _ m h) in
-      let e : siteRef s ≡ take (length (siteRef s)) (longest refs) = same-is _ _ (every-member (map-member _ _ (filter-member _ _ m h)) (every-passed _ _ (w .0))) in (
-        drop (length (siteRef s)) (longest refs),
-        sym (w .1) ∙ sym (take-append-drop (length (siteRef s)) (longest refs)) ∙ ap (λ (x : List ℕ). x ++ drop (length (siteRef s)) (longest refs)) (sym e),
+      let (prefixes, is) = shared (member-any _ _ m h) in
+      let n = length (siteRef s) in
+      let among : siteRef s ∈ refs = map-member _ _ (filter-member _ _ m h) in
+      let e : siteRef s ≡ take n (longest refs) = same-is _ _ (every-member among (every-passed _ _ prefixes)) in (
+        drop n (longest refs),
+        sym is ∙ sym (take-append-drop n (longest refs)) ∙ ap (λ (x : List ℕ). x ++ drop n (longest refs)) (sym e),
       )
 
   -- where a site starts, REF is the REF of one, or empty
@@ -96,7 +100,10 @@ module _ (reference : Option (List ReferenceSegment)) (choose : LetterChoice) (g
 
       go : (b : Bool) → anyOf (startsAt q) covering ≡ b → length ref ≡ 1
       go true e = started e (ref-among e)
-      go false e = letter reference (ap (λ (b : Bool). cond b (sharedRef (map siteRef (filterBy (startsAt q) covering))) (refLetter reference choose g q covering)) (sym e) ∙ made)
+      go false e =
+          let starting = map siteRef (filterBy (startsAt q) covering) in
+          letter reference
+          (ap (λ (b : Bool). cond b (sharedRef starting) (refLetter reference choose g q covering)) (sym e) ∙ made)
 
 -- REF is extended: what starts there in the old record starts in the new one too
 module _ (reference1 reference2 : Option (List ReferenceSegment)) (choose1 choose2 : LetterChoice) (g : List ℕ) (q : ℕ)
@@ -107,7 +114,8 @@ module _ (reference1 reference2 : Option (List ReferenceSegment)) (choose1 choos
   unfolding unnumbered startsAt siteRef
   prefix-extends s m h = go (ref-among reference1 choose1 g q covering1 ref1 made1 (member-any _ _ m h))
     where
-      go : (ref1 ≡ []) ⊎ ((t : Site) × (t ∈ covering1) × (startsAt q t ≡ true) × (ref1 ≡ siteRef t)) → (u : List ℕ) × (ref2 ≡ ref1 ++ u)
+      go : (ref1 ≡ []) ⊎ ((t : Site) × (t ∈ covering1) × (startsAt q t ≡ true) × (ref1 ≡ siteRef t))
+          → (u : List ℕ) × (ref2 ≡ ref1 ++ u)
       go (inl z) = (ref2, ap (λ (x : List ℕ). x ++ ref2) (sym z))
       go (inr w) =
           let t = there (w .0) (w .1) in
@@ -117,7 +125,9 @@ module _ (reference1 reference2 : Option (List ReferenceSegment)) (choose1 choos
   pub extends : (s : Site) → s ∈ covering1 → startsAt q s ≡ true → Extends (siteRef s) ref1 ref2
   unfolding Extends
   extends s m h =
-      let w = starts-prefix reference1 choose1 g q covering1 ref1 made1 s m h in
-      let v = prefix-extends s m h in
-      let l : length (siteRef s) ≤ length ref1 = omega (arith, ap length (w .1), length-append (siteRef s) (w .0)) in
-      ap (drop (length (siteRef s))) (v .1) ∙ drop-append-le (length (siteRef s)) ref1 (v .0) l ∙ ap (λ (x : List ℕ). drop (length (siteRef s)) ref1 ++ x) (sym (ap (drop (length ref1)) (v .1) ∙ drop-append-seam ref1 (v .0)))
+      let (t, e1) = starts-prefix reference1 choose1 g q covering1 ref1 made1 s m h in
+      let (u, e2) = prefix-extends s m h in
+      let n = length (siteRef s) in
+      let l : n ≤ length ref1 = omega (arith, ap length e1, length-append (siteRef s) t) in
+      let past : drop (length ref1) ref2 ≡ u = ap (drop (length ref1)) e2 ∙ drop-append-seam ref1 u in
+      ap (drop n) e2 ∙ drop-append-le n ref1 u l ∙ ap (λ (x : List ℕ). drop n ref1 ++ x) (sym past)
