@@ -1,4 +1,4 @@
--- Demand 3 for two calls that are given by their texts, from premises that are found by computing. The cohorts are in WorkedCohorts.
+-- Demand 3 for two calls that are given by their texts, from premises that are found by computing. WorkedCohorts applies it.
 use Prim.Native.Nat.{ℕ}
 use Prim.Native.String.{String}
 use lib.Dec.{T}

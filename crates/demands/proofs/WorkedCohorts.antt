@@ -1,4 +1,5 @@
--- Demand 3 at work, by computation: cohorts in which REF grows, a block is cut, samples are put in on both sides, values are missing.
+-- Demand 3 at work, by computation: cohorts in which REF grows, a block is cut, samples are put in on all sides, values are
+-- missing.
 use Prim.Native.Nat.{ℕ}
 use Prim.Native.String.{String}
 use lib.ListN.{length}
