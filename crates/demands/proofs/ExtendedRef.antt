@@ -53,7 +53,7 @@ module _ (reference : Option (List ReferenceSegment)) (choose : LetterChoice) (g
       after-required _ _ _ h λ t k. (t, accepted-same k)
 
   -- the REF of a site that starts there is a prefix
-  pub starts-prefix : (s : Site) → s ∈ covering → startsAt q s ≡ true → (u : List ℕ) × (ref ≡ siteRef s ++ u)
+  starts-prefix : (s : Site) → s ∈ covering → startsAt q s ≡ true → (u : List ℕ) × (ref ≡ siteRef s ++ u)
   unfolding isPrefix refs
   starts-prefix s m h =
       let (prefixes, is) = shared (member-any _ _ m h) in
@@ -65,7 +65,7 @@ module _ (reference : Option (List ReferenceSegment)) (choose : LetterChoice) (g
       )
 
   -- where a site starts, REF is the REF of one, or empty
-  pub ref-among : anyOf (startsAt q) covering ≡ true
+  ref-among : anyOf (startsAt q) covering ≡ true
       → (ref ≡ []) ⊎ ((s : Site) × (s ∈ covering) × (startsAt q s ≡ true) × (ref ≡ siteRef s))
   unfolding refs
   ref-among e = go (longest-in refs)
@@ -110,7 +110,7 @@ module _ (reference1 reference2 : Option (List ReferenceSegment)) (choose1 choos
     (covering1 covering2 : List Site) (ref1 ref2 : List ℕ) (made1 : mergedRef reference1 choose1 g q covering1 ≡ accepted ref1)
     (made2 : mergedRef reference2 choose2 g q covering2 ≡ accepted ref2)
     (there : (s : Site) → s ∈ covering1 → (t : Site) × (t ∈ covering2) × (unnumbered s ≡ unnumbered t)) where
-  pub prefix-extends : (s : Site) → s ∈ covering1 → startsAt q s ≡ true → (u : List ℕ) × (ref2 ≡ ref1 ++ u)
+  prefix-extends : (s : Site) → s ∈ covering1 → startsAt q s ≡ true → (u : List ℕ) × (ref2 ≡ ref1 ++ u)
   unfolding unnumbered startsAt siteRef
   prefix-extends s m h = go (ref-among reference1 choose1 g q covering1 ref1 made1 (member-any _ _ m h))
     where

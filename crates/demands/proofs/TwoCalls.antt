@@ -3,7 +3,7 @@ use Prim.Native.Nat.{ℕ}
 use Prim.Native.String.{String}
 use lib.Dec.{T}
 use mathlib.Core.Bool.{Bool, false, true}
-use mathlib.Core.List.{List, [], _++_, _∷_, map, reverse}
+use mathlib.Core.List.{List, [], _++_, map, reverse}
 use mathlib.Core.Option.{Option, Option·getD, none}
 use mathlib.Core.Path.{_∙_, _≡_, ap, refl, subst₂, sym}
 use Rattle.definitions.specs.Alleles.{allelesOf, writtenAlleles}
@@ -156,5 +156,6 @@ worked k t1 t2 ins e1 e2 = record { old-list = e1; new-list = e2; again = said-a
 
 -- every definition opened by one name that the premises of `worked` are computed by
 unfoldable pub computed : TwoCalls → TwoCalls
-unfolding evaluated isOneOf named unnumbered valueOr firstLetter segmentsOf firstChoice lastChoice oldList newList recordsIn isAccepted InsertedIn
+unfolding evaluated isOneOf named unnumbered valueOr firstLetter segmentsOf
+    firstChoice lastChoice oldList newList recordsIn isAccepted InsertedIn
 computed k = k

@@ -49,8 +49,8 @@ ref-grows : Worked refGrows "10-10:A,G,<NON_REF>" "10-10:AT,GT,A,<NON_REF> 11-11
 unfolding computed
 ref-grows = worked refGrows tt tt (record { names = refl; sites = refl }) refl refl
 
--- ---- a block of an old sample is cut by the new sample's site, in a clip that itself cuts the block. Each position has two letters
--- in the reference, and the two calls choose differently: REF is C in the first list and T in the second.
+-- ---- a block of an old sample is cut by the new sample's site, in a clip that itself cuts the block. Each position has two
+-- letters in the reference, and the two calls choose differently: REF is C in the first list and T in the second.
 
 abbrev blockCut : TwoCalls
 blockCut = record {
