@@ -86,6 +86,7 @@ readIn = valueOr (record { names = []; records = [] })
 unfoldable pub recordsIn : Checked (List ℕ) → List Record
 recordsIn list = readIn (list >>= listRead) .records
 
+-- an accepted call has read its cohort
 cohort-read : (t : Texts) (scratchLength outLength : ℕ) (choose : LetterChoice) (list : List ℕ)
     → combinedList t scratchLength outLength choose ≡ accepted list → cohortOf (t .cohort) ≡ accepted (cohortIn (t .cohort))
 unfolding cohortIn valueOr
@@ -93,6 +94,7 @@ cohort-read t scratchLength outLength choose list ok =
     let e = list-read-back t scratchLength outLength choose list ok .from .cohort-read in
     rw e
 
+-- and its list reads back as these records
 records-read : (m : Checked (List ℕ)) (list : List ℕ) (w : WrittenList) → m ≡ accepted list → listRead list ≡ accepted w
     → w .records ≡ recordsIn m
 unfolding recordsIn valueOr _>>=_
