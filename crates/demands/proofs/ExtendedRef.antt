@@ -1,4 +1,4 @@
--- REF of a record: what starts there is a prefix of it, and it is extended as samples are put in.
+-- REF of a record (`mergedRef` of definitions): what starts there is a prefix of it, and it is extended as samples are put in.
 use Prim.Native.Nat.{_≤_, ℕ}
 use lib.ListN.{drop, length, length-append, length-take, take, take-append-drop}
 use lib.Seq.{drop-append-le, drop-append-seam}
@@ -22,48 +22,67 @@ use Rattle.laws.proofs.Every.{every-member, every-passed}
 use Rattle.laws.proofs.Members.{_∈_, any-member, filter-member, member-any, member-filter, member-map}
 use Rattle.laws.proofs.MergedRefSound.{longest-in}
 use Rattle.demands.specs.Inserted.{unnumbered}
-use Rattle.demands.proofs.ExtendedAlleles.{Extends}
+use Rattle.demands.proofs.ExtendedAlleles.{Extends, block-is}
 
+-- the longest of several texts is one of them, or all are empty
+longest-in : (l : List (List ℕ)) → (longest l ≡ []) ⊎ (longest l ∈ l)
+unfolding longest
+longest-in [] = inl refl
+longest-in (x ∷ l) = go (ltb (length (longest l)) (length x)) (longest-in l)
+  where
+    go : (b : Bool) → (longest l ≡ []) ⊎ (longest l ∈ l) → (cond b x (longest l) ≡ []) ⊎ (cond b x (longest l) ∈ x ∷ l)
+    go true r = inr (List·Memᴰ·head refl)
+    go false (inl e) = inl e
+    go false (inr m) = inr (List·Memᴰ·tail m)
+
+-- where each REF has one letter, so has the first
 first-ref : (l : List Site) {s : Site} → s ∈ l → ((t : Site) → t ∈ l → length (siteRef t) ≡ 1)
     → length (take 1 (firstRef l)) ≡ 1
 unfolding firstRef
 first-ref [] m h = absurd (List·Memᴰ·not-nil m)
 first-ref (x ∷ l) m h = length-take 1 (siteRef x) ∙ omega (arith, h x (List·Memᴰ·head refl))
 
-module _ (reference : Option (List ReferenceSegment)) (choose : LetterChoice) (g : List ℕ) (q : ℕ) (covering : List Site) (ref : List ℕ)
-    (made : mergedRef reference choose g q covering ≡ accepted ref) where
+-- REF is empty, or the REF of a covering site that starts there
+abbrev RefAmong : ℕ → List Site → List ℕ → Type 0
+RefAmong q covering ref = (ref ≡ []) ⊎ ((s : Site) × (s ∈ covering) × (startsAt q s ≡ true) × (ref ≡ siteRef s))
+
+-- REF of a record at a position.
+module _ (reference : Option (List ReferenceSegment)) (choose : LetterChoice) (g : List ℕ) (q : ℕ) (covering : List Site)
+    (ref : List ℕ) (made : mergedRef reference choose g q covering ≡ accepted ref) where
+  -- the REFs of the sites that start there
   refs : List (List ℕ)
   refs = map siteRef (filterBy (startsAt q) covering)
 
+  -- where a site starts, REF is the longest of these, and each is its prefix
   shared : anyOf (startsAt q) covering ≡ true → (allOf (λ r. isPrefix r (longest refs)) refs ≡ true) × (longest refs ≡ ref)
   unfolding mergedRef sharedRef refs
   shared e =
-      let h : sharedRef refs ≡ accepted ref = ap (λ (b : Bool). cond b (sharedRef refs) (refLetter reference choose g q covering)) (sym e) ∙ made in
+      let h : sharedRef refs ≡ accepted ref =
+      ap (λ (b : Bool). cond b (sharedRef refs) (refLetter reference choose g q covering)) (sym e) ∙ made in
       after-required _ _ _ h λ t k. (t, accepted-same k)
 
   -- the REF of a site that starts there is a prefix
-  pub starts-prefix : (s : Site) → s ∈ covering → startsAt q s ≡ true → (u : List ℕ) × (ref ≡ siteRef s ++ u)
+  starts-prefix : (s : Site) → s ∈ covering → startsAt q s ≡ true → (u : List ℕ) × (ref ≡ siteRef s ++ u)
   unfolding isPrefix refs
   starts-prefix s m h =
-      let w = shared (member-any _ _ m h) in
-      let e : siteRef s ≡ take (length (siteRef s)) (longest refs) = same-is _ _ (every-member (Memᴰ·map _ (filter-member _ _ m h)) (every-passed _ _ (w .0))) in (
-        drop (length (siteRef s)) (longest refs),
-        sym (w .1) ∙ sym (take-append-drop (length (siteRef s)) (longest refs)) ∙ ap (λ (x : List ℕ). x ++ drop (length (siteRef s)) (longest refs)) (sym e),
+      let (prefixes, is) = shared (member-any _ _ m h) in
+      let n = length (siteRef s) in
+      let among : siteRef s ∈ refs = map-member _ _ (filter-member _ _ m h) in
+      let e : siteRef s ≡ take n (longest refs) = same-is _ _ (every-member among (every-passed _ _ prefixes)) in (
+        drop n (longest refs),
+        sym is ∙ sym (take-append-drop n (longest refs)) ∙ ap (λ (x : List ℕ). x ++ drop n (longest refs)) (sym e),
       )
 
-  -- where a site starts, REF is the REF of one, or empty
-  pub ref-among : anyOf (startsAt q) covering ≡ true
-      → (ref ≡ []) ⊎ ((s : Site) × (s ∈ covering) × (startsAt q s ≡ true) × (ref ≡ siteRef s))
+  ref-among : anyOf (startsAt q) covering ≡ true → RefAmong q covering ref
   unfolding refs
   ref-among e = go (longest-in refs)
     where
-      go : (longest refs ≡ []) ⊎ (longest refs ∈ refs)
-          → (ref ≡ []) ⊎ ((s : Site) × (s ∈ covering) × (startsAt q s ≡ true) × (ref ≡ siteRef s))
+      go : (longest refs ≡ []) ⊎ (longest refs ∈ refs) → RefAmong q covering ref
       go (inl z) = inl (sym (shared e .1) ∙ z)
       go (inr m) =
-          let w = member-map _ _ m in
-          let v = member-filter _ _ (w .1) in
-          inr (w .0, v .0, v .1, sym (shared e .1) ∙ w .2)
+          let (s, among, is) = member-map _ _ m in
+          let (n, starts) = member-filter _ _ among in
+          inr (s, n, starts, sym (shared e .1) ∙ is)
 
   -- blocks alone have a one-letter REF
   pub one-letter : (s : Site) → s ∈ covering → ((t : Site) → t ∈ covering → isBlock (t .alleles) ≡ true) → length ref ≡ 1
@@ -73,13 +92,12 @@ module _ (reference : Option (List ReferenceSegment)) (choose : LetterChoice) (g
       block-ref : (t : Site) → t ∈ covering → length (siteRef t) ≡ 1
       block-ref t n = block-is _ (blocks t n) .1
 
-      started : anyOf (startsAt q) covering ≡ true
-          → (ref ≡ []) ⊎ ((t : Site) × (t ∈ covering) × (startsAt q t ≡ true) × (ref ≡ siteRef t)) → length ref ≡ 1
+      started : anyOf (startsAt q) covering ≡ true → RefAmong q covering ref → length ref ≡ 1
       started e (inl z) =
-          let w = any-member _ _ e in
-          let v = starts-prefix (w .0) (w .1) (w .2) in
-          absurd (omega (arith, block-ref (w .0) (w .1), length-append (siteRef (w .0)) (v .0), ap length (v .1), ap length z))
-      started e (inr w) = ap length (w .3) ∙ block-ref (w .0) (w .1)
+          let (t, n, starts) = any-member _ _ e in
+          let (u, is) = starts-prefix t n starts in
+          absurd (omega (arith, block-ref t n, length-append (siteRef t) u, ap length is, ap length z))
+      started e (inr (t, n, starts, is)) = ap length is ∙ block-ref t n
 
       letter : (o : Option (List ReferenceSegment)) → refLetter o choose g q covering ≡ accepted ref → length ref ≡ 1
       letter none h = sym (ap length (accepted-same h)) ∙ first-ref covering m block-ref
@@ -87,28 +105,34 @@ module _ (reference : Option (List ReferenceSegment)) (choose : LetterChoice) (g
 
       go : (b : Bool) → anyOf (startsAt q) covering ≡ b → length ref ≡ 1
       go true e = started e (ref-among e)
-      go false e = letter reference (ap (λ (b : Bool). cond b (sharedRef (map siteRef (filterBy (startsAt q) covering))) (refLetter reference choose g q covering)) (sym e) ∙ made)
+      go false e =
+          let starting = map siteRef (filterBy (startsAt q) covering) in
+          letter reference
+          (ap (λ (b : Bool). cond b (sharedRef starting) (refLetter reference choose g q covering)) (sym e) ∙ made)
 
--- REF is extended: what starts there in the old record starts in the new one too
+-- REF of an old and of a new record at one position: what starts there in the old one starts in the new one, so REF is extended.
 module _ (reference1 reference2 : Option (List ReferenceSegment)) (choose1 choose2 : LetterChoice) (g : List ℕ) (q : ℕ)
     (covering1 covering2 : List Site) (ref1 ref2 : List ℕ) (made1 : mergedRef reference1 choose1 g q covering1 ≡ accepted ref1)
     (made2 : mergedRef reference2 choose2 g q covering2 ≡ accepted ref2)
     (there : (s : Site) → s ∈ covering1 → (t : Site) × (t ∈ covering2) × (unnumbered s ≡ unnumbered t)) where
-  pub prefix-extends : (s : Site) → s ∈ covering1 → startsAt q s ≡ true → (u : List ℕ) × (ref2 ≡ ref1 ++ u)
+  prefix-extends : (s : Site) → s ∈ covering1 → startsAt q s ≡ true → (u : List ℕ) × (ref2 ≡ ref1 ++ u)
   unfolding unnumbered startsAt siteRef
   prefix-extends s m h = go (ref-among reference1 choose1 g q covering1 ref1 made1 (member-any _ _ m h))
     where
-      go : (ref1 ≡ []) ⊎ ((t : Site) × (t ∈ covering1) × (startsAt q t ≡ true) × (ref1 ≡ siteRef t)) → (u : List ℕ) × (ref2 ≡ ref1 ++ u)
+      go : RefAmong q covering1 ref1 → (u : List ℕ) × (ref2 ≡ ref1 ++ u)
       go (inl z) = (ref2, ap (λ (x : List ℕ). x ++ ref2) (sym z))
-      go (inr w) =
-          let t = there (w .0) (w .1) in
-          let v = starts-prefix reference2 choose2 g q covering2 ref2 made2 (t .0) (t .1) (sym (ap (startsAt q) (t .2)) ∙ w .2) in
-          (v .0, v .1 ∙ ap (λ (x : List ℕ). x ++ v .0) (sym (ap siteRef (t .2)) ∙ sym (w .3)))
+      go (inr (s′, n, starts, is)) =
+          let (t, n′, e) = there s′ n in
+          let (u, is′) = starts-prefix reference2 choose2 g q covering2 ref2 made2 t n′ (sym (ap (startsAt q) e) ∙ starts) in
+          (u, is′ ∙ ap (λ (x : List ℕ). x ++ u) (sym (ap siteRef e) ∙ sym is))
 
+  -- what the new REF has behind a site's own REF, by the old REF
   pub extends : (s : Site) → s ∈ covering1 → startsAt q s ≡ true → Extends (siteRef s) ref1 ref2
   unfolding Extends
   extends s m h =
-      let w = starts-prefix reference1 choose1 g q covering1 ref1 made1 s m h in
-      let v = prefix-extends s m h in
-      let l : length (siteRef s) ≤ length ref1 = omega (arith, ap length (w .1), length-append (siteRef s) (w .0)) in
-      ap (drop (length (siteRef s))) (v .1) ∙ drop-append-le (length (siteRef s)) ref1 (v .0) l ∙ ap (λ (x : List ℕ). drop (length (siteRef s)) ref1 ++ x) (sym (ap (drop (length ref1)) (v .1) ∙ drop-append-seam ref1 (v .0)))
+      let (t, e1) = starts-prefix reference1 choose1 g q covering1 ref1 made1 s m h in
+      let (u, e2) = prefix-extends s m h in
+      let n = length (siteRef s) in
+      let l : n ≤ length ref1 = omega (arith, ap length e1, length-append (siteRef s) t) in
+      let past : drop (length ref1) ref2 ≡ u = ap (drop (length ref1)) e2 ∙ drop-append-seam ref1 u in
+      ap (drop n) e2 ∙ drop-append-le n ref1 u l ∙ ap (λ (x : List ℕ). drop n ref1 ++ x) (sym past)

@@ -1,0 +1,163 @@
+-- Demand 3 for two calls that are given by their texts, from premises that are found by computing. WorkedCohorts applies it.
+use Prim.Native.Nat.{ℕ}
+use Prim.Native.String.{String}
+use lib.Dec.{T}
+use mathlib.Core.Bool.{Bool, false, true}
+use mathlib.Core.List.{List, [], _++_, map, reverse}
+use mathlib.Core.Option.{Option, Option·getD, none}
+use mathlib.Core.Path.{_∙_, _≡_, ap, refl, subst₂, sym}
+use Rattle.definitions.specs.Alleles.{allelesOf, writtenAlleles}
+use Rattle.definitions.specs.Bytes.{joinedBy, text}
+use Rattle.definitions.specs.Checked.{Checked, _>>=_, accepted, refused}
+use Rattle.definitions.specs.ClipAndReference.{ChoiceFrom, LetterChoice, ReferenceSegment, optionalGroups, segmentHolds, segmentOf}
+use Rattle.definitions.specs.Cohort.{Cohort, cohortOf}
+use Rattle.definitions.specs.CombinedList.{ChoiceFor, Texts, combinedList}
+use Rattle.definitions.specs.ListReader.{WrittenList, listRead}
+use Rattle.definitions.specs.Lists.{anyOf}
+use Rattle.definitions.specs.Numbers.{decimal}
+use Rattle.definitions.specs.Records.{Record, recordEnd}
+use Rattle.definitions.proofs.Evaluated.{evaluated}
+use Rattle.laws.proofs.CombinedListReadBack.{list-read-back}
+use Rattle.laws.proofs.Members.{any-member, member-any, member-reverse, reverse-member}
+use Rattle.laws.proofs.ReferenceLetter.{first-letter, firstLetter}
+use Rattle.laws.proofs.Tests.{so}
+use Rattle.demands.specs.Inserted.{Inserted, isOneOf, named, unnumbered}
+use Rattle.demands.specs.Preserved.{Preserved}
+use Rattle.demands.proofs.Demand3.{demand3}
+use Rattle.demands.proofs.ListAtPosition.{valueOr}
+
+-- two cohorts, and the clip and the reference that both calls are given
+pub record TwoCalls : Type 0 where
+  pub old : List ℕ
+  pub new : List ℕ
+  pub clip : Option (List ℕ)
+  pub reference : Option (List ℕ)
+
+abbrev oldTexts : TwoCalls → Texts
+oldTexts k = record { cohort = k .old; clip = k .clip; reference = k .reference }
+
+abbrev newTexts : TwoCalls → Texts
+newTexts k = record { cohort = k .new; clip = k .clip; reference = k .reference }
+
+-- ---- two choices of letters: of the first segment in the file that holds the position, and of the last
+
+unfoldable pub segmentsOf : Texts → List ReferenceSegment
+segmentsOf t = Option·getD (valueOr none (optionalGroups segmentOf (t .reference))) []
+
+unfoldable pub firstChoice : Texts → LetterChoice
+firstChoice t = firstLetter (segmentsOf t)
+
+unfoldable pub lastChoice : Texts → LetterChoice
+lastChoice t = firstLetter (reverse (segmentsOf t))
+
+first-choice : (t : Texts) → ChoiceFor t (firstChoice t)
+unfolding ChoiceFor firstChoice segmentsOf valueOr
+first-choice t reference e = rw e (first-letter reference)
+
+last-letter : (reference : List ReferenceSegment) → ChoiceFrom reference (firstLetter (reverse reference))
+unfolding ChoiceFrom
+last-letter reference contig position h =
+    let (g, m, holds) = any-member _ _ (so _ h) in
+    let held : anyOf (segmentHolds contig position) (reverse reference) ≡ true =
+    member-any _ _ (member-reverse reference m) holds in
+    let (last, m′, holds′, is) = first-letter (reverse reference) contig position (rw held tt) in
+    (last, reverse-member reference m′, holds′, is)
+
+last-choice : (t : Texts) → ChoiceFor t (lastChoice t)
+unfolding ChoiceFor lastChoice segmentsOf valueOr
+last-choice t reference e = rw e (last-letter reference)
+
+-- ---- what the calls give
+
+-- the first call chooses first letters, and the second last ones; each has its own scratch and output
+unfoldable pub oldList : TwoCalls → Checked (List ℕ)
+oldList k = combinedList (oldTexts k) 64 4096 (firstChoice (oldTexts k))
+
+unfoldable pub newList : TwoCalls → Checked (List ℕ)
+newList k = combinedList (newTexts k) 96 8192 (lastChoice (newTexts k))
+
+-- what a text says as a cohort, and a list as records
+unfoldable pub cohortIn : List ℕ → Cohort
+cohortIn s = valueOr (record { names = []; sites = [] }) (cohortOf s)
+
+abbrev readIn : Checked WrittenList → WrittenList
+readIn = valueOr (record { names = []; records = [] })
+
+unfoldable pub recordsIn : Checked (List ℕ) → List Record
+recordsIn list = readIn (list >>= listRead) .records
+
+-- an accepted call has read its cohort
+cohort-read : (t : Texts) (scratchLength outLength : ℕ) (choose : LetterChoice) (list : List ℕ)
+    → combinedList t scratchLength outLength choose ≡ accepted list → cohortOf (t .cohort) ≡ accepted (cohortIn (t .cohort))
+unfolding cohortIn valueOr
+cohort-read t scratchLength outLength choose list ok =
+    let e = list-read-back t scratchLength outLength choose list ok .from .cohort-read in
+    rw e
+
+-- and its list reads back as these records
+records-read : (m : Checked (List ℕ)) (list : List ℕ) (w : WrittenList) → m ≡ accepted list → listRead list ≡ accepted w
+    → w .records ≡ recordsIn m
+unfolding recordsIn valueOr _>>=_
+records-read m list w e f = sym (ap recordsIn e ∙ ap (λ (r : Checked WrittenList). readIn r .records) f)
+
+-- ---- demand 3 for them
+
+-- the call is accepted
+unfoldable pub isAccepted : Checked (List ℕ) → Bool
+isAccepted (refused n) = false
+isAccepted (accepted list) = true
+
+accepted-value : (m : Checked (List ℕ)) → T (isAccepted m) → m ≡ accepted (valueOr [] m)
+unfolding isAccepted valueOr
+accepted-value (refused n) t = absurd t
+accepted-value (accepted list) t = refl
+
+-- the second cohort is the first with samples put in
+unfoldable pub InsertedIn : Checked Cohort → Checked Cohort → Type 0
+InsertedIn (refused m) c = ⊥
+InsertedIn (accepted c1) (refused n) = ⊥
+InsertedIn (accepted c1) (accepted c2) = Inserted c1 c2
+
+-- the second list says again what the first says
+pub SaidAgain : TwoCalls → Type 0
+SaidAgain k = Preserved (cohortIn (k .old) .names) (recordsIn (oldList k)) (cohortIn (k .new) .names) (recordsIn (newList k))
+
+said-again : (k : TwoCalls) → T (isAccepted (oldList k)) → T (isAccepted (newList k))
+    → InsertedIn (cohortOf (k .old)) (cohortOf (k .new)) → SaidAgain k
+unfolding oldList newList SaidAgain InsertedIn
+said-again k t1 t2 ins =
+    let ok1 = accepted-value (oldList k) t1 in
+    let ok2 = accepted-value (newList k) t2 in
+    let read1 = cohort-read (oldTexts k) 64 4096 _ _ ok1 in
+    let read2 = cohort-read (newTexts k) 96 8192 _ _ ok2 in
+    let (records1, records2, back1, back2, preserved) =
+    demand3 (oldTexts k) (newTexts k) (cohortIn (k .old)) (cohortIn (k .new)) 64 96 4096 8192
+    (firstChoice (oldTexts k)) (lastChoice (newTexts k)) (valueOr [] (oldList k)) (valueOr [] (newList k))
+    refl read1 read2 (subst₂ InsertedIn read1 read2 ins) (first-choice (oldTexts k)) (last-choice (newTexts k)) ok1 ok2 in
+    rw (← records-read _ _ _ ok1 back1, ← records-read _ _ _ ok2 back2) preserved
+
+-- ---- what is shown of two calls
+
+-- a record as `POS-END:REF,ALT`, and records with spaces between
+abbrev pub shortly : Record → List ℕ
+shortly r = decimal (r .pos) ++ text "-" ++ decimal (recordEnd r) ++ text ":" ++ writtenAlleles (allelesOf (r .alleles))
+
+abbrev pub outline : List Record → List ℕ
+outline rs = joinedBy 32 (map shortly rs)
+
+-- the records of the two lists, and that the second says again what the first says
+pub record Worked (k : TwoCalls) (old new : String) : Type 0 where
+  pub old-list : outline (recordsIn (oldList k)) ≡ text old
+  pub new-list : outline (recordsIn (newList k)) ≡ text new
+  pub again : SaidAgain k
+
+pub worked : (k : TwoCalls) {old new : String} → T (isAccepted (oldList k)) → T (isAccepted (newList k))
+    → InsertedIn (cohortOf (k .old)) (cohortOf (k .new))
+    → outline (recordsIn (oldList k)) ≡ text old → outline (recordsIn (newList k)) ≡ text new → Worked k old new
+worked k t1 t2 ins e1 e2 = record { old-list = e1; new-list = e2; again = said-again k t1 t2 ins }
+
+-- every definition opened by one name that the premises of `worked` are computed by
+unfoldable pub computed : TwoCalls → TwoCalls
+unfolding evaluated isOneOf named unnumbered valueOr firstLetter segmentsOf
+    firstChoice lastChoice oldList newList recordsIn isAccepted InsertedIn
+computed k = k
