@@ -22,18 +22,7 @@ use Rattle.laws.proofs.Every.{every-member, every-passed}
 use Rattle.laws.proofs.Members.{_∈_, any-member, filter-member, member-any, member-filter, member-map}
 use Rattle.laws.proofs.MergedRefSound.{longest-in}
 use Rattle.demands.specs.Inserted.{unnumbered}
-use Rattle.demands.proofs.ExtendedAlleles.{Extends, block-is}
-
--- the longest of several texts is one of them, or all are empty
-longest-in : (l : List (List ℕ)) → (longest l ≡ []) ⊎ (longest l ∈ l)
-unfolding longest
-longest-in [] = inl refl
-longest-in (x ∷ l) = go (ltb (length (longest l)) (length x)) (longest-in l)
-  where
-    go : (b : Bool) → (longest l ≡ []) ⊎ (longest l ∈ l) → (cond b x (longest l) ≡ []) ⊎ (cond b x (longest l) ∈ x ∷ l)
-    go true r = inr (List·Memᴰ·head refl)
-    go false (inl e) = inl e
-    go false (inr m) = inr (List·Memᴰ·tail m)
+use Rattle.demands.proofs.ExtendedAlleles.{Extends}
 
 -- where each REF has one letter, so has the first
 first-ref : (l : List Site) {s : Site} → s ∈ l → ((t : Site) → t ∈ l → length (siteRef t) ≡ 1)
@@ -67,7 +56,7 @@ module _ (reference : Option (List ReferenceSegment)) (choose : LetterChoice) (g
   starts-prefix s m h =
       let (prefixes, is) = shared (member-any _ _ m h) in
       let n = length (siteRef s) in
-      let among : siteRef s ∈ refs = map-member _ _ (filter-member _ _ m h) in
+      let among : siteRef s ∈ refs = Memᴰ·map _ (filter-member _ _ m h) in
       let e : siteRef s ≡ take n (longest refs) = same-is _ _ (every-member among (every-passed _ _ prefixes)) in (
         drop n (longest refs),
         sym is ∙ sym (take-append-drop n (longest refs)) ∙ ap (λ (x : List ℕ). x ++ drop n (longest refs)) (sym e),

@@ -17,6 +17,7 @@ use Rattle.definitions.specs.Lists.{anyOf}
 use Rattle.definitions.specs.Numbers.{decimal}
 use Rattle.definitions.specs.Records.{Record, recordEnd}
 use Rattle.definitions.proofs.Evaluated.{evaluated}
+use Rattle.laws.proofs.Checked.{valueOr}
 use Rattle.laws.proofs.CombinedListReadBack.{list-read-back}
 use Rattle.laws.proofs.Members.{any-member, member-any, member-reverse, reverse-member}
 use Rattle.laws.proofs.ReferenceLetter.{first-letter, firstLetter}
@@ -24,7 +25,6 @@ use Rattle.laws.proofs.Tests.{so}
 use Rattle.demands.specs.Inserted.{Inserted, isOneOf, named, unnumbered}
 use Rattle.demands.specs.Preserved.{Preserved}
 use Rattle.demands.proofs.Demand3.{demand3}
-use Rattle.demands.proofs.ListAtPosition.{valueOr}
 
 -- two cohorts, and the clip and the reference that both calls are given
 pub record TwoCalls : Type 0 where
