@@ -1,0 +1,105 @@
+-- Bytes laid over a buffer: the laws for the proofs of the writers and of their callers. `sets d at bytes` of lib.Seq
+-- stores the bytes that fit; `Laid` is what a writer promises; `Left` is the invariant of a writer's loop.
+use Prim.Native.Nat.{_+_, _<_, _^_, _≤_, suc, ℕ}
+use lib.ListN.{drop, length, length-append}
+use lib.Seq.{length-sets, sets, sets-eq}
+use mathlib.Core.List.{List, [], _++_, _∷_}
+use mathlib.Core.Path.{_∙_, _≡_, ap, refl, sym}
+use native.Mathlib.Nat.{add-suc, add-zero, suc-add, zero-add}
+use native.Mathlib.Omega.{arith}
+use Rattle.kv_write.specs.Laid.{Laid}
+
+-- sets
+
+-- laying xs and then ys is laying both
+pub sets-append : (d : List ℕ) (at : ℕ) (xs ys : List ℕ) → sets d at (xs ++ ys) ≡ sets (sets d at xs) (at + length xs) ys
+sets-append d at [] ys = rw add-zero
+sets-append d at (x ∷ xs) ys = sets-append _ (suc at) xs ys ∙ rw (suc-add at (length xs), add-suc at (length xs))
+
+-- nothing fits in no room
+pub sets-nothing : (at : ℕ) (bytes : List ℕ) → sets [] at bytes ≡ []
+sets-nothing at [] = refl
+sets-nothing at (b ∷ bytes) = sets-nothing (suc at) bytes
+
+-- bytes that fit stand at the front, and the rest is as it was
+pub sets-front : (d bytes : List ℕ) → length bytes ≤ length d → sets d 0 bytes ≡ bytes ++ drop (length bytes) d
+sets-front d bytes h = sets-eq bytes d 0 (omega arith) ∙ rw zero-add
+
+-- Laid
+
+-- no bytes are laid
+pub laid-none : {d : List ℕ} {at : ℕ} → Laid d at [] d at
+laid-none {at = at} = record { next = sym (add-zero at); laid = refl }
+
+-- bytes are laid, and then bytes behind them
+pub laid-append : {d d′ d″ xs ys : List ℕ} {at at′ at″ : ℕ}
+    → Laid d at xs d′ at′ → Laid d′ at′ ys d″ at″ → Laid d at (xs ++ ys) d″ at″
+laid-append {d = d} {xs = xs} {ys = ys} {at = at} p q =
+    record {
+      next = omega (arith, p .next, q .next, length-append xs ys);
+      laid = q .laid ∙ rw (p .laid, p .next) (sym (sets-append d at xs ys));
+    }
+
+-- the buffer keeps its length
+pub laid-length : {d d′ bytes : List ℕ} {at at′ : ℕ} → Laid d at bytes d′ at′ → length d′ ≡ length d
+laid-length {d} {d′} {bytes} {at} p = ap length (p .laid) ∙ length-sets d at bytes
+
+-- measuring on an empty part of d changes nothing: d is again the part that is handed back and what stands behind it
+pub measured : {part bytes : List ℕ} {at r : ℕ} → Laid [] at bytes part r → (d : List ℕ) → part ++ d ≡ d
+measured {part} {bytes} {at} p d = rw (p .laid, sets-nothing at bytes)
+
+-- what the call that lays xs requires, and the call that lays ys behind them
+pub fits-first : (at : ℕ) (xs ys : List ℕ) → at + length (xs ++ ys) < 2 ^ 64 → at + length xs < 2 ^ 64
+fits-first at xs ys h = omega (arith, length-append xs ys)
+
+pub fits-rest : {d d′ xs : List ℕ} {at at′ : ℕ} (ys : List ℕ)
+    → Laid d at xs d′ at′ → at + length (xs ++ ys) < 2 ^ 64 → at′ + length ys < 2 ^ 64
+fits-rest {xs = xs} ys p h = omega (arith, p .next, length-append xs ys)
+
+-- Left
+
+-- `all` was to be laid over d₀ from at₀ on, and laying the rest over d from `at` on comes to the same
+pub record Left (d₀ : List ℕ) (at₀ : ℕ) (all d : List ℕ) (at : ℕ) (rest : List ℕ) : Type 0 where
+  pub same : sets d at rest ≡ sets d₀ at₀ all
+  pub place : at + length rest ≡ at₀ + length all
+  pub fits : at + length rest < 2 ^ 64
+
+-- all is left
+pub start : {d : List ℕ} {at : ℕ} {all : List ℕ} → at + length all < 2 ^ 64 → Left d at all d at all
+start h = record { same = refl; place = refl; fits = h }
+
+module _ {d₀ : List ℕ} {at₀ : ℕ} {all d : List ℕ} {at : ℕ} where
+  -- what the call that lays the next bytes requires
+  pub room : (bytes rest : List ℕ) → Left d₀ at₀ all d at (bytes ++ rest) → at + length bytes < 2 ^ 64
+  room bytes rest l = fits-first at bytes rest (l .fits)
+
+  -- the next bytes are laid
+  pub several : {bytes rest d′ : List ℕ} {at′ : ℕ}
+      → Laid d at bytes d′ at′ → Left d₀ at₀ all d at (bytes ++ rest) → Left d₀ at₀ all d′ at′ rest
+  several {bytes} {rest} p l =
+      record {
+        same = rw (p .laid, p .next, ← sets-append d at bytes rest) (l .same);
+        place = omega (arith, p .next, l .place, length-append bytes rest);
+        fits = fits-rest rest p (l .fits);
+      }
+
+  -- the next byte is laid
+  pub one : {b : ℕ} {rest d′ : List ℕ} {at′ : ℕ}
+      → Laid d at (b ∷ []) d′ at′ → Left d₀ at₀ all d at (b ∷ rest) → Left d₀ at₀ all d′ at′ rest
+  one = several
+
+  -- the rest said another way
+  pub recast : {rest rest′ : List ℕ} → rest ≡ rest′ → Left d₀ at₀ all d at rest → Left d₀ at₀ all d at rest′
+  recast e l = rw (← e) l
+
+  -- nothing is left
+  pub done : Left d₀ at₀ all d at [] → Laid d₀ at₀ all d at
+  done l = record { next = sym (add-zero at) ∙ l .place; laid = l .same }
+
+  -- the last bytes are laid
+  pub last : {bytes d′ : List ℕ} {at′ : ℕ} → Laid d at bytes d′ at′ → Left d₀ at₀ all d at bytes → Laid d₀ at₀ all d′ at′
+  last p l = record { next = p .next ∙ l .place; laid = p .laid ∙ l .same }
+
+  -- the buffer keeps its length
+  pub left-length : {rest : List ℕ} → Left d₀ at₀ all d at rest → length d ≡ length d₀
+  left-length {rest} l = sym (length-sets d at rest) ∙ ap length (l .same) ∙ length-sets d₀ at₀ all
