@@ -151,13 +151,18 @@ fn read_counters(list: &str) -> Vec<Counter> {
             let (file, line) = place.split_once(".rs:").expect("file:line");
             let file = file.to_string();
             let line = line.parse().expect("a line number");
-            Counter { file, line, kind, text }
+            Counter {
+                file,
+                line,
+                kind,
+                text,
+            }
         })
         .collect()
 }
 
-/// Wraps each counted text of this file: `hit` counts that it is reached, `cond` counts true and
-/// false, `some` counts a value that is there and one that is not.
+/// Puts a call of crate::counters at each counted text of this file; counters.txt says what the
+/// kinds count.
 fn with_counters(name: &str, text: &str, counters: &[Counter]) -> String {
     let mut insertions: BTreeMap<(usize, usize), String> = BTreeMap::new();
     let lines: Vec<&str> = text.split('\n').collect();
@@ -165,16 +170,25 @@ fn with_counters(name: &str, text: &str, counters: &[Counter]) -> String {
         let line = lines[c.line - 1];
         let found: Vec<usize> = line.match_indices(&c.text).map(|(at, _)| at).collect();
         let &[at] = found.as_slice() else {
-            stop(&format!("counters.txt: `{}` is not once on {name}.rs:{}", c.text, c.line));
+            stop(&format!(
+                "counters.txt: `{}` is not once on {name}.rs:{}",
+                c.text, c.line
+            ));
         };
         let (before, after) = match c.kind.as_str() {
-            "hit" => (format!("{{ crate::counters::hit({number}); "), " }".to_string()),
+            "hit" => (
+                format!("{{ crate::counters::hit({number}); "),
+                " }".to_string(),
+            ),
             "cond" => (format!("crate::counters::cond({number}, "), ")".to_string()),
             "some" => (format!("crate::counters::some({number}, "), ")".to_string()),
+            "none" => (
+                format!(".or_else(|| {{ crate::counters::hit({number}); None }})"),
+                String::new(),
+            ),
             "start" => (format!("crate::counters::hit({number}); "), String::new()),
             other => stop(&format!("counters.txt: no kind {other}")),
         };
-        // Where two places begin or end together, the longer text is the outer one.
         let opened = insertions.entry((c.line, at)).or_default();
         *opened = format!("{opened}{before}");
         let closed = insertions.entry((c.line, at + c.text.len())).or_default();
@@ -200,8 +214,15 @@ fn counted_places(counters: &[Counter]) -> String {
     let mut places = String::from("pub const PLACES: &[(&str, usize, &str, &str)] = &[\n");
     for c in counters {
         let file = Path::new(&c.file).with_extension("rs");
-        writeln!(places, "({:?}, {}, {:?}, {:?}),", file.display().to_string(), c.line, c.kind, c.text)
-            .expect("write to a string");
+        writeln!(
+            places,
+            "({:?}, {}, {:?}, {:?}),",
+            file.display().to_string(),
+            c.line,
+            c.kind,
+            c.text
+        )
+        .expect("write to a string");
     }
     places.push_str("];\n");
     places
