@@ -9,7 +9,7 @@ use gatk_haplotypecaller::genotype_gvcfs::accessors::likelihoods;
 use gatk_haplotypecaller::genotyping::gq_phred_from_pl;
 use gatk_haplotypecaller::reverse_trim::reverse_trim_alleles;
 
-type Answer = fn(&[String]) -> Result<Vec<String>, String>;
+type Answer = fn(&[String], Rules) -> Result<Vec<String>, String>;
 
 /// One kind of group.
 pub struct Kind {
@@ -57,7 +57,7 @@ pub fn kind(name: &str) -> Option<&'static Kind> {
 }
 
 /// The groups of a file with the Rust's answers; answers that stand in the file are passed over.
-pub fn answer_text(kind: &Kind, text: &str) -> Result<String, String> {
+pub fn answer_text(kind: &Kind, text: &str, rules: Rules) -> Result<String, String> {
     let mut lines = Lines::new(text).map_err(|r| r.to_string())?;
     let mut out = String::new();
     while !lines.ended() {
@@ -71,14 +71,14 @@ pub fn answer_text(kind: &Kind, text: &str) -> Result<String, String> {
                 lines.value(key).map_err(|r| r.to_string())?;
             }
         }
-        let group = answer_group(kind, &inputs);
+        let group = answer_group(kind, &inputs, rules);
         out.push_str(&group.map_err(|e| format!("group at line {first}: {e}"))?);
     }
     Ok(out)
 }
 
-pub fn answer_group(kind: &Kind, inputs: &[String]) -> Result<String, String> {
-    let answers = (kind.answer)(inputs)?;
+pub fn answer_group(kind: &Kind, inputs: &[String], rules: Rules) -> Result<String, String> {
+    let answers = (kind.answer)(inputs, rules)?;
     let mut out = String::new();
     for (key, value) in kind.inputs.iter().zip(inputs) {
         line(&mut out, key, value);
@@ -140,13 +140,11 @@ fn genotype_numbers(value: &str) -> Result<Vec<i32>, String> {
         .collect()
 }
 
-fn trim(inputs: &[String]) -> Result<Vec<String>, String> {
+fn trim(inputs: &[String], rules: Rules) -> Result<Vec<String>, String> {
     let alleles: Vec<String> = inputs[0].split(',').map(str::to_string).collect();
     let (reference, alts) = (&alleles[0], &alleles[1..]);
-    if alleles.len() > 1 {
-        check_alleles(reference, alts, 16, 255).map_err(|r| r.to_string())?;
-    } else if !is_letters(reference, 255) {
-        return Err(format!("REF `{reference}`"));
+    if rules == Rules::On {
+        check_trim(reference, alts)?;
     }
     let (trimmed_ref, trimmed_alts) = reverse_trim_alleles(reference, alts);
     let mut trimmed = vec![trimmed_ref];
@@ -154,13 +152,23 @@ fn trim(inputs: &[String]) -> Result<Vec<String>, String> {
     Ok(vec![comma(&trimmed)])
 }
 
-fn log10_of_pl(inputs: &[String]) -> Result<Vec<String>, String> {
+fn check_trim(reference: &str, alts: &[String]) -> Result<(), String> {
+    if !is_letters(reference, 255) {
+        return Err(format!("REF `{reference}`"));
+    }
+    if alts.is_empty() {
+        return Ok(());
+    }
+    check_alleles(reference, alts, 16, 255).map_err(|r| r.to_string())
+}
+
+fn log10_of_pl(inputs: &[String], _rules: Rules) -> Result<Vec<String>, String> {
     Ok(vec![bits(&likelihoods(&Some(numbers(&inputs[0])?)))])
 }
 
-fn gq(inputs: &[String]) -> Result<Vec<String>, String> {
+fn gq(inputs: &[String], rules: Rules) -> Result<Vec<String>, String> {
     let pl = numbers(&inputs[0])?;
-    if pl.is_empty() {
+    if rules == Rules::On && pl.is_empty() {
         return Err("GQ needs PL".to_string());
     }
     Ok(vec![gq_phred_from_pl(&pl).to_string()])
@@ -186,32 +194,42 @@ fn check_subset(gl: &[f64], alleles: usize, keep: &[usize]) -> Result<(), String
     Ok(())
 }
 
-fn subset(inputs: &[String]) -> Result<Vec<String>, String> {
+fn subset(inputs: &[String], rules: Rules) -> Result<Vec<String>, String> {
     let gl = floats(&inputs[0])?;
     let alleles = number(&inputs[1]).map_err(|r| r.to_string())? as usize;
     let keep: Vec<usize> = numbers(&inputs[2])?.iter().map(|&k| k as usize).collect();
-    check_subset(&gl, alleles, &keep)?;
+    if rules == Rules::On {
+        check_subset(&gl, alleles, &keep)?;
+    }
     let picked = subset_log10_genotype_likelihoods(&gl, alleles, &keep)
         .map_err(|e| format!("the Rust gives an error: {e}"))?;
     Ok(vec![bits(&picked)])
 }
 
-fn unused_alts(inputs: &[String]) -> Result<Vec<String>, String> {
-    let alts: Vec<String> = list(&inputs[0]).into_iter().map(str::to_string).collect();
-    let gt = genotype_numbers(&inputs[1])?;
-    let gl = floats(&inputs[2])?;
-    let ad = numbers(&inputs[3])?;
-    let alleles = 1 + alts.len();
+fn check_unused_alts(alleles: usize, gt: &[i32], gl: &[f64], ad: &[i32]) -> Result<(), String> {
     if alleles > 16 {
         return Err(format!("{alleles} alleles"));
     }
     let assigned = |a: &usize| *a == 0 || gt.contains(&(*a as i32));
     let keep: Vec<usize> = (0..alleles).filter(assigned).collect();
-    if keep.len() < alleles {
-        check_subset(&gl, alleles, &keep)?;
-        if keep.iter().any(|&k| k >= ad.len()) {
-            return Err("AD without a kept entry".to_string());
-        }
+    if keep.len() == alleles {
+        return Ok(());
+    }
+    check_subset(gl, alleles, &keep)?;
+    if keep.iter().any(|&k| k >= ad.len()) {
+        return Err("AD without a kept entry".to_string());
+    }
+    Ok(())
+}
+
+fn unused_alts(inputs: &[String], rules: Rules) -> Result<Vec<String>, String> {
+    let alts: Vec<String> = list(&inputs[0]).into_iter().map(str::to_string).collect();
+    let gt = genotype_numbers(&inputs[1])?;
+    let gl = floats(&inputs[2])?;
+    let ad = numbers(&inputs[3])?;
+    let alleles = 1 + alts.len();
+    if rules == Rules::On {
+        check_unused_alts(alleles, &gt, &gl, &ad)?;
     }
     let kept = subset_unused_alts_after_merged_genotyping(&alts, &gt, &gl, &ad)
         .map_err(|e| format!("the Rust gives an error: {e}"))?;

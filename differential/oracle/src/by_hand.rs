@@ -177,6 +177,15 @@ pub const COHORTS: &[HandCohort] = &[
         ..NONE
     },
     HandCohort {
+        shows: "an ALT of 128 letters lengthened by 127: 255 letters",
+        sites: &[
+            "0 c 5 5 A CTTTATTACACTCAGAAACAGAACTCGGGTAATTTTGACAGGTCACGCAGAGGCGCGCCCTCCTGAAGTGCGTGGACACTCGCTATGAATCTCTGATTTACCCACTCTGCCAAACTCCAGCGCGGTCA,<NON_REF> 1 2 3,4,5 10,0,30,40,50,60",
+            "1 c 5 132 AGCTAAAGACAATTACATAACATACACGTCAGCACGAAACTTGTTGGCCCAGTGTGAATCGCTTAAGGGTTAAGTAAGTGTGATGCATACGCCTTTACTTGCTGTGTCCACCCCATCGGACTGGCATT A,<NON_REF> 1 2 3,4,5 10,0,30,40,50,60",
+        ],
+        clip: Some(&["c 5 8"]),
+        ..NONE
+    },
+    HandCohort {
         shows: "REFs of three lengths starting together, shortest in the last sample",
         samples: 3,
         sites: &[

@@ -58,7 +58,7 @@ pub fn signed(values: &[u32]) -> Vec<i32> {
 }
 
 /// The same list from the Rust's whole `genotype_gvcf_records`, with no record left out for its
-/// QUAL; its GT is struck. Depths are left out where their sum would overflow in the Rust.
+/// QUAL; its GT is struck. Not for lists with sums of depths past i32 (see `sums_fit`).
 pub fn call_by_the_whole(list: &List) -> Result<List, String> {
     let config = GenotypeGvcfsConfig {
         stand_call_conf: f64::NEG_INFINITY,
@@ -90,6 +90,20 @@ pub fn call_by_the_whole(list: &List) -> Result<List, String> {
         }
     }
     Ok(called)
+}
+
+/// Contig, position and QUAL of the records that the Rust's GenotypeGVCFs keeps by default.
+pub fn genotype_by_default(list: &List) -> Result<String, String> {
+    let records: Vec<VcfRecord> = list.records.iter().map(vcf_record).collect();
+    let config = GenotypeGvcfsConfig::with_defaults();
+    let sites = genotype_gvcf_records(&records, &list.samples, &config)
+        .map_err(|e| format!("the Rust gives an error: {e}"))?;
+    let mut out = format!("{} of {} records kept\n", sites.len(), records.len());
+    for site in sites {
+        let (contig, position) = (site.record.chromosome, site.record.position);
+        out.push_str(&format!("{contig} {position} QUAL {:.2}\n", site.qual));
+    }
+    Ok(out)
 }
 
 /// Whether the sums of depths that the Rust makes for INFO stay within i32.

@@ -46,7 +46,10 @@ fn loaded_gvcfs(cohort: &Cohort) -> Vec<LoadedGvcf> {
         })
         .collect();
     for site in &cohort.sites {
-        inputs[site.sample].sites.push(gvcf_site(site));
+        // Without the scope's rules a site may name no sample; the Rust has no place for it.
+        if let Some(input) = inputs.get_mut(site.sample) {
+            input.sites.push(gvcf_site(site));
+        }
     }
     inputs
 }

@@ -52,7 +52,7 @@ const PLAIN: Profile = Profile {
     reference: 40,
 };
 
-pub const PROFILES: [Profile; 16] = [
+pub const PROFILES: [Profile; 17] = [
     Profile {
         name: "tiny",
         samples: (1, 2),
@@ -99,7 +99,7 @@ pub const PROFILES: [Profile; 16] = [
     Profile {
         name: "crowded",
         samples: (2, 5),
-        sites: (2, 6),
+        sites: (3, 8),
         kinds: [5, 5, 5, 5, 80],
         most_alts: 7,
         span: 2,
@@ -149,8 +149,18 @@ pub const PROFILES: [Profile; 16] = [
         ..PLAIN
     },
     Profile {
+        name: "broad",
+        samples: (7, 40),
+        sites: (10, 45),
+        kinds: [60, 15, 5, 15, 5],
+        longest_ref: 3,
+        most_alts: 2,
+        span: 5,
+        ..PLAIN
+    },
+    Profile {
         name: "wide",
-        samples: (60, 64),
+        samples: (64, 64),
         sites: (64, 100),
         span: 3,
         kinds: [70, 15, 5, 8, 2],

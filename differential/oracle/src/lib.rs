@@ -8,6 +8,7 @@ pub mod combine;
 pub mod domain;
 pub mod generate;
 pub mod list;
+pub mod outside;
 pub mod record;
 pub mod rng;
 pub mod text;

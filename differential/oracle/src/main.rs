@@ -2,9 +2,10 @@
 
 use oracle::alleles::{answer_group, answer_text, kind};
 use oracle::cohort::Lent;
-use oracle::combine::combine;
-use oracle::list::{read_combined, write_combined};
+use oracle::list::{read_combined, write_combined, List};
+use oracle::outside::{anyway, outside};
 use oracle::record::{called, check, combined, read_file, record, sweep, write_file};
+use oracle::text::Rules;
 use oracle::{domain, generate};
 use std::env;
 use std::io::Write;
@@ -16,20 +17,25 @@ The original Rust, unchanged, answering in the project's text formats.
 
   oracle combine FOLDER            the Rust's combined list of cohort.kv, and of clip.kv and
                                    reference.kv where FOLDER has them
-  oracle combine-anyway FOLDER     the same without asking whether the scope accepts the call
-  oracle domain FOLDER             whether the scope accepts the call, by the oracle's own check
   oracle call FILE                 the Rust's called list of a combined list
-  oracle trim FILE                 groups with the Rust's answers (also likelihoods, gq, subset,
-                                   unused_alts); answers in FILE are passed over
-  oracle generate SORT SEED FOLDER a call of that sort (oracle sorts lists them) into FOLDER
-  oracle generate combined SEED FOLDER
-  oracle generate KIND SEED        one group of trim, likelihoods, gq, subset or unused_alts
+  oracle KIND FILE                 groups with the Rust's answers; KIND is trim, likelihoods,
+                                   gq, subset or unused_alts; answers in FILE are passed over
+  oracle domain FOLDER             whether the scope accepts the call, by the oracle's own check
+  oracle anyway combine FOLDER     what the Rust does where the scope refuses; likewise
+  oracle anyway call FILE          for a combined list,
+  oracle anyway KIND FILE          for groups,
+  oracle anyway genotype FILE      and the records that the Rust's whole GenotypeGVCFs keeps
+  oracle outside FOLDER            the inputs outside the scope, each with what the Rust does
   oracle sorts                     the sorts of calls that can be generated
+  oracle generate SORT SEED FOLDER a call of that sort into FOLDER
+  oracle generate combined SEED FOLDER
+                                   a combined list into FOLDER
+  oracle generate KIND SEED        one group
   oracle record SEED FOLDER        the recorded answers, into a new FOLDER
   oracle check FOLDER              the Rust against recorded answers, byte for byte
   oracle sweep SEED COUNT          COUNT generated calls, lists and groups through the Rust
-  oracle coverage FOLDER           check, then the counts at the Rust's branches (built with
-                                   --features counters)
+  oracle coverage FOLDER [OUTSIDE] check, then the inputs outside the scope, then the counts at
+                                   the Rust's branches (built with --features counters)
 ";
 
 fn main() -> ExitCode {
@@ -49,19 +55,15 @@ fn main() -> ExitCode {
 
 fn run(words: &[&str]) -> Result<String, String> {
     match *words {
-        ["combine", folder] => Ok(combined(&Lent::read(Path::new(folder))?)?.1),
-        ["combine-anyway", folder] => {
-            Ok(write_combined(&combine(&Lent::read(Path::new(folder))?)?))
-        }
+        ["combine", folder] => Ok(combined(&Lent::read(Path::new(folder), Rules::On)?)?.1),
+        ["call", file] => called(&combined_list(file, Rules::On)?),
         ["domain", folder] => {
-            let lent = Lent::read(Path::new(folder))?;
+            let lent = Lent::read(Path::new(folder), Rules::On)?;
             domain::check(&lent).map_err(|r| r.to_string())?;
             Ok("accepted\n".to_string())
         }
-        ["call", file] => {
-            let list = read_combined(&read_file(Path::new(file))?).map_err(|r| r.to_string())?;
-            called(&list)
-        }
+        ["anyway", what, path] => anyway(what, Path::new(path)),
+        ["outside", folder] => outside(Path::new(folder)),
         ["generate", "combined", seed, folder] => {
             let text = write_combined(&generate::combined_list(seed_of(seed)?));
             write_file(&Path::new(folder).join("combined.kv"), &text)?;
@@ -70,7 +72,7 @@ fn run(words: &[&str]) -> Result<String, String> {
         ["generate", sort, seed, folder] => generate_call(sort, seed_of(seed)?, Path::new(folder)),
         ["generate", name, seed] => {
             let kind = kind(name).ok_or(format!("no kind {name}"))?;
-            answer_group(kind, &generate::group(name, seed_of(seed)?))
+            answer_group(kind, &generate::group(name, seed_of(seed)?), Rules::On)
         }
         ["sorts"] => Ok(generate::PROFILES
             .iter()
@@ -82,13 +84,18 @@ fn run(words: &[&str]) -> Result<String, String> {
         }
         ["check", folder] => check(Path::new(folder)),
         ["sweep", seed, count] => sweep(seed_of(seed)?, seed_of(count)?),
-        ["coverage", folder] => coverage(Path::new(folder)),
+        ["coverage", folder] => coverage(Path::new(folder), None),
+        ["coverage", folder, outside] => coverage(Path::new(folder), Some(Path::new(outside))),
         [name, file] if kind(name).is_some() => {
             let kind = kind(name).ok_or("no such kind")?;
-            answer_text(kind, &read_file(Path::new(file))?)
+            answer_text(kind, &read_file(Path::new(file))?, Rules::On)
         }
         _ => Err(format!("usage:\n{USAGE}")),
     }
+}
+
+fn combined_list(file: &str, rules: Rules) -> Result<List, String> {
+    read_combined(&read_file(Path::new(file))?, rules).map_err(|r| format!("{file}: {r}"))
 }
 
 fn seed_of(word: &str) -> Result<u64, String> {
@@ -105,14 +112,17 @@ fn generate_call(sort: &str, seed: u64, folder: &Path) -> Result<String, String>
 }
 
 #[cfg(not(feature = "counters"))]
-fn coverage(_folder: &Path) -> Result<String, String> {
+fn coverage(_folder: &Path, _outside: Option<&Path>) -> Result<String, String> {
     Err("build with --features counters".to_string())
 }
 
 #[cfg(feature = "counters")]
-fn coverage(folder: &Path) -> Result<String, String> {
+fn coverage(folder: &Path, outside_scope: Option<&Path>) -> Result<String, String> {
     use gatk_haplotypecaller::counters::{count, PLACES};
     let mut report = check(folder)?;
+    if let Some(folder) = outside_scope {
+        outside(folder)?;
+    }
     let (mut ways, mut reached) = (0, 0);
     for (number, (file, line, kind, text)) in PLACES.iter().enumerate() {
         let (first, second) = count(number);

@@ -8,13 +8,13 @@ use crate::combine::combine;
 use crate::generate;
 use crate::list::{read_combined, write_called, write_combined, List};
 use crate::rng::mix;
-use crate::text::line;
+use crate::text::{line, Rules};
 use crate::{cohort, domain};
 use std::fs;
 use std::path::{Path, PathBuf};
 
 /// How many calls of each sort are recorded. "largest" is too large for the recorded files.
-const COHORT_COUNTS: [(&str, usize); 15] = [
+const COHORT_COUNTS: [(&str, usize); 16] = [
     ("tiny", 30),
     ("plain", 50),
     ("contigs", 25),
@@ -28,6 +28,7 @@ const COHORT_COUNTS: [(&str, usize); 15] = [
     ("referenced", 30),
     ("overlapping", 30),
     ("long", 10),
+    ("broad", 8),
     ("wide", 5),
     ("deep", 5),
 ];
@@ -49,7 +50,8 @@ pub fn combined(lent: &Lent) -> Result<(List, String), String> {
     domain::check(lent).map_err(|r| r.to_string())?;
     let list = combine(lent)?;
     let text = write_combined(&list);
-    let back = read_combined(&text).map_err(|r| format!("the Rust's list read back: {r}"))?;
+    let back =
+        read_combined(&text, Rules::On).map_err(|r| format!("the Rust's list read back: {r}"))?;
     if back != list {
         return Err("the Rust's list read back is another".to_string());
     }
@@ -104,9 +106,11 @@ fn record_combine(folder: &Path, seed: u64) -> Result<Vec<(usize, String)>, Stri
             case += 1;
             let lent = generate::lent(profile, case_seed);
             let (list, text) = combined(&lent).map_err(|e| format!("{name} {case_seed}: {e}"))?;
-            // A call that gives nothing is worth recording now and then only.
+            // A call that gives nothing is worth recording now and then only, and a crowded one
+            // where the merged alleles come near their limit.
             let empty = list.records.is_empty() && case % 4 != 0;
-            if !empty && fits(&lent, &text, name == "wide" || name == "deep") {
+            let dull = name == "crowded" && most_alleles(&list) < 13;
+            if !empty && !dull && fits(&lent, &text, name == "wide" || name == "deep") {
                 keep(&lent, text, format!("{name} {case_seed}"))?;
                 made += 1;
             }
@@ -114,6 +118,14 @@ fn record_combine(folder: &Path, seed: u64) -> Result<Vec<(usize, String)>, Stri
     }
     write_file(&folder.join("combine/INDEX.txt"), &index)?;
     Ok(lists)
+}
+
+fn most_alleles(list: &List) -> usize {
+    list.records
+        .iter()
+        .map(|r| 1 + r.alts.len())
+        .max()
+        .unwrap_or(0)
 }
 
 fn fits(lent: &Lent, list: &str, large: bool) -> bool {
@@ -140,14 +152,14 @@ fn hand_cohort(hand: &HandCohort) -> Result<Lent, String> {
         ],
     );
     let mut lent = Lent {
-        cohort: read_cohort(&text).map_err(|r| format!("{}: {r}", hand.shows))?,
+        cohort: read_cohort(&text, Rules::On).map_err(|r| format!("{}: {r}", hand.shows))?,
         clip: None,
         reference: None,
     };
     if let Some(rows) = hand.clip {
         let mut text = String::new();
         lines_of(&mut text, rows, &["contig", "start", "end"]);
-        lent.clip = Some(cohort::read_clip(&text).map_err(|r| r.to_string())?);
+        lent.clip = Some(cohort::read_clip(&text, Rules::On).map_err(|r| r.to_string())?);
     }
     if let Some(rows) = hand.reference {
         let mut text = String::new();
@@ -169,7 +181,7 @@ fn record_call(folder: &Path, seed: u64, lists: &[(usize, String)]) -> Result<()
     let mut index = String::new();
     let mut number = 0;
     let mut keep = |text: &str, from: String| -> Result<(), String> {
-        let list = read_combined(text).map_err(|r| format!("{from}: {r}"))?;
+        let list = read_combined(text, Rules::On).map_err(|r| format!("{from}: {r}"))?;
         let called = called(&list).map_err(|e| format!("{from}: {e}"))?;
         let files = vec![
             ("combined.kv".to_string(), text.to_string()),
@@ -208,7 +220,7 @@ fn record_groups(folder: &Path, seed: u64) -> Result<(), String> {
         let mut text = String::new();
         for (_, inputs) in GROUPS.iter().filter(|(name, _)| *name == kind.name) {
             let inputs: Vec<String> = inputs.iter().map(|s| s.to_string()).collect();
-            text.push_str(&answer_group(kind, &inputs)?);
+            text.push_str(&answer_group(kind, &inputs, Rules::On)?);
         }
         let mut seen: Vec<Vec<String>> = Vec::new();
         let mut case = 0;
@@ -218,7 +230,8 @@ fn record_groups(folder: &Path, seed: u64) -> Result<(), String> {
             if seen.contains(&inputs) {
                 continue;
             }
-            let group = answer_group(kind, &inputs).map_err(|e| format!("{inputs:?}: {e}"))?;
+            let group =
+                answer_group(kind, &inputs, Rules::On).map_err(|e| format!("{inputs:?}: {e}"))?;
             text.push_str(&group);
             seen.push(inputs);
         }
@@ -249,16 +262,16 @@ pub fn read_file(path: &Path) -> Result<String, String> {
 pub fn check(folder: &Path) -> Result<String, String> {
     let mut report = String::new();
     let mut count = 0;
-    for case in cases(&folder.join("combine"))? {
-        let (_, text) = combined(&Lent::read(&case)?).map_err(|e| in_case(&case, e))?;
+    for case in sorted_folders(&folder.join("combine"))? {
+        let (_, text) = combined(&Lent::read(&case, Rules::On)?).map_err(|e| in_case(&case, e))?;
         same(&case.join("combined.kv"), &text)?;
         count += 1;
     }
     report.push_str(&format!("combine: {count} lists as recorded\n"));
     count = 0;
-    for case in cases(&folder.join("call"))? {
+    for case in sorted_folders(&folder.join("call"))? {
         let text = read_file(&case.join("combined.kv"))?;
-        let list = read_combined(&text).map_err(|r| in_case(&case, r.to_string()))?;
+        let list = read_combined(&text, Rules::On).map_err(|r| in_case(&case, r.to_string()))?;
         let called = called(&list).map_err(|e| in_case(&case, e))?;
         same(&case.join("called.kv"), &called)?;
         count += 1;
@@ -267,7 +280,7 @@ pub fn check(folder: &Path) -> Result<String, String> {
     for kind in &KINDS {
         let path = folder.join(format!("{}.kv", kind.name));
         let text = read_file(&path)?;
-        same(&path, &answer_text(kind, &text)?)?;
+        same(&path, &answer_text(kind, &text, Rules::On)?)?;
         let groups = text
             .lines()
             .filter(|l| l.starts_with(&format!("{}=", kind.inputs[0])));
@@ -280,7 +293,7 @@ pub fn check(folder: &Path) -> Result<String, String> {
     Ok(report)
 }
 
-fn cases(folder: &Path) -> Result<Vec<PathBuf>, String> {
+pub fn sorted_folders(folder: &Path) -> Result<Vec<PathBuf>, String> {
     let entries = fs::read_dir(folder).map_err(|e| format!("{}: {e}", folder.display()))?;
     let mut found: Vec<PathBuf> = entries
         .filter_map(|e| e.ok().map(|e| e.path()))
@@ -319,7 +332,8 @@ pub fn sweep(seed: u64, count: u64) -> Result<String, String> {
         called(&list).map_err(|e| format!("combined {case_seed}: {e}"))?;
         for kind in &KINDS {
             let inputs = generate::group(kind.name, case_seed);
-            answer_group(kind, &inputs).map_err(|e| format!("{} {case_seed}: {e}", kind.name))?;
+            answer_group(kind, &inputs, Rules::On)
+                .map_err(|e| format!("{} {case_seed}: {e}", kind.name))?;
         }
     }
     Ok(format!(

@@ -25,6 +25,24 @@ pub fn refuse<T>(number: u8, message: impl Into<String>) -> Result<T, Refusal> {
     })
 }
 
+/// Whether a text must keep the scope's rules. `Off` leaves only what a line must look like, so
+/// that the Rust can be shown what the scope refuses.
+#[derive(Debug, Clone, Copy, PartialEq, Eq)]
+pub enum Rules {
+    On,
+    Off,
+}
+
+impl Rules {
+    /// The greatest number of GQ, DP, AD and PL.
+    fn greatest(self) -> u64 {
+        match self {
+            Rules::On => MAX_NUMBER,
+            Rules::Off => u64::from(u32::MAX),
+        }
+    }
+}
+
 pub const NON_REF: &str = "<NON_REF>";
 pub const SPAN_DEL: &str = "*";
 pub const MAX_NUMBER: u64 = 2_147_483_647;
@@ -81,30 +99,34 @@ impl<'a> Lines<'a> {
 }
 
 pub fn number(value: &str) -> Result<u64, Refusal> {
+    number_to(value, MAX_NUMBER)
+}
+
+fn number_to(value: &str, greatest: u64) -> Result<u64, Refusal> {
     let plain = !value.is_empty()
         && value.len() <= 10
         && value.bytes().all(|b| b.is_ascii_digit())
         && (value == "0" || !value.starts_with('0'));
     match value.parse::<u64>() {
-        Ok(n) if plain && n <= MAX_NUMBER => Ok(n),
+        Ok(n) if plain && n <= greatest => Ok(n),
         _ => refuse(1, format!("`{value}` is not a number")),
     }
 }
 
-pub fn optional_number(value: &str) -> Result<Option<u32>, Refusal> {
+pub fn optional_number(value: &str, rules: Rules) -> Result<Option<u32>, Refusal> {
     if value == "." {
         return Ok(None);
     }
-    Ok(Some(number(value)? as u32))
+    Ok(Some(number_to(value, rules.greatest())? as u32))
 }
 
-pub fn optional_numbers(value: &str) -> Result<Option<Vec<u32>>, Refusal> {
+pub fn optional_numbers(value: &str, rules: Rules) -> Result<Option<Vec<u32>>, Refusal> {
     if value == "." {
         return Ok(None);
     }
     value
         .split(',')
-        .map(|v| Ok(number(v)? as u32))
+        .map(|v| Ok(number_to(v, rules.greatest())? as u32))
         .collect::<Result<Vec<u32>, Refusal>>()
         .map(Some)
 }
