@@ -245,7 +245,6 @@ pub const COHORTS: &[HandCohort] = &[
         sites: &["0 c 5 19 A <NON_REF> 1 2 3,4 0,20,30"],
         clip: Some(&["c 7 9", "c 15 30"]),
         reference: Some(&["c 7 G", "c 10 C", "c 15 T"]),
-        ..NONE
     },
     HandCohort {
         shows: "clip spans that touch: the parts of the block join; the reference is not lent",

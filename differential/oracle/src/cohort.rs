@@ -135,8 +135,8 @@ fn read_site(lines: &mut Lines, rules: Rules) -> Result<Site, Refusal> {
     Ok(Site {
         sample: number(lines.value("site")?)? as usize,
         contig: name(lines.value("contig")?)?,
-        start: number(lines.value("start")?)?,
-        end: number(lines.value("end")?)?,
+        start: position(lines.value("start")?, rules)?,
+        end: position(lines.value("end")?, rules)?,
         ref_allele: lines.value("ref")?.to_string(),
         alts: split(lines.value("alt")?),
         gq: optional_number(lines.value("gq")?, rules)?,

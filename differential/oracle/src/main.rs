@@ -2,8 +2,8 @@
 
 use oracle::alleles::{answer_group, answer_text, kind};
 use oracle::cohort::Lent;
+use oracle::differences::{anyway, differences};
 use oracle::list::{read_combined, write_combined, List};
-use oracle::outside::{anyway, outside};
 use oracle::record::{called, check, combined, read_file, record, sweep, write_file};
 use oracle::text::Rules;
 use oracle::{domain, generate};
@@ -25,7 +25,7 @@ The original Rust, unchanged, answering in the project's text formats.
   oracle anyway call FILE          for a combined list,
   oracle anyway KIND FILE          for groups,
   oracle anyway genotype FILE      and the records that the Rust's whole GenotypeGVCFs keeps
-  oracle outside FOLDER            the inputs outside the scope, each with what the Rust does
+  oracle differences FOLDER        the inputs of docs/DIFFERENCES.md, with what the Rust does
   oracle sorts                     the sorts of calls that can be generated
   oracle generate SORT SEED FOLDER a call of that sort into FOLDER
   oracle generate combined SEED FOLDER
@@ -34,8 +34,8 @@ The original Rust, unchanged, answering in the project's text formats.
   oracle record SEED FOLDER        the recorded answers, into a new FOLDER
   oracle check FOLDER              the Rust against recorded answers, byte for byte
   oracle sweep SEED COUNT          COUNT generated calls, lists and groups through the Rust
-  oracle coverage FOLDER [OUTSIDE] check, then the inputs outside the scope, then the counts at
-                                   the Rust's branches (built with --features counters)
+  oracle coverage FOLDER [MORE]    check, then the inputs in MORE as for differences, then the
+                                   counts at the Rust's branches (built with --features counters)
 ";
 
 fn main() -> ExitCode {
@@ -63,7 +63,7 @@ fn run(words: &[&str]) -> Result<String, String> {
             Ok("accepted\n".to_string())
         }
         ["anyway", what, path] => anyway(what, Path::new(path)),
-        ["outside", folder] => outside(Path::new(folder)),
+        ["differences", folder] => differences(Path::new(folder)),
         ["generate", "combined", seed, folder] => {
             let text = write_combined(&generate::combined_list(seed_of(seed)?));
             write_file(&Path::new(folder).join("combined.kv"), &text)?;
@@ -85,7 +85,7 @@ fn run(words: &[&str]) -> Result<String, String> {
         ["check", folder] => check(Path::new(folder)),
         ["sweep", seed, count] => sweep(seed_of(seed)?, seed_of(count)?),
         ["coverage", folder] => coverage(Path::new(folder), None),
-        ["coverage", folder, outside] => coverage(Path::new(folder), Some(Path::new(outside))),
+        ["coverage", folder, more] => coverage(Path::new(folder), Some(Path::new(more))),
         [name, file] if kind(name).is_some() => {
             let kind = kind(name).ok_or("no such kind")?;
             answer_text(kind, &read_file(Path::new(file))?, Rules::On)
@@ -112,16 +112,16 @@ fn generate_call(sort: &str, seed: u64, folder: &Path) -> Result<String, String>
 }
 
 #[cfg(not(feature = "counters"))]
-fn coverage(_folder: &Path, _outside: Option<&Path>) -> Result<String, String> {
+fn coverage(_folder: &Path, _more: Option<&Path>) -> Result<String, String> {
     Err("build with --features counters".to_string())
 }
 
 #[cfg(feature = "counters")]
-fn coverage(folder: &Path, outside_scope: Option<&Path>) -> Result<String, String> {
+fn coverage(folder: &Path, more: Option<&Path>) -> Result<String, String> {
     use gatk_haplotypecaller::counters::{count, PLACES};
     let mut report = check(folder)?;
-    if let Some(folder) = outside_scope {
-        outside(folder)?;
+    if let Some(folder) = more {
+        differences(folder)?;
     }
     let (mut ways, mut reached) = (0, 0);
     for (number, (file, line, kind, text)) in PLACES.iter().enumerate() {

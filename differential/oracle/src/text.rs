@@ -34,7 +34,7 @@ pub enum Rules {
 }
 
 impl Rules {
-    /// The greatest number of GQ, DP, AD and PL.
+    /// The greatest number of a site's positions and values.
     fn greatest(self) -> u64 {
         match self {
             Rules::On => MAX_NUMBER,
@@ -100,6 +100,11 @@ impl<'a> Lines<'a> {
 
 pub fn number(value: &str) -> Result<u64, Refusal> {
     number_to(value, MAX_NUMBER)
+}
+
+/// A position of a site.
+pub fn position(value: &str, rules: Rules) -> Result<u64, Refusal> {
+    number_to(value, rules.greatest())
 }
 
 fn number_to(value: &str, greatest: u64) -> Result<u64, Refusal> {

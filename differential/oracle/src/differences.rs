@@ -1,4 +1,4 @@
-//! What the Rust does with inputs that the scope refuses.
+//! What the Rust does with the inputs of docs/DIFFERENCES.md, most of which the scope refuses.
 
 use crate::alleles::{answer_text, kind};
 use crate::call::{call_by_the_whole, genotype_by_default};
@@ -52,7 +52,7 @@ where
 
 /// Each folder holds the files of one input: cohort.kv (with clip.kv and reference.kv),
 /// combined.kv, or the groups of a kind.
-pub fn outside(folder: &Path) -> Result<String, String> {
+pub fn differences(folder: &Path) -> Result<String, String> {
     let mut report = String::new();
     for case in sorted_folders(folder)? {
         let name = case.file_name().unwrap_or_default().to_string_lossy();
