@@ -106,6 +106,16 @@ pub fn genotype_by_default(list: &List) -> Result<String, String> {
     Ok(out)
 }
 
+/// The list with DP and AD struck.
+pub fn without_depths(list: &List) -> List {
+    let mut struck = list.clone();
+    for s in struck.records.iter_mut().flat_map(|r| &mut r.samples) {
+        s.dp = None;
+        s.ad = None;
+    }
+    struck
+}
+
 /// Whether the sums of depths that the Rust makes for INFO stay within i32.
 pub fn sums_fit(list: &List) -> bool {
     list.records.iter().all(|r| {

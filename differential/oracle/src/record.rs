@@ -2,7 +2,7 @@
 
 use crate::alleles::{answer_group, answer_text, KINDS};
 use crate::by_hand::{HandCohort, COHORTS, COMBINED_LISTS, GROUPS};
-use crate::call::{call, call_by_the_whole, sums_fit};
+use crate::call::{call, call_by_the_whole, sums_fit, without_depths};
 use crate::cohort::{read_cohort, Lent};
 use crate::combine::combine;
 use crate::generate;
@@ -61,7 +61,12 @@ pub fn combined(lent: &Lent) -> Result<(List, String), String> {
 /// The called list, the same from the single functions and from the Rust's whole.
 pub fn called(list: &List) -> Result<String, String> {
     let called = call(list);
-    if sums_fit(list) && call_by_the_whole(list)? != called {
+    let same = if sums_fit(list) {
+        call_by_the_whole(list)? == called
+    } else {
+        call_by_the_whole(&without_depths(list))? == without_depths(&called)
+    };
+    if !same {
         return Err("the Rust's whole gives another called list".to_string());
     }
     Ok(write_called(&called))
