@@ -115,8 +115,8 @@ pub fn bits(values: &[f64]) -> String {
 fn floats(value: &str) -> Result<Vec<f64>, String> {
     list(value)
         .into_iter()
-        .map(|v| match (v.len(), u64::from_str_radix(v, 16)) {
-            (16, Ok(bits)) => Ok(f64::from_bits(bits)),
+        .map(|v| match u64::from_str_radix(v, 16) {
+            Ok(bits) if format!("{bits:016x}") == v => Ok(f64::from_bits(bits)),
             _ => Err(format!("`{v}` is not the 16 hexadecimal digits of an f64")),
         })
         .collect()

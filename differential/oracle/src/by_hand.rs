@@ -128,6 +128,16 @@ pub const COHORTS: &[HandCohort] = &[
         ..NONE
     },
     HandCohort {
+        shows: "alike but for AD, then but for a missing one, in the second sample: three",
+        sites: &[
+            "0 c 1 6 A <NON_REF> 31 8 9,0 0,30,300",
+            "1 c 1 2 A <NON_REF> 31 8 9,0 0,30,300",
+            "1 c 3 4 A <NON_REF> 31 8 9,1 0,30,300",
+            "1 c 5 6 A <NON_REF> 31 8 . 0,30,300",
+        ],
+        ..NONE
+    },
+    HandCohort {
         shows: "AD of one entry and AD of two with 0 join",
         samples: 1,
         sites: &[

@@ -384,7 +384,7 @@ fn site(p: &Profile, rng: &mut Rng, land: &Land, contig: usize, sample: usize, s
     } else {
         n
     };
-    Site {
+    let mut made = Site {
         sample,
         contig: land.contigs[contig].clone(),
         start,
@@ -397,6 +397,34 @@ fn site(p: &Profile, rng: &mut Rng, land: &Land, contig: usize, sample: usize, s
             (0..ad_count).map(|_| quality(r, p.extreme, 40)).collect()
         }),
         pl: present(p, &mut values, |p, r| pl(r, n, p.extreme)),
+    };
+    if p.palette > 0 && rng.chance(30) {
+        change_one(&mut made, rng);
+    }
+    made
+}
+
+/// One of the values becomes another, so that a site differs from its like in that alone.
+fn change_one(site: &mut Site, rng: &mut Rng) {
+    let other = |v: Option<u32>| match v {
+        Some(v) => v.checked_sub(1),
+        None => Some(0),
+    };
+    match rng.below(4) {
+        0 => site.gq = other(site.gq),
+        1 => site.dp = other(site.dp),
+        2 => change_a_number(&mut site.ad, rng),
+        _ => change_a_number(&mut site.pl, rng),
+    }
+}
+
+fn change_a_number(values: &mut Option<Vec<u32>>, rng: &mut Rng) {
+    match values {
+        Some(numbers) if rng.chance(80) => {
+            let at = rng.below(numbers.len() as u64) as usize;
+            numbers[at] ^= 1;
+        }
+        _ => *values = None,
     }
 }
 
