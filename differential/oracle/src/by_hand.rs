@@ -94,6 +94,22 @@ pub const COHORTS: &[HandCohort] = &[
         ..NONE
     },
     HandCohort {
+        shows: "six blocks alike, of one position and more, then one that differs, then two alike",
+        samples: 1,
+        sites: &[
+            "0 c 1 4 A <NON_REF> 30 9 9,0 0,30,300",
+            "0 c 5 5 A <NON_REF> 30 9 9,0 0,30,300",
+            "0 c 6 11 A <NON_REF> 30 9 9,0 0,30,300",
+            "0 c 12 12 A <NON_REF> 30 9 9,0 0,30,300",
+            "0 c 13 13 A <NON_REF> 30 9 9,0 0,30,300",
+            "0 c 14 20 A <NON_REF> 30 9 9,0 0,30,300",
+            "0 c 21 21 A <NON_REF> 30 9 9,0 0,30,301",
+            "0 c 22 22 A <NON_REF> 30 9 9,0 0,30,300",
+            "0 c 23 23 A <NON_REF> 30 9 9,0 0,30,300",
+        ],
+        ..NONE
+    },
+    HandCohort {
         shows: "the letters differ: two",
         samples: 1,
         sites: &[

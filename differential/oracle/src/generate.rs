@@ -72,8 +72,9 @@ pub const PROFILES: [Profile; 17] = [
     Profile {
         name: "joining",
         samples: (1, 3),
-        sites: (3, 12),
-        kinds: [92, 4, 0, 4, 0],
+        sites: (6, 20),
+        span: 24,
+        kinds: [94, 3, 0, 3, 0],
         palette: 2,
         longest_block: 4,
         tracks: 90,
@@ -275,6 +276,8 @@ struct Land {
     seed: u64,
     /// Overlapping REFs agree, as on a real reference.
     agreeing: bool,
+    /// Most letters are A, so that neighbouring blocks are alike.
+    monotone: bool,
 }
 
 impl Land {
@@ -290,6 +293,7 @@ impl Land {
             last: (first + p.span - 1).min(MAX_NUMBER),
             seed: rng.any(),
             agreeing: rng.chance(70),
+            monotone: p.palette > 0,
         }
     }
 
@@ -298,12 +302,18 @@ impl Land {
         (0..length)
             .map(|offset| {
                 let own = if self.agreeing { 0 } else { start };
-                letter(mix(self.seed
-                    ^ mix(contig as u64)
-                    ^ mix(start + offset)
-                    ^ own))
+                self.letter(self.seed ^ own, contig, start + offset)
             })
             .collect()
+    }
+
+    fn letter(&self, seed: u64, contig: usize, position: u64) -> char {
+        let random = mix(seed ^ mix(contig as u64) ^ mix(position));
+        if self.monotone && !random.is_multiple_of(8) {
+            'A'
+        } else {
+            letter(random >> 3)
+        }
     }
 }
 
@@ -580,7 +590,7 @@ fn clip(rng: &mut Rng, land: &Land) -> Vec<ClipSpan> {
 fn reference(rng: &mut Rng, land: &Land, lent: &Lent) -> Vec<Stretch> {
     let same_as_sites = rng.chance(60);
     let seed = if same_as_sites { land.seed } else { rng.any() };
-    let at = |contig: usize, position: u64| letter(mix(seed ^ mix(contig as u64) ^ mix(position)));
+    let at = |contig: usize, position: u64| land.letter(seed, contig, position);
     let whole = rng.chance(40);
     let spare = if rng.chance(70) { 3 } else { 1 };
     let mut stretches = Vec::new();

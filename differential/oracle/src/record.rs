@@ -114,7 +114,7 @@ fn record_combine(folder: &Path, seed: u64) -> Result<Vec<(usize, String)>, Stri
             // A call that gives nothing is worth recording now and then only, and a crowded one
             // where the merged alleles come near their limit.
             let empty = list.records.is_empty() && case % 4 != 0;
-            let dull = name == "crowded" && most_alleles(&list) < 13;
+            let dull = name == "crowded" && most_alleles(&list) < 14;
             if !empty && !dull && fits(&lent, &text, name == "wide" || name == "deep") {
                 keep(&lent, text, format!("{name} {case_seed}"))?;
                 made += 1;
