@@ -1,0 +1,428 @@
+//! Calls, combined lists and groups written by hand: the scope's worked rows and edges.
+
+/// Site values in the order of a site group, separated by spaces.
+type SiteRow = &'static str;
+
+/// What it shows, number of samples, sites, clip groups, reference groups.
+pub struct HandCohort {
+    pub shows: &'static str,
+    pub samples: usize,
+    pub sites: &'static [SiteRow],
+    pub clip: Option<&'static [&'static str]>,
+    pub reference: Option<&'static [&'static str]>,
+}
+
+const NONE: HandCohort = HandCohort {
+    shows: "",
+    samples: 2,
+    sites: &[],
+    clip: None,
+    reference: None,
+};
+
+pub const COHORTS: &[HandCohort] = &[
+    HandCohort {
+        shows: "document 01's printed example",
+        sites: &[
+            "0 c 10 11 A <NON_REF> 30 9 9,0 0,30,300",
+            "1 c 10 10 A G,<NON_REF> 40 8 4,4,0 40,0,50,60,70,80",
+        ],
+        ..NONE
+    },
+    HandCohort {
+        shows: "no sites gives records=0",
+        ..NONE
+    },
+    HandCohort {
+        shows: "2147483647 is read, in every number",
+        samples: 1,
+        sites: &[
+            "0 c 2147483646 2147483647 A <NON_REF> 2147483647 2147483647 2147483647,0 2147483647,2147483647,2147483647",
+        ],
+        ..NONE
+    },
+    HandCohort {
+        shows: "a SNP at 2147483647",
+        samples: 1,
+        sites: &["0 c 2147483647 2147483647 A G,<NON_REF> 1 2 3,4,5 6,5,4,3,2,1"],
+        ..NONE
+    },
+    HandCohort {
+        shows: "A to G, then AT to A: AT,A,GT,<NON_REF>",
+        sites: &[
+            "0 c 5 5 A G,<NON_REF> 20 7 3,4,0 50,0,60,70,80,90",
+            "1 c 5 6 AT A,<NON_REF> 30 8 5,3,0 55,0,65,75,85,95",
+        ],
+        ..NONE
+    },
+    HandCohort {
+        shows: "the same with the samples changed about",
+        sites: &[
+            "1 c 5 5 A G,<NON_REF> 20 7 3,4,0 50,0,60,70,80,90",
+            "0 c 5 6 AT A,<NON_REF> 30 8 5,3,0 55,0,65,75,85,95",
+        ],
+        ..NONE
+    },
+    HandCohort {
+        shows: "ACG to A at 20, seen at 21: A,*,<NON_REF>, PL unchanged",
+        sites: &[
+            "0 c 20 22 ACG A,<NON_REF> 12 6 1,2,3 11,12,13,14,15,16",
+            "1 c 18 25 A <NON_REF> 9 5 5,0 0,9,90",
+        ],
+        reference: Some(&["c 15 TTTACACGTTTT"]),
+        ..NONE
+    },
+    HandCohort {
+        shows: "AC to GT, PL 1 to 6, seen one later: * maps to <NON_REF>",
+        samples: 1,
+        sites: &["0 c 8 9 AC GT,<NON_REF> 3 4 1,2,3 1,2,3,4,5,6"],
+        ..NONE
+    },
+    HandCohort {
+        shows: "PL 5,5,9 gives 0/0",
+        samples: 1,
+        sites: &["0 c 4 4 C <NON_REF> 0 2 2,0 5,5,9"],
+        ..NONE
+    },
+    HandCohort {
+        shows: "blocks 10 to 12 and 13 to 15, alike: one",
+        samples: 1,
+        sites: &[
+            "0 c 10 12 A <NON_REF> 30 9 9,0 0,30,300",
+            "0 c 13 15 A <NON_REF> 30 9 9,0 0,30,300",
+        ],
+        ..NONE
+    },
+    HandCohort {
+        shows: "six blocks alike, of one position and more, then one that differs, then two alike",
+        samples: 1,
+        sites: &[
+            "0 c 1 4 A <NON_REF> 30 9 9,0 0,30,300",
+            "0 c 5 5 A <NON_REF> 30 9 9,0 0,30,300",
+            "0 c 6 11 A <NON_REF> 30 9 9,0 0,30,300",
+            "0 c 12 12 A <NON_REF> 30 9 9,0 0,30,300",
+            "0 c 13 13 A <NON_REF> 30 9 9,0 0,30,300",
+            "0 c 14 20 A <NON_REF> 30 9 9,0 0,30,300",
+            "0 c 21 21 A <NON_REF> 30 9 9,0 0,30,301",
+            "0 c 22 22 A <NON_REF> 30 9 9,0 0,30,300",
+            "0 c 23 23 A <NON_REF> 30 9 9,0 0,30,300",
+        ],
+        ..NONE
+    },
+    HandCohort {
+        shows: "the letters differ: two",
+        samples: 1,
+        sites: &[
+            "0 c 10 12 A <NON_REF> 30 9 9,0 0,30,300",
+            "0 c 13 15 C <NON_REF> 30 9 9,0 0,30,300",
+        ],
+        ..NONE
+    },
+    HandCohort {
+        shows: "10 to 12 and 14 to 15: two",
+        samples: 1,
+        sites: &[
+            "0 c 10 12 A <NON_REF> 30 9 9,0 0,30,300",
+            "0 c 14 15 A <NON_REF> 30 9 9,0 0,30,300",
+        ],
+        ..NONE
+    },
+    HandCohort {
+        shows: "alike but for GQ: two; single positions that join: END",
+        samples: 1,
+        sites: &[
+            "0 c 1 1 A <NON_REF> 30 9 9,0 0,30,300",
+            "0 c 2 2 A <NON_REF> 31 9 9,0 0,30,300",
+            "0 c 3 3 A <NON_REF> 31 9 9,0 0,30,300",
+            "0 c 4 4 A <NON_REF> 31 8 9,0 0,30,300",
+            "0 c 5 5 A <NON_REF> 31 8 9 0,30,300",
+            "0 c 6 6 A <NON_REF> 31 8 9 0,30,301",
+            "0 c 7 7 A <NON_REF> 31 8 9 .",
+            "0 c 8 8 A <NON_REF> . . . .",
+            "0 c 9 9 A <NON_REF> . . . .",
+        ],
+        ..NONE
+    },
+    HandCohort {
+        shows: "alike but for AD, then but for a missing one, in the second sample: three",
+        sites: &[
+            "0 c 1 6 A <NON_REF> 31 8 9,0 0,30,300",
+            "1 c 1 2 A <NON_REF> 31 8 9,0 0,30,300",
+            "1 c 3 4 A <NON_REF> 31 8 9,1 0,30,300",
+            "1 c 5 6 A <NON_REF> 31 8 . 0,30,300",
+        ],
+        ..NONE
+    },
+    HandCohort {
+        shows: "AD of one entry and AD of two with 0 join",
+        samples: 1,
+        sites: &[
+            "0 c 5 6 A <NON_REF> 31 8 9 0,30,300",
+            "0 c 7 8 A <NON_REF> 31 8 9,0 0,30,300",
+        ],
+        ..NONE
+    },
+    HandCohort {
+        shows: "a sample without a site: five dots",
+        samples: 3,
+        sites: &["1 c 3 3 A T,<NON_REF> 1 2 3,4,5 9,8,7,6,5,4"],
+        ..NONE
+    },
+    HandCohort {
+        shows: "a site's own * is not lengthened",
+        sites: &[
+            "0 c 5 5 A *,G,<NON_REF> 20 7 3,4,0,1 50,0,60,70,80,90,91,92,93,94",
+            "1 c 5 7 ATT A,<NON_REF> 30 8 5,3,0 55,0,65,75,85,95",
+        ],
+        ..NONE
+    },
+    HandCohort {
+        shows: "<NON_REF> first and in the middle",
+        sites: &[
+            "0 c 5 5 A <NON_REF>,G,T 20 7 3,4,0,1 50,0,60,70,80,90,91,92,93,94",
+            "1 c 5 5 A C,<NON_REF>,G 30 8 5,3,0,2 55,0,65,75,85,95,96,97,98,99",
+        ],
+        ..NONE
+    },
+    HandCohort {
+        shows: "a deletion and an equal-length ALT seen later: one *, the first of two",
+        samples: 1,
+        sites: &[
+            "0 c 5 7 ATT A,AT,GGG,<NON_REF> 20 7 3,4,0,1,2 10,11,12,13,14,15,16,17,18,19,20,21,22,23,24",
+        ],
+        ..NONE
+    },
+    HandCohort {
+        shows: "sixteen merged alleles",
+        samples: 3,
+        sites: &[
+            "0 c 5 5 A C,G,T,AA,AC,<NON_REF> 1 2 1,2,3,4,5,6,7 1,2,3,4,5,6,7,8,9,10,11,12,13,14,15,16,17,18,19,20,21,22,23,24,25,26,27,0",
+            "1 c 5 5 A AG,AT,CA,CC,CG,<NON_REF> 1 2 1,2,3,4,5,6,7 31,32,33,34,35,36,37,38,39,40,41,42,43,44,45,46,47,48,49,50,51,52,53,54,55,56,57,0",
+            "2 c 5 5 A CT,GA,GC,*,<NON_REF> 1 2 1,2,3,4,5,6 1,2,3,4,5,6,7,8,9,10,11,12,13,14,15,16,17,18,19,20,21",
+        ],
+        ..NONE
+    },
+    HandCohort {
+        shows: "an ALT of 128 letters lengthened by 127: 255 letters",
+        sites: &[
+            "0 c 5 5 A CTTTATTACACTCAGAAACAGAACTCGGGTAATTTTGACAGGTCACGCAGAGGCGCGCCCTCCTGAAGTGCGTGGACACTCGCTATGAATCTCTGATTTACCCACTCTGCCAAACTCCAGCGCGGTCA,<NON_REF> 1 2 3,4,5 10,0,30,40,50,60",
+            "1 c 5 132 AGCTAAAGACAATTACATAACATACACGTCAGCACGAAACTTGTTGGCCCAGTGTGAATCGCTTAAGGGTTAAGTAAGTGTGATGCATACGCCTTTACTTGCTGTGTCCACCCCATCGGACTGGCATT A,<NON_REF> 1 2 3,4,5 10,0,30,40,50,60",
+        ],
+        clip: Some(&["c 5 8"]),
+        ..NONE
+    },
+    HandCohort {
+        shows: "REFs of three lengths starting together, shortest in the last sample",
+        samples: 3,
+        sites: &[
+            "0 c 5 7 ATC A,<NON_REF> 1 2 3,4,5 10,0,30,40,50,60",
+            "1 c 5 6 AT GT,ATT,<NON_REF> 1 2 3,4,5,6 10,0,30,40,50,60,70,80,90,95",
+            "2 c 5 5 A <NON_REF> 1 2 3,4 0,20,30",
+        ],
+        ..NONE
+    },
+    HandCohort {
+        shows: "two sites of one sample over a position: the first in the file is taken",
+        samples: 1,
+        sites: &[
+            "0 c 6 6 C T,<NON_REF> 1 2 3,4,5 9,8,7,6,5,4",
+            "0 c 5 7 ACG A,<NON_REF> 2 3 4,5,6 1,2,3,4,5,6",
+        ],
+        ..NONE
+    },
+    HandCohort {
+        shows: "the same in the other order",
+        samples: 1,
+        sites: &[
+            "0 c 5 7 ACG A,<NON_REF> 2 3 4,5,6 1,2,3,4,5,6",
+            "0 c 6 6 C T,<NON_REF> 1 2 3,4,5 9,8,7,6,5,4",
+        ],
+        ..NONE
+    },
+    HandCohort {
+        shows: "contigs in byte order of name",
+        samples: 1,
+        sites: &[
+            "0 c2 5 5 A <NON_REF> 1 2 3,4 0,20,30",
+            "0 c10 5 5 A <NON_REF> 1 2 3,4 0,20,30",
+            "0 C 5 5 A <NON_REF> 1 2 3,4 0,20,30",
+            "0 c 5 5 A <NON_REF> 1 2 3,4 0,20,30",
+            "0 ~ 5 5 A <NON_REF> 1 2 3,4 0,20,30",
+        ],
+        ..NONE
+    },
+    HandCohort {
+        shows: "a clip that is lent and empty",
+        samples: 1,
+        sites: &["0 c 5 9 A <NON_REF> 1 2 3,4 0,20,30"],
+        clip: Some(&[]),
+        ..NONE
+    },
+    HandCohort {
+        shows: "a clip on another contig",
+        samples: 1,
+        sites: &["0 c 5 9 A <NON_REF> 1 2 3,4 0,20,30"],
+        clip: Some(&["d 5 9"]),
+        ..NONE
+    },
+    HandCohort {
+        shows: "a clip that cuts a block on both sides, the letter from the reference",
+        samples: 1,
+        sites: &["0 c 5 19 A <NON_REF> 1 2 3,4 0,20,30"],
+        clip: Some(&["c 7 9", "c 15 30"]),
+        reference: Some(&["c 7 G", "c 10 C", "c 15 T"]),
+    },
+    HandCohort {
+        shows: "clip spans that touch: the parts of the block join; the reference is not lent",
+        samples: 1,
+        sites: &["0 c 5 19 A <NON_REF> 1 2 3,4 0,20,30"],
+        clip: Some(&["c 7 9", "c 10 12", "c 11 15"]),
+        ..NONE
+    },
+    HandCohort {
+        shows: "a clip span past every site, and one up to 2147483647",
+        samples: 1,
+        sites: &["0 c 5 19 A <NON_REF> 1 2 3,4 0,20,30"],
+        clip: Some(&["c 100 200", "c 18 2147483647"]),
+        ..NONE
+    },
+    HandCohort {
+        shows: "a reference that is lent and empty, where no letter is needed",
+        samples: 1,
+        sites: &["0 c 5 5 A G,<NON_REF> 1 2 3,4,5 9,8,7,6,5,4"],
+        reference: Some(&[]),
+        ..NONE
+    },
+    HandCohort {
+        shows: "without a reference: the first letter of the lowest-numbered taken sample's REF",
+        samples: 3,
+        sites: &[
+            "2 c 5 20 G <NON_REF> 1 2 3,4 0,20,30",
+            "1 c 6 20 C <NON_REF> 1 2 3,4 0,20,30",
+            "0 c 8 8 T <NON_REF> 1 2 3,4 0,20,30",
+        ],
+        ..NONE
+    },
+    HandCohort {
+        shows: "reference letters that part a block which would have joined",
+        sites: &[
+            "0 c 5 12 A <NON_REF> 1 2 3,4 0,20,30",
+            "1 c 8 8 C G,<NON_REF> 1 2 3,4,5 9,8,7,6,5,4",
+        ],
+        reference: Some(&["c 5 AACCGGTTN"]),
+        ..NONE
+    },
+];
+
+/// What it shows, and its text.
+pub const COMBINED_LISTS: &[(&str, &str)] = &[
+    (
+        "drop 90,80,70,10,20,30: 0,10,10, GQ 10",
+        "samples=1\nsample=S\nrecords=1\ncontig=c\npos=5\nend=.\nref=A\nalt=G,<NON_REF>\ngt=0/2\ngq=7\ndp=8\nad=1,2,3\npl=90,80,70,10,20,30\n",
+    ),
+    (
+        "no records",
+        "samples=1\nsample=S\nrecords=0\n",
+    ),
+    (
+        "a block is dropped",
+        "samples=1\nsample=S\nrecords=1\ncontig=c\npos=5\nend=9\nref=A\nalt=<NON_REF>\ngt=0/0\ngq=7\ndp=8\nad=1,2\npl=0,10,20\n",
+    ),
+    (
+        "REF of two letters with <NON_REF> alone is dropped",
+        "samples=1\nsample=S\nrecords=1\ncontig=c\npos=5\nend=.\nref=AC\nalt=<NON_REF>\ngt=0/0\ngq=7\ndp=8\nad=1,2\npl=0,10,20\n",
+    ),
+    (
+        "no sample has PL: dropped",
+        "samples=2\nsample=S\nsample=T\nrecords=1\ncontig=c\npos=5\nend=.\nref=A\nalt=G,<NON_REF>\ngt=0/0\ngq=7\ndp=8\nad=1,2,3\npl=.\ngt=.\ngq=.\ndp=.\nad=.\npl=.\n",
+    ),
+    (
+        "one of two samples has PL: kept",
+        "samples=2\nsample=S\nsample=T\nrecords=1\ncontig=c\npos=5\nend=.\nref=A\nalt=G,<NON_REF>\ngt=0/0\ngq=7\ndp=8\nad=1,2,3\npl=.\ngt=.\ngq=.\ndp=.\nad=.\npl=1,2,3,4,5,6\n",
+    ),
+    (
+        "GQ 0 of two least PLs, GQ at most 99",
+        "samples=2\nsample=S\nsample=T\nrecords=1\ncontig=c\npos=5\nend=.\nref=A\nalt=G,<NON_REF>\ngt=0/0\ngq=7\ndp=8\nad=1,2,3\npl=0,0,5,9,9,9\ngt=0/0\ngq=1\ndp=2\nad=3,4,5\npl=0,150,200,300,300,300\n",
+    ),
+    (
+        "<NON_REF> first among the ALTs",
+        "samples=1\nsample=S\nrecords=1\ncontig=c\npos=5\nend=.\nref=A\nalt=<NON_REF>,G\ngt=0/0\ngq=7\ndp=8\nad=1,2,3\npl=90,80,70,60,50,40\n",
+    ),
+    (
+        "* is kept as an ALT",
+        "samples=1\nsample=S\nrecords=1\ncontig=c\npos=5\nend=.\nref=A\nalt=*,<NON_REF>\ngt=0/0\ngq=7\ndp=8\nad=1,2,3\npl=0,10,20,30,40,50\n",
+    ),
+    (
+        "the greatest numbers",
+        "samples=1\nsample=S\nrecords=1\ncontig=c\npos=2147483647\nend=.\nref=A\nalt=G,<NON_REF>\ngt=0/0\ngq=2147483647\ndp=2147483647\nad=2147483647,2147483647,2147483647\npl=2147483647,2147483647,2147483647,2147483647,2147483647,2147483647\n",
+    ),
+    (
+        "0 and the greatest PL",
+        "samples=1\nsample=S\nrecords=1\ncontig=c\npos=5\nend=.\nref=A\nalt=G,<NON_REF>\ngt=0/1\ngq=7\ndp=8\nad=1,2,3\npl=2147483647,0,2147483647,2147483647,2147483647,2147483647\n",
+    ),
+    (
+        "<NON_REF> twice counts for REF alone",
+        "samples=1\nsample=S\nrecords=1\ncontig=c\npos=5\nend=.\nref=A\nalt=G,T,<NON_REF>\ngt=3/3\ngq=7\ndp=8\nad=1,2,3,4\npl=90,80,70,60,50,40,95,96,97,1\n",
+    ),
+];
+
+/// The kind and its inputs.
+pub const GROUPS: &[(&str, &[&str])] = &[
+    ("trim", &["AAT,AT"]),
+    ("trim", &["CAT,GAT"]),
+    ("trim", &["AT,T"]),
+    ("trim", &["ACGT"]),
+    ("trim", &["ACGT,<NON_REF>"]),
+    ("trim", &["ACGT,*,<NON_REF>"]),
+    ("trim", &["AAT,AT,*,<NON_REF>"]),
+    ("trim", &["AT,CAT"]),
+    ("trim", &["CAT,AT"]),
+    ("trim", &["A,<NON_REF>,*"]),
+    ("likelihoods", &["0"]),
+    ("likelihoods", &["2147483647"]),
+    ("likelihoods", &["0,1,2,3,4,5,6,7,8,9,10,11,12,13,14"]),
+    ("gq", &["0"]),
+    ("gq", &["2147483647"]),
+    ("gq", &["0,0,5"]),
+    ("gq", &["0,150,200"]),
+    ("gq", &["5,5,9"]),
+    ("gq", &["9,5,7"]),
+    ("gq", &["2147483647,0,2147483647"]),
+    ("gq", &["99,0,198"]),
+    ("gq", &["100,0,198"]),
+    ("subset", &["0000000000000000", "1", "0"]),
+    ("subset", &["c024000000000000", "1", "0,0"]),
+    ("subset", &["c024000000000000", "1", "."]),
+    (
+        "subset",
+        &["c008000000000000,0000000000000000,c01e000000000000", "2", "1"],
+    ),
+    (
+        "subset",
+        &["c008000000000000,0000000000000000,c01e000000000000", "2", "1,0"],
+    ),
+    (
+        "subset",
+        &["41e0000000000000,c1e0000000000000,0000000000000001", "2", "0,1"],
+    ),
+    (
+        "unused_alts",
+        &[
+            "G,T",
+            "0,1",
+            "c008000000000000,0000000000000000,c01e000000000000,c020000000000000,c022000000000000,c024000000000000",
+            "1,2,3",
+        ],
+    ),
+    (
+        "unused_alts",
+        &[
+            "G,T",
+            "-1,-1",
+            "c008000000000000,0000000000000000,c01e000000000000,c020000000000000,c022000000000000,c024000000000000",
+            "1,2,3",
+        ],
+    ),
+    ("unused_alts", &["G", "0,1", "7ff0000000000000", "."]),
+    ("unused_alts", &[".", "0,0", "c008000000000000", "7"]),
+];

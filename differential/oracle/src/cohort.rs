@@ -1,0 +1,279 @@
+//! cohort.kv, clip.kv and reference.kv: read and written.
+
+use crate::text::*;
+use std::fs;
+use std::path::Path;
+
+pub use stand_ins::reference::Stretch;
+
+#[derive(Debug, Clone, PartialEq, Eq)]
+pub struct Site {
+    pub sample: usize,
+    pub contig: String,
+    pub start: u64,
+    pub end: u64,
+    pub ref_allele: String,
+    pub alts: Vec<String>,
+    pub gq: Option<u32>,
+    pub dp: Option<u32>,
+    pub ad: Option<Vec<u32>>,
+    pub pl: Option<Vec<u32>>,
+}
+
+impl Site {
+    pub fn is_block(&self) -> bool {
+        is_block(&self.alts)
+    }
+
+    pub fn covers(&self, position: u64) -> bool {
+        self.start <= position && position <= self.end
+    }
+}
+
+#[derive(Debug, Clone, PartialEq, Eq, Default)]
+pub struct Cohort {
+    pub samples: Vec<String>,
+    pub sites: Vec<Site>,
+}
+
+#[derive(Debug, Clone, PartialEq, Eq)]
+pub struct ClipSpan {
+    pub contig: String,
+    pub start: u64,
+    pub end: u64,
+}
+
+/// What one call is lent.
+#[derive(Debug, Clone, PartialEq, Eq, Default)]
+pub struct Lent {
+    pub cohort: Cohort,
+    pub clip: Option<Vec<ClipSpan>>,
+    pub reference: Option<Vec<Stretch>>,
+}
+
+impl Lent {
+    /// Reads cohort.kv and, where they are there, clip.kv and reference.kv of a folder.
+    pub fn read(folder: &Path, rules: Rules) -> Result<Lent, String> {
+        let file = |name: &str| -> Result<Option<String>, String> {
+            let path = folder.join(name);
+            if !path.exists() {
+                return Ok(None);
+            }
+            match fs::read_to_string(&path) {
+                Ok(text) => Ok(Some(text)),
+                Err(e) => Err(format!("{}: {e}", path.display())),
+            }
+        };
+        let at = |name: &str, r: Refusal| format!("{}: {r}", folder.join(name).display());
+        let cohort = file("cohort.kv")?.unwrap_or_default();
+        let mut lent = Lent {
+            cohort: read_cohort(&cohort, rules).map_err(|r| at("cohort.kv", r))?,
+            clip: None,
+            reference: None,
+        };
+        if let Some(text) = file("clip.kv")? {
+            lent.clip = Some(read_clip(&text, rules).map_err(|r| at("clip.kv", r))?);
+        }
+        if let Some(text) = file("reference.kv")? {
+            lent.reference = Some(read_reference(&text).map_err(|r| at("reference.kv", r))?);
+        }
+        Ok(lent)
+    }
+
+    /// The files of this call, by name.
+    pub fn files(&self) -> Vec<(&'static str, String)> {
+        let mut files = vec![("cohort.kv", write_cohort(&self.cohort))];
+        if let Some(clip) = &self.clip {
+            files.push(("clip.kv", write_clip(clip)));
+        }
+        if let Some(reference) = &self.reference {
+            files.push(("reference.kv", write_reference(reference)));
+        }
+        files
+    }
+}
+
+pub fn read_header(lines: &mut Lines, rules: Rules) -> Result<Vec<String>, Refusal> {
+    let count = number(lines.value("samples")?)? as usize;
+    if rules == Rules::On && !(1..=MAX_SAMPLES).contains(&count) {
+        return refuse(2, format!("{count} samples"));
+    }
+    let mut samples: Vec<String> = Vec::new();
+    for _ in 0..count {
+        let sample = name(lines.value("sample")?)?;
+        if rules == Rules::On && samples.contains(&sample) {
+            return refuse(3, format!("sample `{sample}` stands twice"));
+        }
+        samples.push(sample);
+    }
+    Ok(samples)
+}
+
+pub fn read_cohort(text: &str, rules: Rules) -> Result<Cohort, Refusal> {
+    let mut lines = Lines::new(text)?;
+    let samples = read_header(&mut lines, rules)?;
+    let mut sites = Vec::new();
+    while !lines.ended() {
+        let site = read_site(&mut lines, rules)?;
+        if rules == Rules::Off {
+            sites.push(site);
+            continue;
+        }
+        if sites.len() == MAX_SITES {
+            return refuse(2, "more than 4,096 sites");
+        }
+        check_site(&site, samples.len()).map_err(|r| Refusal {
+            number: r.number,
+            message: format!("site {} (from 0): {}", sites.len(), r.message),
+        })?;
+        sites.push(site);
+    }
+    Ok(Cohort { samples, sites })
+}
+
+fn read_site(lines: &mut Lines, rules: Rules) -> Result<Site, Refusal> {
+    Ok(Site {
+        sample: number(lines.value("site")?)? as usize,
+        contig: name(lines.value("contig")?)?,
+        start: position(lines.value("start")?, rules)?,
+        end: position(lines.value("end")?, rules)?,
+        ref_allele: lines.value("ref")?.to_string(),
+        alts: split(lines.value("alt")?),
+        gq: optional_number(lines.value("gq")?, rules)?,
+        dp: optional_number(lines.value("dp")?, rules)?,
+        ad: optional_numbers(lines.value("ad")?, rules)?,
+        pl: optional_numbers(lines.value("pl")?, rules)?,
+    })
+}
+
+pub fn split(value: &str) -> Vec<String> {
+    value.split(',').map(str::to_string).collect()
+}
+
+/// The rules of one site group past its spelling: refusals 3 to 8.
+pub fn check_site(site: &Site, samples: usize) -> Result<(), Refusal> {
+    if site.sample >= samples {
+        return refuse(3, format!("no sample {}", site.sample));
+    }
+    if site.start == 0 || site.end < site.start {
+        return refuse(4, format!("positions {} to {}", site.start, site.end));
+    }
+    check_alleles(&site.ref_allele, &site.alts, 8, 128)?;
+    if !site.alts.iter().any(|a| a == NON_REF) {
+        return refuse(6, "<NON_REF> is absent");
+    }
+    if site.is_block() {
+        if site.ref_allele.len() != 1 {
+            return refuse(7, "a block has a one-letter REF");
+        }
+    } else if site.end != site.start + site.ref_allele.len() as u64 - 1 {
+        return refuse(7, "a site that is no block ends with its REF");
+    }
+    let n = 1 + site.alts.len();
+    if site.pl.as_ref().is_some_and(|pl| pl.len() != pairs(n)) {
+        return refuse(8, "PL count");
+    }
+    if site.ad.as_ref().is_some_and(|ad| ad.len() > n) {
+        return refuse(8, "AD count");
+    }
+    Ok(())
+}
+
+pub fn read_clip(text: &str, rules: Rules) -> Result<Vec<ClipSpan>, Refusal> {
+    let mut lines = Lines::new(text).map_err(lent_fault)?;
+    let mut spans = Vec::new();
+    while !lines.ended() {
+        spans.push(read_clip_span(&mut lines, rules).map_err(lent_fault)?);
+    }
+    Ok(spans)
+}
+
+fn read_clip_span(lines: &mut Lines, rules: Rules) -> Result<ClipSpan, Refusal> {
+    let span = ClipSpan {
+        contig: name(lines.value("contig")?)?,
+        start: number(lines.value("start")?)?,
+        end: number(lines.value("end")?)?,
+    };
+    if rules == Rules::On && (span.start == 0 || span.end < span.start) {
+        return refuse(9, format!("span {} to {}", span.start, span.end));
+    }
+    Ok(span)
+}
+
+pub fn read_reference(text: &str) -> Result<Vec<Stretch>, Refusal> {
+    let mut lines = Lines::new(text).map_err(lent_fault)?;
+    let mut stretches = Vec::new();
+    while !lines.ended() {
+        stretches.push(read_stretch(&mut lines).map_err(lent_fault)?);
+    }
+    Ok(stretches)
+}
+
+fn read_stretch(lines: &mut Lines) -> Result<Stretch, Refusal> {
+    let stretch = Stretch {
+        contig: name(lines.value("contig")?)?,
+        first: number(lines.value("first")?)?,
+        bases: lines.value("bases")?.to_string(),
+    };
+    if stretch.first == 0 || !is_letters(&stretch.bases, MAX_TEXT) {
+        return refuse(9, "reference group");
+    }
+    if stretch.first + stretch.bases.len() as u64 - 1 > MAX_NUMBER {
+        return refuse(9, "the reference group goes past 2147483647");
+    }
+    Ok(stretch)
+}
+
+/// A fault in a clip or reference group is 9, but too long a text is 2.
+fn lent_fault(r: Refusal) -> Refusal {
+    Refusal {
+        number: if r.number == 2 { 2 } else { 9 },
+        message: r.message,
+    }
+}
+
+pub fn write_header(samples: &[String]) -> String {
+    let mut out = String::new();
+    line(&mut out, "samples", samples.len().to_string());
+    for sample in samples {
+        line(&mut out, "sample", sample);
+    }
+    out
+}
+
+pub fn write_cohort(cohort: &Cohort) -> String {
+    let mut out = write_header(&cohort.samples);
+    for s in &cohort.sites {
+        line(&mut out, "site", s.sample.to_string());
+        line(&mut out, "contig", &s.contig);
+        line(&mut out, "start", s.start.to_string());
+        line(&mut out, "end", s.end.to_string());
+        line(&mut out, "ref", &s.ref_allele);
+        line(&mut out, "alt", comma(&s.alts));
+        line(&mut out, "gq", or_dot(s.gq));
+        line(&mut out, "dp", or_dot(s.dp));
+        line(&mut out, "ad", comma_or_dot(&s.ad));
+        line(&mut out, "pl", comma_or_dot(&s.pl));
+    }
+    out
+}
+
+pub fn write_clip(spans: &[ClipSpan]) -> String {
+    let mut out = String::new();
+    for s in spans {
+        line(&mut out, "contig", &s.contig);
+        line(&mut out, "start", s.start.to_string());
+        line(&mut out, "end", s.end.to_string());
+    }
+    out
+}
+
+pub fn write_reference(stretches: &[Stretch]) -> String {
+    let mut out = String::new();
+    for s in stretches {
+        line(&mut out, "contig", &s.contig);
+        line(&mut out, "first", s.first.to_string());
+        line(&mut out, "bases", &s.bases);
+    }
+    out
+}

@@ -1,0 +1,179 @@
+//! What the scope refuses and the Rust does not: a plain walk over intervals, written from the
+//! scope's rules, that says whether a call is one on which both are compared.
+
+use crate::cohort::{Lent, Site};
+use crate::text::*;
+use std::collections::BTreeSet;
+
+/// A kept interval with the site taken from each sample that has one, lowest sample first.
+pub struct Interval<'a> {
+    pub contig: &'a str,
+    pub start: u64,
+    pub end: u64,
+    pub taken: Vec<&'a Site>,
+}
+
+impl Interval<'_> {
+    /// No taken site starts here, so REF is a reference letter.
+    pub fn needs_letter(&self) -> bool {
+        self.taken.iter().all(|s| s.start != self.start)
+    }
+}
+
+pub fn contigs(lent: &Lent) -> BTreeSet<&str> {
+    lent.cohort
+        .sites
+        .iter()
+        .map(|s| s.contig.as_str())
+        .collect()
+}
+
+pub fn breakpoints(lent: &Lent, contig: &str) -> BTreeSet<u64> {
+    let mut places = BTreeSet::new();
+    for s in lent.cohort.sites.iter().filter(|s| s.contig == contig) {
+        places.insert(s.start);
+        places.insert(s.end + 1);
+        if !s.is_block() {
+            places.extend(s.start + 1..=s.end);
+        }
+    }
+    for s in lent.clip.iter().flatten().filter(|s| s.contig == contig) {
+        places.insert(s.start);
+        places.insert(s.end + 1);
+    }
+    places
+}
+
+/// The kept intervals of a contig that some sample has a site over.
+pub fn intervals<'a>(lent: &'a Lent, contig: &'a str) -> Vec<Interval<'a>> {
+    let sites: Vec<&Site> = lent
+        .cohort
+        .sites
+        .iter()
+        .filter(|s| s.contig == contig)
+        .collect();
+    let places: Vec<u64> = breakpoints(lent, contig).into_iter().collect();
+    let mut found = Vec::new();
+    for pair in places.windows(2) {
+        let (start, end) = (pair[0], pair[1] - 1);
+        if !kept(lent, contig, start, end) {
+            continue;
+        }
+        let taken: Vec<&Site> = (0..lent.cohort.samples.len())
+            .filter_map(|sample| {
+                sites
+                    .iter()
+                    .copied()
+                    .find(|s| s.sample == sample && s.covers(start))
+            })
+            .collect();
+        if !taken.is_empty() {
+            found.push(Interval {
+                contig,
+                start,
+                end,
+                taken,
+            });
+        }
+    }
+    found
+}
+
+fn kept(lent: &Lent, contig: &str, start: u64, end: u64) -> bool {
+    match &lent.clip {
+        None => true,
+        Some(spans) => spans
+            .iter()
+            .any(|s| s.contig == contig && s.start <= start && end <= s.end),
+    }
+}
+
+/// Refusals 11 to 13, and (number 0) reference groups that disagree at a needed position.
+pub fn check(lent: &Lent) -> Result<(), Refusal> {
+    for contig in contigs(lent) {
+        for interval in intervals(lent, contig) {
+            check_letter(lent, &interval)?;
+            check_refs(&interval)?;
+            let alleles = merged_alleles(&interval);
+            if alleles > MAX_MERGED_ALLELES {
+                let at = interval.start;
+                return refuse(13, format!("{alleles} merged alleles at {contig}:{at}"));
+            }
+        }
+    }
+    Ok(())
+}
+
+fn check_letter(lent: &Lent, interval: &Interval) -> Result<(), Refusal> {
+    let Some(stretches) = &lent.reference else {
+        return Ok(());
+    };
+    if !interval.needs_letter() {
+        return Ok(());
+    }
+    let letters: BTreeSet<u8> = stretches
+        .iter()
+        .filter(|s| s.contig == interval.contig && s.first <= interval.start)
+        .filter_map(|s| {
+            s.bases
+                .as_bytes()
+                .get((interval.start - s.first) as usize)
+                .copied()
+        })
+        .collect();
+    let place = format!("{}:{}", interval.contig, interval.start);
+    match letters.len() {
+        0 => refuse(11, format!("no reference letter at {place}")),
+        1 => Ok(()),
+        _ => refuse(
+            0,
+            format!("reference groups disagree at {place}: not compared"),
+        ),
+    }
+}
+
+fn check_refs(interval: &Interval) -> Result<(), Refusal> {
+    let longest = longest_ref(interval);
+    for s in interval.taken.iter().filter(|s| s.start == interval.start) {
+        if !longest.starts_with(&s.ref_allele) {
+            return refuse(
+                12,
+                format!(
+                    "REF {} is no prefix of {longest} at {}:{}",
+                    s.ref_allele, interval.contig, interval.start
+                ),
+            );
+        }
+    }
+    Ok(())
+}
+
+fn longest_ref<'a>(interval: &Interval<'a>) -> &'a str {
+    interval
+        .taken
+        .iter()
+        .filter(|s| s.start == interval.start)
+        .map(|s| s.ref_allele.as_str())
+        .max_by_key(|r| r.len())
+        .unwrap_or("")
+}
+
+fn merged_alleles(interval: &Interval) -> usize {
+    let longest = longest_ref(interval);
+    let mut letter_alts = BTreeSet::new();
+    let mut span_del = false;
+    for s in &interval.taken {
+        if s.start != interval.start {
+            span_del |= !s.is_block();
+            continue;
+        }
+        for alt in &s.alts {
+            if alt == SPAN_DEL {
+                span_del = true;
+            } else if alt != NON_REF {
+                letter_alts.insert(format!("{alt}{}", &longest[s.ref_allele.len()..]));
+            }
+        }
+    }
+    2 + letter_alts.len() + usize::from(span_del)
+}
