@@ -1,0 +1,132 @@
+-- The line at an offset: where it ends, its key and its value. And a value that is read further.
+use Prim.Native.Nat.{_+_, _-_, _<_, _≤_, ℕ}
+use lib.ListN.{drop, getD, length, length-take}
+use lib.Seq.{drop-drop}
+use mathlib.Core.Bool.{false, true}
+use mathlib.Core.List.{List, _∷_}
+use mathlib.Core.Option.{Option, bind, none, some}
+use mathlib.Core.Path.{_∙_, _≡_, ap, refl}
+use native.Mathlib.Decide.{decLt}
+use native.Mathlib.Numerals.{add-one}
+use native.Mathlib.Omega.{arith}
+use Rattle.definitions.specs.Bytes.{lineFeed, sameBytes, stripPrefix, text}
+use Rattle.definitions.specs.Lines.{linesOf, valueOf}
+use Rattle.definitions.specs.Lists.{isThere}
+use Rattle.definitions.specs.Numbers.{orMissing}
+use Rattle.laws.proofs.Bytes.{strip-prefix-back}
+use Rattle.laws.proofs.Lines.{lines-at, lines-end, lines-unended-at}
+use Rattle.laws.proofs.Tests.{not-none, some-same}
+use Rattle.kv_text.proofs.Fields.{drop-take, field-ended, field-forward, field-has-none, field-within}
+use Rattle.kv_text.specs.Fields.{between, fieldLength}
+use Rattle.kv_text.specs.Lines.{LineReads, lineValue, readTo, unread}
+
+-- ---- options
+
+pub is-there : {A : Type 0} (o : Option A) → isThere o ≡ true → (a : A) × (o ≡ some a)
+unfolding isThere
+is-there none h = absurd (let z : _≡_ {A = ℕ} 0 1 = cc in omega arith)
+is-there (some a) h = (a, refl)
+
+pub not-there : {A : Type 0} (o : Option A) → isThere o ≡ false → o ≡ none
+unfolding isThere
+not-there none h = refl
+not-there (some a) h = absurd (let z : _≡_ {A = ℕ} 0 1 = cc in omega arith)
+
+-- ---- the line at an offset, which ends at e
+
+module _ (s : List ℕ) (at : ℕ) (key : List ℕ) (e : ℕ) (ends : e ≡ at + fieldLength 10 (drop at s)) where
+  -- no LF is left
+  no-line : length s ≤ e → getD (linesOf (drop at s)) 0 none ≡ none
+  unfolding lineFeed
+  no-line h = go (decLt at (length s))
+    where
+      go : Dec (at < length s) → getD (linesOf (drop at s)) 0 none ≡ none
+      go (yes l) =
+          let whole : e ≤ length s = field-within 10 s at e ends (omega arith) in
+          rw (lines-unended-at s at (e - at) (omega arith) (omega arith) (field-has-none 10 s at e ends))
+      go (no l) = rw (lines-end s at (omega arith))
+
+  pub line-absent : length s ≤ e → LineReads s at key some unread
+  unfolding LineReads lineValue valueOf bind
+  line-absent h = rw (no-line h)
+
+  the-lines : e < length s → linesOf (drop at s) ≡ some (between s at e) ∷ linesOf (drop (e + 1) s)
+  unfolding lineFeed
+  the-lines h =
+      let fits : at + (e - at) ≡ e = omega (arith, field-forward 10 s at e ends) in
+      lines-at s at (e - at) (omega arith) (field-has-none 10 s at e ends) (rw fits (field-ended 10 s at e ends h)) ∙ rw (fits, add-one e)
+
+  pub line-other-key : e < length s → isThere (stripPrefix key (between s at e)) ≡ false → LineReads s at key some unread
+  unfolding LineReads lineValue valueOf bind
+  line-other-key h f = rw (the-lines h) (rw (not-there (stripPrefix key (between s at e)) f))
+
+  pub key-fits : isThere (stripPrefix key (between s at e)) ≡ true → at + length key ≤ e
+  key-fits f =
+      let w = is-there (stripPrefix key (between s at e)) f in
+      let p = strip-prefix-back key (between s at e) (w .0) (w .1) in
+      omega (arith, p .1, length-take (e - at) (drop at s), field-forward 10 s at e ends)
+
+  pub line-with-key : e < length s → isThere (stripPrefix key (between s at e)) ≡ true
+      → LineReads s at key some (readTo (between s (at + length key) e) e)
+  unfolding LineReads lineValue valueOf bind
+  line-with-key h f =
+      let w = is-there (stripPrefix key (between s at e)) f in
+      let p = strip-prefix-back key (between s at e) (w .0) (w .1) in
+      let m : e - at - length key ≡ e - (at + length key) = omega arith in
+      let g : w .0 ≡ between s (at + length key) e = p .0 ∙ drop-take (length key) (e - at) (drop at s) ∙ rw (drop-drop, m) in
+      record {
+        value = rw (the-lines h) (rw (w .1) (ap {B = Option (List ℕ)} some g));
+        forward = field-forward 10 s at e ends;
+        within = h;
+        rest = rw (the-lines h);
+      }
+
+-- ---- a value that is read further
+
+module _ {A : Type 0} (s : List ℕ) (at : ℕ) (key : List ℕ) (read : List ℕ → Option A) where
+  on-value : (o : Option (List ℕ)) {v : List ℕ} → bind o some ≡ some v → bind o read ≡ read v
+  unfolding bind
+  on-value none h = not-none h
+  on-value (some w) h = ap read (some-same h)
+
+  pub read-absent : LineReads s at key some unread → LineReads s at key read unread
+  unfolding LineReads lineValue bind
+  read-absent h = go (valueOf key (getD (linesOf (drop at s)) 0 none)) h
+    where
+      go : (o : Option (List ℕ)) → bind o some ≡ none → bind o read ≡ none
+      go none k = refl
+      go (some w) k = not-none {a = w} (let q : none ≡ some w = cc in q)
+
+  pub read-wrong : (v : List ℕ) (e : ℕ) → LineReads s at key some (readTo v e) → read v ≡ none → LineReads s at key read unread
+  unfolding LineReads lineValue
+  read-wrong v e l r = on-value (valueOf key (getD (linesOf (drop at s)) 0 none)) (l .value) ∙ r
+
+  pub read-right : (v : List ℕ) (e : ℕ) (a : A) → LineReads s at key some (readTo v e) → read v ≡ some a
+      → LineReads s at key read (readTo a e)
+  unfolding LineReads lineValue
+  read-right v e a l r = record {
+    value = on-value (valueOf key (getD (linesOf (drop at s)) 0 none)) (l .value) ∙ r;
+    forward = l .forward;
+    within = l .within;
+    rest = l .rest;
+  }
+
+pub line-within : {A : Type 0} (s : List ℕ) (at : ℕ) (key : List ℕ) (read : List ℕ → Option A) (a : A) (e : ℕ)
+    → LineReads s at key read (readTo a e) → e < length s
+unfolding LineReads
+line-within s at key read a e l = l .within
+
+-- ---- what may be missing
+
+module _ {A : Type 0} (read : List ℕ → Option A) (s : List ℕ) where
+  pub missing-dot : sameBytes s (text ".") ≡ true → orMissing read s ≡ some none
+  unfolding orMissing
+  missing-dot h = rw h
+
+  pub missing-some : (a : A) → sameBytes s (text ".") ≡ false → read s ≡ some a → orMissing read s ≡ some (some a)
+  unfolding orMissing
+  missing-some a h r = rw (h, r)
+
+  pub missing-none : sameBytes s (text ".") ≡ false → read s ≡ none → orMissing read s ≡ none
+  unfolding orMissing
+  missing-none h r = rw (h, r)

@@ -1,0 +1,67 @@
+-- What reading the line at an offset of a text finds.
+use Prim.Native.Nat.{_+_, _<_, _≤_, ℕ}
+use lib.ListN.{drop, getD, length}
+use mathlib.Core.List.{List}
+use mathlib.Core.Option.{Option, bind, none, some}
+use mathlib.Core.Path.{_≡_}
+use Rattle.definitions.specs.Bytes.{comma, fieldsOf}
+use Rattle.definitions.specs.Lines.{linesOf, valueOf}
+use Rattle.kv_text.specs.Fields.{between, firstNumbers}
+use Rattle.kv_text.specs.declared.ListAt.{ListAt}
+use Rattle.kv_text.specs.declared.ListAt.the-variants as list
+use Rattle.kv_text.specs.declared.NumberAt.{NumberAt}
+use Rattle.kv_text.specs.declared.NumberAt.the-variants as one
+use Rattle.kv_text.specs.declared.OptionalAt.{OptionalAt}
+use Rattle.kv_text.specs.declared.OptionalAt.the-variants as optional
+use Rattle.kv_text.specs.declared.ValueAt.{ValueAt}
+use Rattle.kv_text.specs.declared.ValueAt.the-variants as value
+
+-- nothing, or what was read and where its LF stands
+pub data LineFound (A : Type 0) : Type 0 where
+  unread : LineFound A
+  readTo : A → ℕ → LineFound A
+
+-- the first line of a text from an offset on, if it has this key and a value that reads
+unfoldable pub lineValue : {A : Type 0} → List ℕ → ℕ → List ℕ → (List ℕ → Option A) → Option A
+lineValue s at key read = bind (valueOf key (getD (linesOf (drop at s)) 0 none)) read
+
+-- the line at the offset reads as this, its LF stands at e, and the lines behind it are those from e + 1 on
+pub record LineTo {A : Type 0} (s : List ℕ) (at : ℕ) (key : List ℕ) (read : List ℕ → Option A) (a : A) (e : ℕ) : Type 0 where
+  pub value : lineValue s at key read ≡ some a
+  pub forward : at ≤ e
+  pub within : e < length s
+  pub rest : drop 1 (linesOf (drop at s)) ≡ linesOf (drop (e + 1) s)
+
+unfoldable pub LineReads : {A : Type 0} → List ℕ → ℕ → List ℕ → (List ℕ → Option A) → LineFound A → Type 0
+LineReads s at key read unread = lineValue s at key read ≡ none
+LineReads s at key read (readTo a e) = LineTo s at key read a e
+
+-- the answers
+abbrev pub valueFound : List ℕ → ValueAt → LineFound (List ℕ)
+valueFound s (value.At a e) = readTo (between s a e) e
+valueFound s value.Absent = unread
+
+-- the value stands before its LF
+abbrev pub Ordered : ValueAt → Type 0
+Ordered (value.At a e) = a ≤ e
+Ordered value.Absent = Unit {0}
+
+abbrev pub numberFound : NumberAt → LineFound ℕ
+numberFound (one.Found n e) = readTo n e
+numberFound one.Wrong = unread
+
+abbrev pub optionalFound : OptionalAt → LineFound (Option ℕ)
+optionalFound (optional.Missing e) = readTo none e
+optionalFound (optional.Found n e) = readTo (some n) e
+optionalFound optional.Wrong = unread
+
+abbrev pub listFound : List ℕ → ListAt → LineFound (Option (List ℕ))
+listFound s (list.Missing e) = readTo none e
+listFound s (list.Found a e n) = readTo (some (firstNumbers (fieldsOf comma (between s a e)))) e
+listFound s list.Wrong = unread
+
+-- the list stands before its LF and has so many numbers
+abbrev pub listCount : List ℕ → ListAt → Type 0
+listCount s (list.Missing e) = Unit {0}
+listCount s (list.Found a e n) = (a ≤ e) × (n ≡ length (firstNumbers (fieldsOf comma (between s a e))))
+listCount s list.Wrong = Unit {0}

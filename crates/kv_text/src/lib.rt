@@ -1,0 +1,414 @@
+// Reading: fields, numbers, names, alleles and lines at an offset of a lent text. Every offset is taken; past the end there is nothing.
+ghost use mathlib.Core.Path.{_≡_};
+ghost use mathlib.Core.Option.{some};
+ghost use Prim.Native.Nat.{_+_};
+ghost use lib.ListN.{drop, length, set};
+ghost use lib.Seq.{sets};
+ghost use Rattle.definitions.specs.Alleles.{alleleOf, isLetter, lettersOf};
+ghost use Rattle.definitions.specs.Bytes.{comma, compareBytes, fieldsOf, sameBytes, stripPrefix};
+ghost use Rattle.definitions.specs.Lists.{isThere};
+ghost use Rattle.definitions.specs.Numbers.{isDigit, isNameByte, name, noLeadingZero, number, numberList, orMissing};
+ghost use Rattle.kv_text.specs.Fields.{FieldFound, alleleRead, fieldLength, firstNumbers, numberRead, numbersRead, orderOf};
+ghost use Rattle.kv_text.specs.Lines.{LineReads, Ordered, listCount, listFound, numberFound, optionalFound, valueFound};
+
+// ---- bytes
+
+// How two byte strings stand to each other in byte order.
+pub enum Order {
+    Less,
+    Same,
+    Greater,
+}
+
+// Byte order: by the first byte that differs; a prefix comes first.
+pub fn compare_bytes(a: &[u8], b: &[u8]) -> Order
+    ensures { λ r. ⌜ orderOf r ≡ compareBytes (now (a .entry)) (now (b .entry)) ⌝ }
+{
+    let mut i = 0;
+    while i < a.len() {
+        if b.len() <= i {
+            return Order::Greater;
+        }
+        if a[i] < b[i] {
+            return Order::Less;
+        }
+        if b[i] < a[i] {
+            return Order::Greater;
+        }
+        i += 1;
+    }
+    if i < b.len() {
+        return Order::Less;
+    }
+    Order::Same
+}
+
+// The same bytes.
+pub fn same_bytes(a: &[u8], b: &[u8]) -> bool
+    ensures { λ r. ⌜ r ≡ sameBytes (now (a .entry)) (now (b .entry)) ⌝ }
+{
+    let order = compare_bytes(a, b);
+    match order {
+        Order::Same => true,
+        Order::Less => false,
+        Order::Greater => false,
+    }
+}
+
+// Whether a text begins with a key.
+fn has_key(line: &[u8], key: &[u8]) -> bool
+    ensures { λ r. ⌜ r ≡ isThere (stripPrefix (now (key .entry)) (now (line .entry))) ⌝ }
+{
+    let mut i = 0;
+    while i < key.len() {
+        if line.len() <= i {
+            return false;
+        }
+        if key[i] != line[i] {
+            return false;
+        }
+        i += 1;
+    }
+    true
+}
+
+// ---- fields
+
+// Where the field at an offset ends: the first separator there or after, or the end of the text.
+pub fn field_end(s: &[u8], at: usize, separator: u8) -> usize
+    ensures { λ r. ⌜ r ≡ at + fieldLength separator (drop at (now (s .entry))) ⌝ }
+{
+    let mut i = at;
+    while i < s.len() {
+        if s[i] == separator {
+            return i;
+        }
+        i += 1;
+    }
+    i
+}
+
+// Where a field stands: from an offset to just before another.
+pub enum FieldAt {
+    At(usize, usize),
+    Absent,
+}
+
+// The field with this number, from 0, of a text.
+pub fn field_at(s: &[u8], separator: u8, number: usize) -> FieldAt
+    ensures { λ r. ⌜ FieldFound (now (s .entry)) separator number r ⌝ }
+{
+    let mut left = number;
+    let mut at = 0;
+    let mut end = field_end(s, 0, separator);
+    while 0 < left {
+        if s.len() <= end {
+            return FieldAt::Absent;
+        }
+        at = end + 1;
+        end = field_end(s, at, separator);
+        left -= 1;
+    }
+    FieldAt::At(at, end)
+}
+
+// How many fields a text has: one more than separators.
+pub fn count_fields(s: &[u8], separator: u8) -> usize
+    ensures { λ r. ⌜ r ≡ length (fieldsOf separator (now (s .entry))) ⌝ }
+{
+    let mut count = 1;
+    let mut end = field_end(s, 0, separator);
+    while end < s.len() {
+        count += 1;
+        end = field_end(s, end + 1, separator);
+    }
+    count
+}
+
+// ---- numbers
+
+fn wide(x: u8) -> u64
+    ensures { λ r. ⌜ r ≡ x ⌝ }
+{
+    x as u64
+}
+
+fn is_digit(b: u8) -> bool
+    ensures { λ r. ⌜ r ≡ isDigit b ⌝ }
+{
+    48 <= b && b <= 57
+}
+
+// There is a first digit, and it is 0 only if it stands alone.
+fn no_leading_zero(s: &[u8]) -> bool
+    ensures { λ r. ⌜ r ≡ noLeadingZero (now (s .entry)) ⌝ }
+{
+    if s.len() == 0 {
+        return false;
+    }
+    if s.len() == 1 {
+        return true;
+    }
+    s[0] != 48
+}
+
+// What a field spells as a number.
+pub enum NumberRead {
+    Value(u32),
+    Fault,
+}
+
+// A number in decimal digits, 0 to 2147483647, with no leading zero.
+pub fn read_number(s: &[u8]) -> NumberRead
+    ensures { λ r. ⌜ numberRead r ≡ number (now (s .entry)) ⌝ }
+{
+    if !no_leading_zero(s) {
+        return NumberRead::Fault;
+    }
+    let mut n: u64 = 0;
+    let mut i = 0;
+    while i < s.len() {
+        let b = s[i];
+        if !is_digit(b) {
+            return NumberRead::Fault;
+        }
+        let v = n * 10 + (wide(b) - 48);
+        if 2147483647 < v {
+            return NumberRead::Fault;
+        }
+        n = v;
+        i += 1;
+    }
+    NumberRead::Value(n as u32)
+}
+
+// What a field spells as a list of numbers.
+pub enum NumbersRead {
+    Count(usize),
+    Fault,
+}
+
+// Stores a number at a place, if there is one.
+fn store(out: &mut [u32], place: usize, n: u32)
+    ensures { λ _. ⌜ now (out .exit) ≡ set (now (out .entry)) place n ⌝ }
+{
+    if place < out.len() {
+        out[place] = n;
+    }
+}
+
+// The numbers of a list with commas, as many as fit, into a slice; at a fault, those before it.
+pub fn read_numbers(s: &[u8], out: &mut [u32]) -> NumbersRead
+    ensures { λ r. ⌜ numbersRead r (now (s .entry)) × (now (out .exit) ≡ sets (now (out .entry)) 0 (firstNumbers (fieldsOf comma (now (s .entry))))) ⌝ }
+{
+    let mut at = 0;
+    let mut count = 0;
+    loop {
+        let end = field_end(s, at, b',');
+        let n = read_number(&s[at..end]);
+        let NumberRead::Value(v) = n else {
+            return NumbersRead::Fault;
+        };
+        store(out, count, v);
+        count += 1;
+        if s.len() <= end {
+            return NumbersRead::Count(count);
+        }
+        at = end + 1;
+    }
+}
+
+// ---- names and alleles
+
+fn is_name_byte(b: u8) -> bool
+    ensures { λ r. ⌜ r ≡ isNameByte b ⌝ }
+{
+    if b < 33 {
+        return false;
+    }
+    if 126 < b {
+        return false;
+    }
+    if b == 61 {
+        return false;
+    }
+    b != 44
+}
+
+// Whether a field is a name: 1 to 32 bytes from 33 to 126 without `=` and `,`.
+pub fn is_name(s: &[u8]) -> bool
+    ensures { λ r. ⌜ r ≡ isThere (name (now (s .entry))) ⌝ }
+{
+    if s.len() < 1 {
+        return false;
+    }
+    if 32 < s.len() {
+        return false;
+    }
+    for i in 0..s.len() {
+        if !is_name_byte(s[i]) {
+            return false;
+        }
+    }
+    true
+}
+
+// Whether a byte is one of ACGTN.
+fn is_letter(b: u8) -> bool
+    ensures { λ r. ⌜ r ≡ isLetter b ⌝ }
+{
+    match b {
+        b'A' | b'C' | b'G' | b'T' | b'N' => true,
+        _ => false,
+    }
+}
+
+// Whether a field is letters of ACGTN, 1 to `most` of them.
+pub fn is_letters(s: &[u8], most: usize) -> bool
+    ensures { λ r. ⌜ r ≡ isThere (lettersOf most (now (s .entry))) ⌝ }
+{
+    if s.len() < 1 {
+        return false;
+    }
+    if most < s.len() {
+        return false;
+    }
+    for i in 0..s.len() {
+        if !is_letter(s[i]) {
+            return false;
+        }
+    }
+    true
+}
+
+// What a field spells as an ALT.
+pub enum AlleleRead {
+    Letters,
+    SpanDel,
+    NonRef,
+    Fault,
+}
+
+// An ALT: letters, `*` or `<NON_REF>`.
+pub fn read_allele(s: &[u8], most: usize) -> AlleleRead
+    ensures { λ r. ⌜ alleleRead r (now (s .entry)) ≡ alleleOf most (now (s .entry)) ⌝ }
+{
+    if same_bytes(s, b"*") {
+        return AlleleRead::SpanDel;
+    }
+    if same_bytes(s, b"<NON_REF>") {
+        return AlleleRead::NonRef;
+    }
+    if is_letters(s, most) {
+        return AlleleRead::Letters;
+    }
+    AlleleRead::Fault
+}
+
+// ---- lines
+
+// Where the value of a line stands, from an offset to the line's LF.
+pub enum ValueAt {
+    At(usize, usize),
+    Absent,
+}
+
+// The value of the line at an offset, which must have this key; keys are given with their `=`.
+pub fn value_line(s: &[u8], at: usize, key: &[u8]) -> ValueAt
+    ensures { λ r. ⌜ LineReads (now (s .entry)) at (now (key .entry)) some (valueFound (now (s .entry)) r) × Ordered r ⌝ }
+{
+    let end = field_end(s, at, b'\n');
+    if end >= s.len() {
+        return ValueAt::Absent;
+    }
+    if !has_key(&s[at..end], key) {
+        return ValueAt::Absent;
+    }
+    ValueAt::At(at + key.len(), end)
+}
+
+// A number, and where its line ends.
+pub enum NumberAt {
+    Found(u32, usize),
+    Wrong,
+}
+
+// The number in the line at an offset.
+pub fn number_line(s: &[u8], at: usize, key: &[u8]) -> NumberAt
+    ensures { λ r. ⌜ LineReads (now (s .entry)) at (now (key .entry)) number (numberFound r) ⌝ }
+{
+    let v = value_line(s, at, key);
+    let ValueAt::At(a, e) = v else {
+        return NumberAt::Wrong;
+    };
+    let n = read_number(&s[a..e]);
+    match n {
+        NumberRead::Value(n) => NumberAt::Found(n, e),
+        NumberRead::Fault => NumberAt::Wrong,
+    }
+}
+
+// The name in the line at an offset.
+pub fn name_line(s: &[u8], at: usize, key: &[u8]) -> ValueAt
+    ensures { λ r. ⌜ LineReads (now (s .entry)) at (now (key .entry)) name (valueFound (now (s .entry)) r) × Ordered r ⌝ }
+{
+    let v = value_line(s, at, key);
+    let ValueAt::At(a, e) = v else {
+        return ValueAt::Absent;
+    };
+    if is_name(&s[a..e]) {
+        return ValueAt::At(a, e);
+    }
+    ValueAt::Absent
+}
+
+// A number that may be missing, and where its line ends.
+pub enum OptionalAt {
+    Missing(usize),
+    Found(u32, usize),
+    Wrong,
+}
+
+// The number, or `.`, in the line at an offset.
+pub fn optional_number_line(s: &[u8], at: usize, key: &[u8]) -> OptionalAt
+    ensures { λ r. ⌜ LineReads (now (s .entry)) at (now (key .entry)) (orMissing number) (optionalFound r) ⌝ }
+{
+    let v = value_line(s, at, key);
+    let ValueAt::At(a, e) = v else {
+        return OptionalAt::Wrong;
+    };
+    if same_bytes(&s[a..e], b".") {
+        return OptionalAt::Missing(e);
+    }
+    let n = read_number(&s[a..e]);
+    match n {
+        NumberRead::Value(n) => OptionalAt::Found(n, e),
+        NumberRead::Fault => OptionalAt::Wrong,
+    }
+}
+
+// A list of numbers that may be missing: where it stands, to its line's LF, and how many numbers it has.
+pub enum ListAt {
+    Missing(usize),
+    Found(usize, usize, usize),
+    Wrong,
+}
+
+// The list of numbers, or `.`, in the line at an offset.
+pub fn optional_numbers_line(s: &[u8], at: usize, key: &[u8]) -> ListAt
+    ensures { λ r. ⌜ LineReads (now (s .entry)) at (now (key .entry)) (orMissing numberList) (listFound (now (s .entry)) r) × listCount (now (s .entry)) r ⌝ }
+{
+    let v = value_line(s, at, key);
+    let ValueAt::At(a, e) = v else {
+        return ListAt::Wrong;
+    };
+    if same_bytes(&s[a..e], b".") {
+        return ListAt::Missing(e);
+    }
+    let mut room = [0u32; 1];
+    let n = read_numbers(&s[a..e], &mut room[..0]);
+    match n {
+        NumbersRead::Count(count) => ListAt::Found(a, e, count),
+        NumbersRead::Fault => ListAt::Wrong,
+    }
+}
