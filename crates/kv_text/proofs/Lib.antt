@@ -1,4 +1,5 @@
 pub mod Tested
 pub mod Fields
-pub mod Lines
 pub mod Numbers
+pub mod Lines
+pub mod Groups

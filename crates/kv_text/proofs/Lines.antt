@@ -3,7 +3,7 @@ use Prim.Native.Nat.{_+_, _-_, _<_, _≤_, ℕ}
 use lib.ListN.{drop, getD, length, length-take}
 use lib.Seq.{drop-drop}
 use mathlib.Core.Bool.{false, true}
-use mathlib.Core.List.{List, _∷_}
+use mathlib.Core.List.{List, [], _∷_}
 use mathlib.Core.Option.{Option, bind, none, some}
 use mathlib.Core.Path.{_∙_, _≡_, ap, refl}
 use native.Mathlib.Decide.{decLt}
@@ -34,31 +34,35 @@ not-there (some a) h = absurd (let z : _≡_ {A = ℕ} 0 1 = cc in omega arith)
 
 -- ---- the line at an offset, which ends at e
 
-module _ (s : List ℕ) (at : ℕ) (key : List ℕ) (e : ℕ) (ends : e ≡ at + fieldLength 10 (drop at s)) where
+module _ (s : List ℕ) (at e : ℕ) (ends : e ≡ at + fieldLength 10 (drop at s)) where
   -- no LF is left
-  no-line : length s ≤ e → getD (linesOf (drop at s)) 0 none ≡ none
+  pub unended : at < length s → length s ≤ e → linesOf (drop at s) ≡ none ∷ []
   unfolding lineFeed
+  unended l h =
+      let whole : e ≤ length s = field-within 10 s at e ends (omega arith) in
+      lines-unended-at s at (e - at) (omega arith) (omega arith) (field-has-none 10 s at e ends)
+
+  no-line : length s ≤ e → getD (linesOf (drop at s)) 0 none ≡ none
   no-line h = go (decLt at (length s))
     where
       go : Dec (at < length s) → getD (linesOf (drop at s)) 0 none ≡ none
-      go (yes l) =
-          let whole : e ≤ length s = field-within 10 s at e ends (omega arith) in
-          rw (lines-unended-at s at (e - at) (omega arith) (omega arith) (field-has-none 10 s at e ends))
+      go (yes l) = rw (unended l h)
       go (no l) = rw (lines-end s at (omega arith))
 
-  pub line-absent : length s ≤ e → LineReads s at key some unread
-  unfolding LineReads lineValue valueOf bind
-  line-absent h = rw (no-line h)
-
-  the-lines : e < length s → linesOf (drop at s) ≡ some (between s at e) ∷ linesOf (drop (e + 1) s)
+  pub the-lines : e < length s → linesOf (drop at s) ≡ some (between s at e) ∷ linesOf (drop (e + 1) s)
   unfolding lineFeed
   the-lines h =
       let fits : at + (e - at) ≡ e = omega (arith, field-forward 10 s at e ends) in
       lines-at s at (e - at) (omega arith) (field-has-none 10 s at e ends) (rw fits (field-ended 10 s at e ends h)) ∙ rw (fits, add-one e)
 
+module _ (s : List ℕ) (at : ℕ) (key : List ℕ) (e : ℕ) (ends : e ≡ at + fieldLength 10 (drop at s)) where
+  pub line-absent : length s ≤ e → LineReads s at key some unread
+  unfolding LineReads lineValue valueOf bind
+  line-absent h = rw (no-line s at e ends h)
+
   pub line-other-key : e < length s → isThere (stripPrefix key (between s at e)) ≡ false → LineReads s at key some unread
   unfolding LineReads lineValue valueOf bind
-  line-other-key h f = rw (the-lines h) (rw (not-there (stripPrefix key (between s at e)) f))
+  line-other-key h f = rw (the-lines s at e ends h) (rw (not-there (stripPrefix key (between s at e)) f))
 
   pub key-fits : isThere (stripPrefix key (between s at e)) ≡ true → at + length key ≤ e
   key-fits f =
@@ -75,10 +79,10 @@ module _ (s : List ℕ) (at : ℕ) (key : List ℕ) (e : ℕ) (ends : e ≡ at +
       let m : e - at - length key ≡ e - (at + length key) = omega arith in
       let g : w .0 ≡ between s (at + length key) e = p .0 ∙ drop-take (length key) (e - at) (drop at s) ∙ rw (drop-drop, m) in
       record {
-        value = rw (the-lines h) (rw (w .1) (ap {B = Option (List ℕ)} some g));
+        value = rw (the-lines s at e ends h) (rw (w .1) (ap {B = Option (List ℕ)} some g));
         forward = field-forward 10 s at e ends;
         within = h;
-        rest = rw (the-lines h);
+        rest = rw (the-lines s at e ends h);
       }
 
 -- ---- a value that is read further
