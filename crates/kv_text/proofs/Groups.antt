@@ -17,14 +17,9 @@ use Rattle.laws.proofs.Groups.{groups-cons}
 use Rattle.laws.proofs.Lines.{lines-end}
 use Rattle.kv_text.proofs.Lines.{the-lines, unended}
 use Rattle.kv_text.specs.Fields.{fieldLength}
-use Rattle.kv_text.specs.Lines.{LineReads, lineValue, readTo, unread}
+use Rattle.kv_text.specs.Lines.{Behind, LineReads, lineValue, readTo, unread}
 
 -- ---- the lines of a group
-
--- k lines behind the offset `at₀`, the text goes on at `at`
-pub record Behind (s : List ℕ) (at₀ k at : ℕ) : Type 0 where
-  pub lines : drop k (linesOf (drop at₀ s)) ≡ linesOf (drop at s)
-  pub forward : at₀ ≤ at
 
 pub behind-start : (s : List ℕ) (at : ℕ) → Behind s at 0 at
 behind-start s at = record { lines = refl; forward = omega arith }

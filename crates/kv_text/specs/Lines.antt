@@ -36,6 +36,11 @@ unfoldable pub LineReads : {A : Type 0} → List ℕ → ℕ → List ℕ → (L
 LineReads s at key read unread = lineValue s at key read ≡ none
 LineReads s at key read (readTo a e) = LineTo s at key read a e
 
+-- k lines behind the offset `at₀`, the text goes on at `at`
+pub record Behind (s : List ℕ) (at₀ k at : ℕ) : Type 0 where
+  pub lines : drop k (linesOf (drop at₀ s)) ≡ linesOf (drop at s)
+  pub forward : at₀ ≤ at
+
 -- the answers
 abbrev pub valueFound : List ℕ → ValueAt → LineFound (List ℕ)
 valueFound s (value.At a e) = readTo (between s a e) e
