@@ -1,0 +1,132 @@
+-- What reading the lines of a site group finds.
+use Prim.Native.Nat.{_≤_, ℕ}
+use lib.Dec.{eqb, leb}
+use lib.ListN.{drop, length, take}
+use mathlib.Core.Bool.{cond}
+use mathlib.Core.List.{List}
+use mathlib.Core.Option.{Option, none, some}
+use mathlib.Core.Path.{_≡_}
+use Rattle.definitions.specs.Bytes.{comma, fieldsOf}
+use Rattle.definitions.specs.Checked.{accepted, refused}
+use Rattle.definitions.specs.Cohort.{SiteText, siteLines, siteTextOf}
+use Rattle.definitions.specs.Lines.{Line, lineAt, linesOf}
+use Rattle.definitions.specs.Lists.{onlyIf}
+use Rattle.definitions.specs.Numbers.{maxNumber, name, number, numberList, orMissing}
+use Rattle.kv_text.specs.Fields.{between, firstNumbers}
+use Rattle.kv_text.specs.Lines.{Behind, LineFound, readTo, unread}
+use Rattle.kv_text.specs.declared.NumberAt.{NumberAt}
+use Rattle.kv_text.specs.declared.NumberAt.the-variants as one
+use Rattle.cohort.specs.declared.AllelesAt.{AllelesAt}
+use Rattle.cohort.specs.declared.AllelesAt.the-variants as alleles
+use Rattle.cohort.specs.declared.NumbersPart.{NumbersPart}
+use Rattle.cohort.specs.declared.Part.{Part}
+use Rattle.cohort.specs.declared.PartAt.{PartAt}
+use Rattle.cohort.specs.declared.PartAt.the-variants as part
+use Rattle.cohort.specs.declared.PlaceAt.{PlaceAt}
+use Rattle.cohort.specs.declared.PlaceAt.the-variants as place
+use Rattle.cohort.specs.declared.SiteAlleles.{SiteAlleles}
+use Rattle.cohort.specs.declared.SitePlace.{SitePlace}
+use Rattle.cohort.specs.declared.SiteValues.{SiteValues}
+use Rattle.cohort.specs.declared.TextAt.{TextAt}
+use Rattle.cohort.specs.declared.TextAt.the-variants as text
+use Rattle.cohort.specs.declared.ValuesAt.{ValuesAt}
+use Rattle.cohort.specs.declared.ValuesAt.the-variants as values
+
+-- a number that may be missing, as code: a number past the greatest of a text is none
+unfoldable pub codeOption : ℕ → Option ℕ
+codeOption c = onlyIf (leb c maxNumber) c
+
+abbrev pub codeFound : NumberAt → LineFound (Option ℕ)
+codeFound (one.Found c e) = readTo (codeOption c) e
+codeFound one.Wrong = unread
+
+-- a list of numbers that may be missing, by where it stands and how many numbers it has: none is missing
+unfoldable pub partOption : List ℕ → ℕ → ℕ → ℕ → Option (List ℕ)
+partOption s a e n = cond (eqb n 0) none (some (firstNumbers (fieldsOf comma (between s a e))))
+
+abbrev pub partFound : List ℕ → PartAt → LineFound (Option (List ℕ))
+partFound s (part.Part a e n) = readTo (partOption s a e n) e
+partFound s part.Wrong = unread
+
+abbrev pub PartOrdered : PartAt → Type 0
+PartOrdered (part.Part a e n) = a ≤ e
+PartOrdered part.Wrong = Unit {0}
+
+-- the bytes of a part of the text
+abbrev pub bytesOf : List ℕ → Part → List ℕ
+bytesOf s p = between s (p .at) (p .end)
+
+-- the lines of the site group at an offset
+abbrev pub siteGroup : List ℕ → ℕ → List Line
+siteGroup s at = take siteLines (linesOf (drop at s))
+
+-- the first four lines of the group
+pub record PlaceLines (s : List ℕ) (at : ℕ) (p : SitePlace) : Type 0 where
+  pub sample : lineAt (siteGroup s at) 0 "site" number ≡ accepted (p .sample)
+  pub contig : lineAt (siteGroup s at) 1 "contig" name ≡ accepted (bytesOf s (p .contig))
+  pub start : lineAt (siteGroup s at) 2 "start" number ≡ accepted (p .start)
+  pub end : lineAt (siteGroup s at) 3 "end" number ≡ accepted (p .end)
+  pub ordered : p .contig .at ≤ p .contig .end
+  pub behind : Behind s at 4 (p .next)
+  pub within : p .next ≤ length s
+
+unfoldable pub PlaceRead : List ℕ → ℕ → PlaceAt → Type 0
+PlaceRead s at (place.Place p) = PlaceLines s at p
+PlaceRead s at place.Wrong = siteTextOf (siteGroup s at) ≡ refused 1
+
+-- the fifth and sixth line of the group that begins at `first`
+pub record AlleleLines (s : List ℕ) (first : ℕ) (a : SiteAlleles) : Type 0 where
+  pub ref : lineAt (siteGroup s first) 4 "ref" some ≡ accepted (bytesOf s (a .refs))
+  pub alt : lineAt (siteGroup s first) 5 "alt" some ≡ accepted (bytesOf s (a .alts))
+  pub ref-ordered : a .refs .at ≤ a .refs .end
+  pub alt-ordered : a .alts .at ≤ a .alts .end
+  pub behind : Behind s first 6 (a .next)
+  pub within : a .next ≤ length s
+
+unfoldable pub AllelesRead : List ℕ → ℕ → AllelesAt → Type 0
+AllelesRead s at (alleles.Alleles a) = (first : ℕ) → Behind s first 4 at → AlleleLines s first a
+AllelesRead s at alleles.Wrong = (first : ℕ) → Behind s first 4 at → siteTextOf (siteGroup s first) ≡ refused 1
+
+-- a list of numbers in the text
+abbrev pub numbersOf : List ℕ → NumbersPart → Option (List ℕ)
+numbersOf s n = partOption s (n .at) (n .end) (n .count)
+
+-- the last four lines
+pub record ValueLines (s : List ℕ) (first : ℕ) (v : SiteValues) : Type 0 where
+  pub gq : lineAt (siteGroup s first) 6 "gq" (orMissing number) ≡ accepted (codeOption (v .gq))
+  pub dp : lineAt (siteGroup s first) 7 "dp" (orMissing number) ≡ accepted (codeOption (v .dp))
+  pub ad : lineAt (siteGroup s first) 8 "ad" (orMissing numberList) ≡ accepted (numbersOf s (v .ad))
+  pub pl : lineAt (siteGroup s first) 9 "pl" (orMissing numberList) ≡ accepted (numbersOf s (v .pl))
+  pub ad-ordered : v .ad .at ≤ v .ad .end
+  pub pl-ordered : v .pl .at ≤ v .pl .end
+  pub behind : Behind s first 10 (v .next)
+  pub within : v .next ≤ length s
+
+unfoldable pub ValuesRead : List ℕ → ℕ → ValuesAt → Type 0
+ValuesRead s at (values.Values v) = (first : ℕ) → Behind s first 6 at → ValueLines s first v
+ValuesRead s at values.Wrong = (first : ℕ) → Behind s first 6 at → siteTextOf (siteGroup s first) ≡ refused 1
+
+-- what the ten lines say
+abbrev pub siteTextAt : List ℕ → SitePlace → SiteAlleles → SiteValues → SiteText
+siteTextAt s p a v = record {
+  sample = p .sample;
+  contig = bytesOf s (p .contig);
+  start = p .start;
+  end = p .end;
+  ref = bytesOf s (a .refs);
+  alt = bytesOf s (a .alts);
+  gq = codeOption (v .gq);
+  dp = codeOption (v .dp);
+  ad = numbersOf s (v .ad);
+  pl = numbersOf s (v .pl);
+}
+
+pub record TextLines (s : List ℕ) (at : ℕ) (p : SitePlace) (a : SiteAlleles) (v : SiteValues) : Type 0 where
+  pub text : siteTextOf (siteGroup s at) ≡ accepted (siteTextAt s p a v)
+  pub place : PlaceLines s at p
+  pub alleles : AlleleLines s at a
+  pub values : ValueLines s at v
+
+unfoldable pub TextRead : List ℕ → ℕ → TextAt → Type 0
+TextRead s at (text.Text p a v) = TextLines s at p a v
+TextRead s at text.Wrong = siteTextOf (siteGroup s at) ≡ refused 1

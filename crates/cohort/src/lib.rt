@@ -1,0 +1,200 @@
+// cohort.kv: site groups by their lines.
+ghost use mathlib.Core.Path.{_≡_};
+ghost use Rattle.definitions.specs.Numbers.{number, numberList, orMissing};
+ghost use Rattle.kv_text.specs.Lines.{LineReads};
+ghost use Rattle.cohort.specs.SiteGroups.{AllelesRead, PartOrdered, PlaceRead, TextRead, ValuesRead, codeFound, partFound};
+use kv_text::ListAt;
+use kv_text::NumberAt;
+use kv_text::OptionalAt;
+use kv_text::ValueAt;
+
+// A number that may be missing as one number: missing is 4294967295, which no text holds.
+fn code_line(s: &[u8], at: usize, key: &[u8]) -> NumberAt
+    ensures { λ r. ⌜ LineReads (now (s .entry)) at (now (key .entry)) (orMissing number) (codeFound r) ⌝ }
+{
+    let line = kv_text::optional_number_line(s, at, key);
+    match line {
+        OptionalAt::Missing(e) => NumberAt::Found(4294967295, e),
+        OptionalAt::Found(n, e) => NumberAt::Found(n, e),
+        OptionalAt::Wrong => NumberAt::Wrong,
+    }
+}
+
+// Where a list of numbers stands, to its line's LF, and how many numbers it has; a missing one has none.
+pub enum PartAt {
+    Part(usize, usize, usize),
+    Wrong,
+}
+
+fn part_line(s: &[u8], at: usize, key: &[u8]) -> PartAt
+    ensures { λ r. ⌜ LineReads (now (s .entry)) at (now (key .entry)) (orMissing numberList) (partFound (now (s .entry)) r) × PartOrdered r ⌝ }
+{
+    let line = kv_text::optional_numbers_line(s, at, key);
+    match line {
+        ListAt::Missing(e) => PartAt::Part(e, e, 0),
+        ListAt::Found(a, e, n) => PartAt::Part(a, e, n),
+        ListAt::Wrong => PartAt::Wrong,
+    }
+}
+
+// A part of the text: from an offset to just before another.
+pub struct Part {
+    pub at: usize,
+    pub end: usize,
+}
+
+// The first four lines of a site group: sample number, contig, start and end. `next` is where the fifth line begins.
+pub struct SitePlace {
+    pub sample: u32,
+    pub contig: Part,
+    pub start: u32,
+    pub end: u32,
+    pub next: usize,
+}
+
+pub enum PlaceAt {
+    Place(SitePlace),
+    Wrong,
+}
+
+fn site_place(s: &[u8], at: usize) -> PlaceAt
+    ensures { λ r. ⌜ PlaceRead (now (s .entry)) at r ⌝ }
+{
+    let site = kv_text::number_line(s, at, b"site=");
+    let NumberAt::Found(sample, e0) = site else {
+        return PlaceAt::Wrong;
+    };
+    let contig = kv_text::name_line(s, e0 + 1, b"contig=");
+    let ValueAt::At(a1, e1) = contig else {
+        return PlaceAt::Wrong;
+    };
+    let from = kv_text::number_line(s, e1 + 1, b"start=");
+    let NumberAt::Found(start, e2) = from else {
+        return PlaceAt::Wrong;
+    };
+    let to = kv_text::number_line(s, e2 + 1, b"end=");
+    let NumberAt::Found(end, e3) = to else {
+        return PlaceAt::Wrong;
+    };
+    PlaceAt::Place(SitePlace {
+        sample,
+        contig: Part { at: a1, end: e1 },
+        start,
+        end,
+        next: e3 + 1,
+    })
+}
+
+// The fifth and sixth line: REF and the ALTs. `next` is where the seventh line begins.
+pub struct SiteAlleles {
+    pub refs: Part,
+    pub alts: Part,
+    pub next: usize,
+}
+
+pub enum AllelesAt {
+    Alleles(SiteAlleles),
+    Wrong,
+}
+
+fn site_alleles(s: &[u8], at: usize) -> AllelesAt
+    ensures { λ r. ⌜ AllelesRead (now (s .entry)) at r ⌝ }
+{
+    let reference = kv_text::value_line(s, at, b"ref=");
+    let ValueAt::At(a4, e4) = reference else {
+        return AllelesAt::Wrong;
+    };
+    let alternate = kv_text::value_line(s, e4 + 1, b"alt=");
+    let ValueAt::At(a5, e5) = alternate else {
+        return AllelesAt::Wrong;
+    };
+    AllelesAt::Alleles(SiteAlleles {
+        refs: Part { at: a4, end: e4 },
+        alts: Part { at: a5, end: e5 },
+        next: e5 + 1,
+    })
+}
+
+// A list of numbers in the text: where it stands, and how many numbers it has. None: it is missing.
+pub struct NumbersPart {
+    pub at: usize,
+    pub end: usize,
+    pub count: usize,
+}
+
+// The last four lines: GQ, DP, AD and PL. `next` is where the next group begins.
+pub struct SiteValues {
+    pub gq: u32,
+    pub dp: u32,
+    pub ad: NumbersPart,
+    pub pl: NumbersPart,
+    pub next: usize,
+}
+
+pub enum ValuesAt {
+    Values(SiteValues),
+    Wrong,
+}
+
+fn site_values(s: &[u8], at: usize) -> ValuesAt
+    ensures { λ r. ⌜ ValuesRead (now (s .entry)) at r ⌝ }
+{
+    let quality = code_line(s, at, b"gq=");
+    let NumberAt::Found(gq, e6) = quality else {
+        return ValuesAt::Wrong;
+    };
+    let depth = code_line(s, e6 + 1, b"dp=");
+    let NumberAt::Found(dp, e7) = depth else {
+        return ValuesAt::Wrong;
+    };
+    let depths = part_line(s, e7 + 1, b"ad=");
+    let PartAt::Part(a8, e8, n8) = depths else {
+        return ValuesAt::Wrong;
+    };
+    let likelihoods = part_line(s, e8 + 1, b"pl=");
+    let PartAt::Part(a9, e9, n9) = likelihoods else {
+        return ValuesAt::Wrong;
+    };
+    ValuesAt::Values(SiteValues {
+        gq,
+        dp,
+        ad: NumbersPart {
+            at: a8,
+            end: e8,
+            count: n8,
+        },
+        pl: NumbersPart {
+            at: a9,
+            end: e9,
+            count: n9,
+        },
+        next: e9 + 1,
+    })
+}
+
+// The ten lines of a site group.
+pub enum TextAt {
+    Text(SitePlace, SiteAlleles, SiteValues),
+    Wrong,
+}
+
+// The site group at an offset, by its lines: row 1, or what they say.
+pub fn site_text(s: &[u8], at: usize) -> TextAt
+    ensures { λ r. ⌜ TextRead (now (s .entry)) at r ⌝ }
+{
+    let first = site_place(s, at);
+    let PlaceAt::Place(place) = first else {
+        return TextAt::Wrong;
+    };
+    let next = place.next;
+    let second = site_alleles(s, next);
+    let AllelesAt::Alleles(alleles) = second else {
+        return TextAt::Wrong;
+    };
+    let next = alleles.next;
+    let third = site_values(s, next);
+    let ValuesAt::Values(values) = third else {
+        return TextAt::Wrong;
+    };
+    TextAt::Text(place, alleles, values)
+}
