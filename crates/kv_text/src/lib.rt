@@ -313,8 +313,8 @@ pub enum ValueAt {
     Absent,
 }
 
-// The value of the line at an offset, which must have this key; keys are given with their `=`.
-pub fn value_line(s: &[u8], at: usize, key: &[u8]) -> ValueAt
+// The work of `Reader::next_value`, on its text and its offset.
+fn value_at(s: &[u8], at: usize, key: &[u8]) -> ValueAt
     ensures { λ r. ⌜ LineReads (now (s .entry)) at (now (key .entry)) some (valueFound (now (s .entry)) r) × Ordered r ⌝ }
 {
     let end = field_end(s, at, b'\n');
@@ -325,6 +325,42 @@ pub fn value_line(s: &[u8], at: usize, key: &[u8]) -> ValueAt
         return ValueAt::Absent;
     }
     ValueAt::At(at + key.len(), end)
+}
+
+// A lent text and an offset of it, any offset: every line is read through one.
+pub struct Reader<'a> {
+    pub text: &'a [u8],
+    pub at: usize,
+}
+
+impl<'a> Reader<'a> {
+    // A reader that stands at this offset of this text.
+    pub fn new(text: &'a [u8], at: usize) -> Reader<'a>
+        ensures { λ r. ⌜ (r .text ≡ text .entry) × (r .at ≡ at) ⌝ }
+    {
+        Reader { text, at }
+    }
+
+    // Where the reader stands.
+    pub fn offset(self) -> usize
+        ensures { λ n. ⌜ n ≡ self .entry .at ⌝ }
+    {
+        self.at
+    }
+
+    // The value of the line where the reader stands, which must have this key; keys are given with their `=`.
+    pub fn next_value(self, key: &[u8]) -> ValueAt
+        ensures { λ r. ⌜ LineReads (now (self .entry .text)) (self .entry .at) (now (key .entry)) some (valueFound (now (self .entry .text)) r) × Ordered r ⌝ }
+    {
+        value_at(self.text, self.at, key)
+    }
+}
+
+// The same for a text and an offset: the value of the line there.
+pub fn value_line(s: &[u8], at: usize, key: &[u8]) -> ValueAt
+    ensures { λ r. ⌜ LineReads (now (s .entry)) at (now (key .entry)) some (valueFound (now (s .entry)) r) × Ordered r ⌝ }
+{
+    Reader::new(s, at).next_value(key)
 }
 
 // A number, and where its line ends.
