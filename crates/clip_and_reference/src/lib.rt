@@ -47,11 +47,11 @@ pub fn span_at(s: &[u8], at: usize) -> SpanAt
     }
     let next = end_end + 1;
     SpanAt::Span {
-        contig_at: contig_at,
-        contig_end: contig_end,
-        start: start,
-        end: end,
-        next: next,
+        contig_at,
+        contig_end,
+        start,
+        end,
+        next,
     }
 }
 
@@ -62,14 +62,7 @@ pub fn check_clip(s: &[u8]) -> bool
     let mut at = 0;
     while at < s.len() {
         let group = span_at(s, at);
-        let SpanAt::Span {
-            contig_at: _,
-            contig_end: _,
-            start: _,
-            end: _,
-            next,
-        } = group
-        else {
+        let SpanAt::Span { next, .. } = group else {
             return false;
         };
         at = next;
@@ -130,12 +123,12 @@ pub fn segment_at(s: &[u8], at: usize) -> SegmentAt
     }
     let next = bases_end + 1;
     SegmentAt::Segment {
-        contig_at: contig_at,
-        contig_end: contig_end,
-        first: first,
-        bases_at: bases_at,
-        bases_end: bases_end,
-        next: next,
+        contig_at,
+        contig_end,
+        first,
+        bases_at,
+        bases_end,
+        next,
     }
 }
 
@@ -146,15 +139,7 @@ pub fn check_reference(s: &[u8]) -> bool
     let mut at = 0;
     while at < s.len() {
         let group = segment_at(s, at);
-        let SegmentAt::Segment {
-            contig_at: _,
-            contig_end: _,
-            first: _,
-            bases_at: _,
-            bases_end: _,
-            next,
-        } = group
-        else {
+        let SegmentAt::Segment { next, .. } = group else {
             return false;
         };
         at = next;

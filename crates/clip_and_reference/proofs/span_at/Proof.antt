@@ -1,37 +1,15 @@
 -- Three lines: a contig, and two numbers in order.
-use Prim.Native.Nat.{_<_, _≤_, ℕ}
 use borrow.Author.Needs.{needs}
-use borrow.Author.Tests.{le-leb, lt-leb}
-use lib.Dec.{leb}
-use mathlib.Core.Bool.{Bool, _&&_, and-false, false, true}
-use mathlib.Core.List.{List}
-use mathlib.Core.Path.{_≡_}
 use native.Mathlib.Omega.{arith}
-use Rattle.clip_and_reference.proofs.ThreeLines.{first-unread, group-read, part-of, second-unread, test-failed, third-unread, threeLines}
+use Rattle.clip_and_reference.proofs.ThreeLines.{clipGroup, first-unread, group-read, number-zero, out-of-order, part-of, second-unread, third-unread, threeLines}
 use Rattle.clip_and_reference.specs.Groups.{SpanRead}
 use Rattle.definitions.specs.Bytes.{text}
-use Rattle.definitions.specs.ClipAndReference.{Span, spanOf}
+use Rattle.definitions.specs.ClipAndReference.{spanOf}
 use Rattle.definitions.specs.Lines.{keyOf}
 use Rattle.definitions.specs.Numbers.{name, number}
 use Rattle.kv_text.proofs.Lines.{line-within}
-use Rattle.laws.proofs.Tests.{both}
 use Rattle.clip_and_reference.proofs.span_at.Statement.{statement}
 use Rattle.clip_and_reference.proofs.span_at.Tie as tie
-
-abbrev inOrder : ℕ → ℕ → Bool
-inOrder start end = leb 1 start && leb start end
-
-abbrev spanFrom : List ℕ → ℕ → ℕ → Span
-spanFrom contig start end = record { contig = contig; start = start; end = end }
-
-too-low : (start end : ℕ) → start < 1 → inOrder start end ≡ false
-too-low start end h = rw (lt-leb 1 start h)
-
-backwards : (start end : ℕ) → end < start → inOrder start end ≡ false
-backwards start end h = rw (lt-leb start end h, and-false)
-
-right : (start end : ℕ) → 1 ≤ start → start ≤ end → inOrder start end ≡ true
-right start end h k = both (le-leb 1 start h) (le-leb start end k)
 
 slice-aggregate-name-line : tie.Need-slice-aggregate-name-line
 slice-aggregate-name-line c = search needs
@@ -47,7 +25,7 @@ enum-told c = search needs
 
 returns : tie.Need-returns
 unfolding keyOf text SpanRead spanOf threeLines
-returns c = first-unread "start" "end" number inOrder spanFrom _ _ ((rw (c .enum-told .given .1) at (c .before .before .name-line .ensures)) .0)
+returns c = first-unread clipGroup _ _ ((rw (c .enum-told .given .1) at (c .before .before .name-line .ensures)) .0)
 
 add-number-line : tie.Need-add-number-line
 add-number-line c = let l = rw (c .before .name .given .1) at (c .before .before .before .name-line .ensures) in omega (arith, line-within _ _ _ name _ _ (l .0))
@@ -67,7 +45,7 @@ enum-told-2 c = search needs
 returns-2 : tie.Need-returns-2
 unfolding keyOf text SpanRead spanOf threeLines
 returns-2 c = let l = rw (c .before .before .before .before .before .name .given .1) at (c .before .before .before .before .before .before .before .name-line .ensures) in
-    second-unread "start" "end" number inOrder spanFrom _ _ _ _ (l .0) (rw (c .enum-told2 .given .1) at (c .before .before .number-line .ensures))
+    second-unread clipGroup _ _ _ _ (l .0) (rw (c .enum-told2 .given .1) at (c .before .before .number-line .ensures))
 
 add-number-line-2 : tie.Need-add-number-line-2
 add-number-line-2 c = let l = rw (c .before .from .given .1) at (c .before .before .before .number-line .ensures) in omega (arith, line-within _ _ _ number _ _ l)
@@ -88,21 +66,21 @@ returns-3 : tie.Need-returns-3
 unfolding keyOf text SpanRead spanOf threeLines
 returns-3 c = let l = rw (c .before .before .before .before .before .before .before .before .before .before .name .given .1) at (c .before .before .before .before .before .before .before .before .before .before .before .before .name-line .ensures) in
     let m = rw (c .before .before .before .before .before .from .given .1) at (c .before .before .before .before .before .before .before .number-line .ensures) in
-    third-unread "start" "end" number inOrder spanFrom _ _ _ _ (l .0) _ _ m (rw (c .enum-told3 .given .1) at (c .before .before .number-line2 .ensures))
+    third-unread clipGroup _ _ _ _ (l .0) _ _ m (rw (c .enum-told3 .given .1) at (c .before .before .number-line2 .ensures))
 
 returns-4 : tie.Need-returns-4
 unfolding keyOf text SpanRead spanOf threeLines
 returns-4 c = let l = rw (c .before .before .before .before .before .before .before .before .before .before .before .before .name .given .1) at (c .before .before .before .before .before .before .before .before .before .before .before .before .before .before .name-line .ensures) in
     let m = rw (c .before .before .before .before .before .before .before .from .given .1) at (c .before .before .before .before .before .before .before .before .before .number-line .ensures) in
     let n = rw (c .before .before .to .given .1) at (c .before .before .before .before .number-line2 .ensures) in
-    test-failed "start" "end" number inOrder spanFrom _ _ _ _ (l .0) _ _ m _ _ n (too-low _ _ (c .if1 .taken))
+    number-zero clipGroup _ _ _ _ (l .0) _ _ m _ _ n (omega (arith, c .if1 .taken))
 
 returns-5 : tie.Need-returns-5
 unfolding keyOf text SpanRead spanOf threeLines
 returns-5 c = let l = rw (c .before .before .before .before .before .before .before .before .before .before .before .before .before .name .given .1) at (c .before .before .before .before .before .before .before .before .before .before .before .before .before .before .before .name-line .ensures) in
     let m = rw (c .before .before .before .before .before .before .before .before .from .given .1) at (c .before .before .before .before .before .before .before .before .before .before .number-line .ensures) in
     let n = rw (c .before .before .before .to .given .1) at (c .before .before .before .before .before .number-line2 .ensures) in
-    test-failed "start" "end" number inOrder spanFrom _ _ _ _ (l .0) _ _ m _ _ n (backwards _ _ (c .if2 .taken))
+    out-of-order clipGroup _ _ _ _ (l .0) _ _ m _ _ n (omega (arith, c .if2 .taken))
 
 add-next : tie.Need-add-next
 add-next c = let n = rw (c .before .before .before .to .given .1) at (c .before .before .before .before .before .number-line2 .ensures) in omega (arith, line-within _ _ _ number _ _ n)
@@ -111,8 +89,10 @@ returns-6 : tie.Need-returns-6
 unfolding keyOf text SpanRead spanOf threeLines
 returns-6 c = let l = rw (c .before .before .before .before .before .before .before .before .before .before .before .before .before .name .given .1) at (c .before .before .before .before .before .before .before .before .before .before .before .before .before .before .before .name-line .ensures) in
     let m = rw (c .before .before .before .before .before .before .before .before .from .given .1) at (c .before .before .before .before .before .before .before .before .before .before .number-line .ensures) in
-    let n = rw (c .before .before .before .to .given .1) at (c .before .before .before .before .before .number-line2 .ensures) in
-    (group-read "start" "end" number inOrder spanFrom _ _ _ _ (l .0) _ _ m _ _ n (right _ _ (c .before .if1 .left) (c .if2 .left)), part-of (l .1) (line-within _ _ _ name _ _ (l .0)))
+    let n = rw (c .before .before .before .to .given .1) at (c .before .before .before .before .before .number-line2 .ensures) in (
+      group-read clipGroup _ _ _ _ (l .0) _ _ m _ _ n (omega (arith, c .before .if1 .left)) (omega (arith, c .if2 .left)),
+      part-of (l .1) (line-within _ _ _ name _ _ (l .0)),
+    )
 
 pub span-at-spec : {M : Type 1} → statement M
 span-at-spec =
