@@ -1,4 +1,4 @@
--- The groups of a text from an offset on: what check_clip and check_reference know in their loops, and what their callers do then.
+-- The groups of a text from an offset on: what check_clip and check_reference know in their loops, and what their callers know behind them.
 use Prim.Native.Nat.{_<_, _≤_, ℕ}
 use lib.ListN.{drop, length}
 use mathlib.Core.Bool.{false, true}
@@ -51,7 +51,7 @@ module _ {A : Type 0} (read : List Line → Checked A) (s : List ℕ) where
 
 -- ---- the loop of check_clip and check_reference
 
--- accepted, or refused with 9
+-- the whole text is accepted if its groups are, and groups with one more in front if they were
 whole : {A : Type 0} (c : Checked (List A)) → isAccepted (refusedAs 9 c >>= λ gs. accepted (some gs)) ≡ isAccepted c
 unfolding isAccepted refusedAs _>>=_
 whole (refused n) = refl
