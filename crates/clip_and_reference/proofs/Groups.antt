@@ -6,14 +6,14 @@ use mathlib.Core.List.{List, [], _∷_}
 use mathlib.Core.Option.{some}
 use mathlib.Core.Path.{_∙_, _≡_, ap, refl, sym}
 use native.Mathlib.Omega.{arith}
-use Rattle.definitions.specs.Checked.{Checked, _>>=_, accepted, readEach, refused, refusedAs}
+use Rattle.definitions.specs.Checked.{Checked, _>>=_, accepted, isAccepted, readEach, refused, refusedAs}
 use Rattle.definitions.specs.ClipAndReference.{ReferenceSegment, Span, optionalGroups, segmentOf, spanOf}
 use Rattle.definitions.specs.Lines.{Line, linesOf}
 use Rattle.definitions.specs.Lists.{groupsOf}
 use Rattle.kv_text.proofs.Groups.{group-accepted, group-refused, groups-ended}
 use Rattle.laws.proofs.Checked.{accepted-same, after-then, not-refused}
 use Rattle.laws.proofs.Tests.{clash}
-use Rattle.clip_and_reference.specs.Groups.{GroupFaulty, GroupTo, isAccepted}
+use Rattle.clip_and_reference.specs.Groups.{GroupFaulty, GroupTo}
 
 module _ {A : Type 0} (read : List Line → Checked A) where
   -- a group is read without those before it

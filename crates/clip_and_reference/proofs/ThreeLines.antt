@@ -4,20 +4,20 @@ use Prim.Native.String.{String}
 use borrow.Author.Tests.{le-leb, lt-leb}
 use lib.Dec.{leb}
 use lib.ListN.{drop, length, length-drop, length-take, take}
-use mathlib.Core.Bool.{Bool, _&&_, and-false, false}
+use mathlib.Core.Bool.{_&&_, and-false, false}
 use mathlib.Core.List.{List}
 use mathlib.Core.Option.{Option}
 use mathlib.Core.Path.{_≡_, refl}
 use native.Mathlib.Omega.{arith}
 use Rattle.definitions.specs.Alleles.{lettersOf}
-use Rattle.definitions.specs.Checked.{Checked, _>>=_, _>>_, accepted, refused, require}
+use Rattle.definitions.specs.Checked.{Checked, _>>=_, _>>_, accepted, require}
 use Rattle.definitions.specs.ClipAndReference.{ReferenceSegment, Span}
 use Rattle.definitions.specs.Lines.{Line, keyOf, lineAt, linesOf}
 use Rattle.definitions.specs.Numbers.{maxNumber, name, number}
-use Rattle.kv_text.proofs.Groups.{Behind, behind-next, behind-start, line-read, line-unread}
+use Rattle.kv_text.proofs.Groups.{behind-next, behind-start, line-read, line-unread}
 use Rattle.kv_text.specs.Fields.{between}
-use Rattle.kv_text.specs.Lines.{LineReads, readTo, unread}
-use Rattle.laws.proofs.Checked.{required, then}
+use Rattle.kv_text.specs.Lines.{Behind, LineReads, readTo, unread}
+use Rattle.laws.proofs.Checked.{not-required, required, then, then-refused}
 use Rattle.laws.proofs.Tests.{both}
 use Rattle.clip_and_reference.specs.Groups.{GroupFaulty, GroupTo, PartOf}
 
@@ -70,15 +70,6 @@ referenceGroup = record {
 }
 
 -- ---- reading a group
-
--- a refusal is the answer, and so is a failed test
-then-refused : {A B : Type 0} (m : Checked A) (f : A → Checked B) {n : ℕ} → m ≡ refused n → (m >>= f) ≡ refused n
-unfolding _>>=_
-then-refused m f e = rw e
-
-not-required : {B : Type 0} (n : ℕ) (b : Bool) (r : Checked B) → b ≡ false → (require n b >> r) ≡ refused n
-unfolding _>>=_ _>>_ require
-not-required n b r e = rw e
 
 module _ {A B : Type 0} (k : Kind A B) (s : List ℕ) (at : ℕ) where
   abbrev group : List Line

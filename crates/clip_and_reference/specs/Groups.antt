@@ -1,7 +1,6 @@
 -- What reading the group of three lines at an offset of clip.kv or reference.kv finds.
 use Prim.Native.Nat.{_<_, _≤_, ℕ}
 use lib.ListN.{drop, length, take}
-use mathlib.Core.Bool.{Bool, false, true}
 use mathlib.Core.List.{List}
 use mathlib.Core.Path.{_≡_}
 use Rattle.definitions.specs.Checked.{Checked, accepted, refused}
@@ -41,8 +40,3 @@ SegmentRead s at segment.Faulty = GroupFaulty s at segmentOf
 SegmentRead s at (segment.Segment contigAt contigEnd first basesAt basesEnd next) =
     GroupTo s at segmentOf (record { contig = between s contigAt contigEnd; first = first; bases = between s basesAt basesEnd }) next
     × PartOf s contigAt contigEnd × PartOf s basesAt basesEnd
-
--- whether an answer is accepted
-unfoldable pub isAccepted : {A : Type 0} → Checked A → Bool
-isAccepted (refused n) = false
-isAccepted (accepted a) = true

@@ -2,10 +2,11 @@
 ghost use mathlib.Core.Option.{some};
 ghost use mathlib.Core.Path.{_≡_};
 ghost use Rattle.definitions.specs.Alleles.{lettersOf};
+ghost use Rattle.definitions.specs.Checked.{isAccepted};
 ghost use Rattle.definitions.specs.ClipAndReference.{optionalGroups, segmentOf, spanOf};
 ghost use Rattle.definitions.specs.Numbers.{maxNumber};
 ghost use Rattle.kv_text.specs.Lines.{LineReads, Ordered, valueFound};
-ghost use Rattle.clip_and_reference.specs.Groups.{SegmentRead, SpanRead, isAccepted};
+ghost use Rattle.clip_and_reference.specs.Groups.{SegmentRead, SpanRead};
 use kv_text::NumberAt;
 use kv_text::ValueAt;
 

@@ -12,7 +12,7 @@ use Rattle.definitions.specs.Cohort.{siteLines, siteTextOf}
 use Rattle.definitions.specs.Lines.{Line, keyOf, lineAt, linesOf, valueOf}
 use Rattle.definitions.specs.Lists.{onlyIf}
 use Rattle.definitions.specs.Numbers.{maxNumber, name, number, numberList, orMissing}
-use Rattle.laws.proofs.Checked.{then}
+use Rattle.laws.proofs.Checked.{then, then-refused}
 use Rattle.laws.proofs.SoundValues.{Numbers}
 use Rattle.laws.proofs.Tests.{after-bind}
 use Rattle.kv_text.proofs.Groups.{behind-next, behind-start, line-read, line-unread}
@@ -37,10 +37,6 @@ line-back P s at key read a e f l =
 
 -- ---- row 1: any line that is refused refuses the group, as the lines before it are accepted or refused with 1 too
 
-stop : {A B : Type 0} (m : Checked A) (f : A → Checked B) {n : ℕ} → m ≡ refused n → (m >>= f) ≡ refused n
-unfolding _>>=_
-stop m f h = rw h
-
 skip : {A B : Type 0} (o : Option A) (f : A → Checked B) → ((a : A) → f a ≡ refused 1) → (orRefuse 1 o >>= f) ≡ refused 1
 unfolding _>>=_ orRefuse
 skip none f h = refl
@@ -49,47 +45,47 @@ skip (some a) f h = h a
 module _ (group : List Line) where
   pub site-refused : lineAt group 0 "site" number ≡ refused 1 → siteTextOf group ≡ refused 1
   unfolding siteTextOf
-  site-refused h = stop _ _ h
+  site-refused h = then-refused _ _ h
 
   pub contig-refused : lineAt group 1 "contig" name ≡ refused 1 → siteTextOf group ≡ refused 1
   unfolding siteTextOf lineAt
-  contig-refused h = skip _ _ λ _. stop _ _ h
+  contig-refused h = skip _ _ λ _. then-refused _ _ h
 
   pub start-refused : lineAt group 2 "start" number ≡ refused 1 → siteTextOf group ≡ refused 1
   unfolding siteTextOf lineAt
-  start-refused h = skip _ _ λ _. skip _ _ λ _. stop _ _ h
+  start-refused h = skip _ _ λ _. skip _ _ λ _. then-refused _ _ h
 
   pub end-refused : lineAt group 3 "end" number ≡ refused 1 → siteTextOf group ≡ refused 1
   unfolding siteTextOf lineAt
-  end-refused h = skip _ _ λ _. skip _ _ λ _. skip _ _ λ _. stop _ _ h
+  end-refused h = skip _ _ λ _. skip _ _ λ _. skip _ _ λ _. then-refused _ _ h
 
   pub ref-refused : lineAt group 4 "ref" some ≡ refused 1 → siteTextOf group ≡ refused 1
   unfolding siteTextOf lineAt
-  ref-refused h = skip _ _ λ _. skip _ _ λ _. skip _ _ λ _. skip _ _ λ _. stop _ _ h
+  ref-refused h = skip _ _ λ _. skip _ _ λ _. skip _ _ λ _. skip _ _ λ _. then-refused _ _ h
 
   pub alt-refused : lineAt group 5 "alt" some ≡ refused 1 → siteTextOf group ≡ refused 1
   unfolding siteTextOf lineAt
-  alt-refused h = skip _ _ λ _. skip _ _ λ _. skip _ _ λ _. skip _ _ λ _. skip _ _ λ _. stop _ _ h
+  alt-refused h = skip _ _ λ _. skip _ _ λ _. skip _ _ λ _. skip _ _ λ _. skip _ _ λ _. then-refused _ _ h
 
   pub gq-refused : lineAt group 6 "gq" (orMissing number) ≡ refused 1 → siteTextOf group ≡ refused 1
   unfolding siteTextOf lineAt
-  gq-refused h = skip _ _ λ _. skip _ _ λ _. skip _ _ λ _. skip _ _ λ _. skip _ _ λ _. skip _ _ λ _. stop _ _ h
+  gq-refused h = skip _ _ λ _. skip _ _ λ _. skip _ _ λ _. skip _ _ λ _. skip _ _ λ _. skip _ _ λ _. then-refused _ _ h
 
   pub dp-refused : lineAt group 7 "dp" (orMissing number) ≡ refused 1 → siteTextOf group ≡ refused 1
   unfolding siteTextOf lineAt
   dp-refused h =
-      skip _ _ λ _. skip _ _ λ _. skip _ _ λ _. skip _ _ λ _. skip _ _ λ _. skip _ _ λ _. skip _ _ λ _. stop _ _ h
+      skip _ _ λ _. skip _ _ λ _. skip _ _ λ _. skip _ _ λ _. skip _ _ λ _. skip _ _ λ _. skip _ _ λ _. then-refused _ _ h
 
   pub ad-refused : lineAt group 8 "ad" (orMissing numberList) ≡ refused 1 → siteTextOf group ≡ refused 1
   unfolding siteTextOf lineAt
   ad-refused h =
-      skip _ _ λ _. skip _ _ λ _. skip _ _ λ _. skip _ _ λ _. skip _ _ λ _. skip _ _ λ _. skip _ _ λ _. skip _ _ λ _. stop _ _ h
+      skip _ _ λ _. skip _ _ λ _. skip _ _ λ _. skip _ _ λ _. skip _ _ λ _. skip _ _ λ _. skip _ _ λ _. skip _ _ λ _. then-refused _ _ h
 
   pub pl-refused : lineAt group 9 "pl" (orMissing numberList) ≡ refused 1 → siteTextOf group ≡ refused 1
   unfolding siteTextOf lineAt
   pl-refused h =
       skip _ _ λ _. skip _ _ λ _. skip _ _ λ _. skip _ _ λ _. skip _ _ λ _. skip _ _ λ _. skip _ _ λ _. skip _ _ λ _. skip _ _ λ _.
-      stop _ _ h
+      then-refused _ _ h
 
 -- ---- the first four lines
 

@@ -2,13 +2,13 @@
 use Prim.Native.Nat.{ℕ}
 use Prim.Native.String.{String}
 use lib.Dec.{T}
-use mathlib.Core.Bool.{Bool, false, true}
+use mathlib.Core.Bool.{true}
 use mathlib.Core.List.{List, [], _++_, map, reverse}
 use mathlib.Core.Option.{Option, Option·getD, none}
 use mathlib.Core.Path.{_∙_, _≡_, ap, refl, subst₂, sym}
 use Rattle.definitions.specs.Alleles.{allelesOf, writtenAlleles}
 use Rattle.definitions.specs.Bytes.{joinedBy, text}
-use Rattle.definitions.specs.Checked.{Checked, _>>=_, accepted, refused}
+use Rattle.definitions.specs.Checked.{Checked, _>>=_, accepted, isAccepted, refused}
 use Rattle.definitions.specs.ClipAndReference.{ChoiceFrom, LetterChoice, ReferenceSegment, optionalGroups, segmentHolds, segmentOf}
 use Rattle.definitions.specs.Cohort.{Cohort, cohortOf}
 use Rattle.definitions.specs.CombinedList.{ChoiceFor, Texts, combinedList}
@@ -101,11 +101,6 @@ unfolding recordsIn valueOr _>>=_
 records-read m list w e f = sym (ap recordsIn e ∙ ap (λ (r : Checked WrittenList). readIn r .records) f)
 
 -- ---- demand 3 for them
-
--- the call is accepted
-unfoldable pub isAccepted : Checked (List ℕ) → Bool
-isAccepted (refused n) = false
-isAccepted (accepted list) = true
 
 accepted-value : (m : Checked (List ℕ)) → T (isAccepted m) → m ≡ accepted (valueOr [] m)
 unfolding isAccepted valueOr

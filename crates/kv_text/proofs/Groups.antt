@@ -1,14 +1,13 @@
 -- Groups of lines at an offset: their lines one after the other, and the groups one after the other.
-use Prim.Native.Nat.{_+_, _<_, _≤_, suc, ℕ}
+use Prim.Native.Nat.{_+_, _<_, _≤_, ℕ}
 use Prim.Native.String.{String}
-use lib.ListN.{drop, getD, length, length-drop, take}
+use lib.ListN.{drop, getD, length, take}
 use lib.Seq.{drop-drop, getD-drop, getD-take}
 use mathlib.Core.List.{List, [], _∷_, reverse, reverseAux}
-use mathlib.Core.Option.{Option, bind, none, some}
+use mathlib.Core.Option.{Option, bind, none}
 use mathlib.Core.Path.{_∙_, _≡_, ap, refl}
 use native.Mathlib.Decide.{decLt}
 use native.Mathlib.Nat.{add-zero}
-use native.Mathlib.Numerals.{add-one}
 use native.Mathlib.Omega.{arith}
 use Rattle.definitions.specs.Checked.{Checked, _>>=_, accepted, orRefuse, readEach, refused}
 use Rattle.definitions.specs.Lines.{Line, keyOf, lineAt, linesOf, valueOf}

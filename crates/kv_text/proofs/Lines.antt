@@ -15,22 +15,10 @@ use Rattle.definitions.specs.Lists.{isThere}
 use Rattle.definitions.specs.Numbers.{orMissing}
 use Rattle.laws.proofs.Bytes.{strip-prefix-back}
 use Rattle.laws.proofs.Lines.{lines-at, lines-end, lines-unended-at}
-use Rattle.laws.proofs.Tests.{not-none, some-same}
+use Rattle.laws.proofs.Tests.{is-there, not-none, not-there, some-same}
 use Rattle.kv_text.proofs.Fields.{drop-take, field-ended, field-forward, field-has-none, field-within}
 use Rattle.kv_text.specs.Fields.{between, fieldLength}
 use Rattle.kv_text.specs.Lines.{LineReads, lineValue, readTo, unread}
-
--- ---- options
-
-pub is-there : {A : Type 0} (o : Option A) → isThere o ≡ true → (a : A) × (o ≡ some a)
-unfolding isThere
-is-there none h = absurd (let z : _≡_ {A = ℕ} 0 1 = cc in omega arith)
-is-there (some a) h = (a, refl)
-
-pub not-there : {A : Type 0} (o : Option A) → isThere o ≡ false → o ≡ none
-unfolding isThere
-not-there none h = refl
-not-there (some a) h = absurd (let z : _≡_ {A = ℕ} 0 1 = cc in omega arith)
 
 -- ---- the line at an offset, which ends at e
 

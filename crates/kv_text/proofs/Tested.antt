@@ -4,23 +4,12 @@ use borrow.Author.Tests.{le-leb, lt-leb}
 use lib.Dec.{leb}
 use lib.ListN.{drop, drop-of-length-le, getD, length}
 use lib.Seq.{drop-cons}
-use mathlib.Core.Bool.{Bool, _&&_, and-false, false, true, true≢false}
+use mathlib.Core.Bool.{Bool, _&&_, and-false, false, true}
 use mathlib.Core.List.{List}
-use mathlib.Core.Option.{some}
-use mathlib.Core.Path.{_≡_, refl, sym}
+use mathlib.Core.Path.{_≡_}
 use native.Mathlib.Numerals.{add-one}
 use Rattle.definitions.specs.Lists.{allOf, isThere, onlyIf}
-
-pub is-only-if : {A : Type 0} (b : Bool) (a : A) → isThere (onlyIf b a) ≡ b
-unfolding onlyIf isThere
-is-only-if true a = refl
-is-only-if false a = refl
-
--- what is there is the value itself
-pub only-if-there : {A : Type 0} (b : Bool) (a : A) → isThere (onlyIf b a) ≡ true → onlyIf b a ≡ some a
-unfolding onlyIf isThere
-only-if-there true a h = refl
-only-if-there false a h = absurd (true≢false (sym h))
+use Rattle.laws.proofs.Tests.{only-if-is}
 
 module _ (p : ℕ → Bool) (most : ℕ) (s : List ℕ) where
   -- the answer
@@ -28,13 +17,13 @@ module _ (p : ℕ → Bool) (most : ℕ) (s : List ℕ) where
   Passed = isThere (onlyIf (leb 1 (length s) && leb (length s) most && allOf p s) s)
 
   pub passed-empty : length s < 1 → false ≡ Passed
-  passed-empty h = simp (is-only-if, lt-leb 1 (length s) h)
+  passed-empty h = simp (only-if-is, lt-leb 1 (length s) h)
 
   pub passed-long : most < length s → false ≡ Passed
-  passed-long h = simp (is-only-if, lt-leb (length s) most h, and-false)
+  passed-long h = simp (only-if-is, lt-leb (length s) most h, and-false)
 
   pub passed-start : 1 ≤ length s → length s ≤ most → Passed ≡ allOf p s
-  passed-start h k = simp (is-only-if, le-leb 1 (length s) h, le-leb (length s) most k)
+  passed-start h k = simp (only-if-is, le-leb 1 (length s) h, le-leb (length s) most k)
 
   -- a turn of the loop, and its end
   module _ (i : ℕ) (inv : Passed ≡ allOf p (drop i s)) where

@@ -9,8 +9,8 @@ use native.Mathlib.Omega.{arith}
 use Rattle.definitions.specs.Alleles.{lettersOf}
 use Rattle.definitions.specs.Lists.{isThere}
 use Rattle.definitions.specs.Numbers.{maxNumber}
-use Rattle.kv_text.proofs.Lines.{line-within, not-there, read-absent, read-right, read-wrong}
-use Rattle.kv_text.proofs.Tested.{only-if-there}
+use Rattle.laws.proofs.Tests.{not-there, only-if-there}
+use Rattle.kv_text.proofs.Lines.{line-within, read-absent, read-right, read-wrong}
 use Rattle.clip_and_reference.proofs.letters_line.Statement.{statement}
 use Rattle.clip_and_reference.proofs.letters_line.Tie as tie
 

@@ -1,5 +1,5 @@
 -- The loop's invariant: the order is that of what is left of both.
-use Prim.Native.Nat.{Ordering, Ordering·eq, Ordering·gt, Ordering·lt, _+_, _-_, _<_, _≤_, compare, ℕ}
+use Prim.Native.Nat.{Ordering·eq, Ordering·gt, Ordering·lt, _+_, _-_, _<_, _≤_, compare, ℕ}
 use borrow.Author.Needs.{needs}
 use lib.ListN.{drop, drop-of-length-le, getD, length}
 use lib.Seq.{drop-cons}
@@ -8,17 +8,9 @@ use mathlib.Core.Path.{_∙_, _≡_, refl}
 use native.Mathlib.Numerals.{add-one}
 use native.Mathlib.Omega.{arith}
 use Rattle.definitions.specs.Bytes.{andThen, compareBytes}
-use Rattle.laws.proofs.Orders.{compare-eq, compare-lt, compare-refl, lt-compare}
+use Rattle.laws.proofs.Orders.{compare-refl, gt-compare, lt-compare}
 use Rattle.kv_text.proofs.compare_bytes.Statement.{statement}
 use Rattle.kv_text.proofs.compare_bytes.Tie as tie
-
-gt-compare : (x y : ℕ) → y < x → compare x y ≡ Ordering·gt
-gt-compare x y h = go (compare x y) refl
-  where
-    go : (o : Ordering) → compare x y ≡ o → o ≡ Ordering·gt
-    go Ordering·lt e = let q = compare-lt x y e in absurd (omega arith)
-    go Ordering·eq e = let q = compare-eq x y e in absurd (omega arith)
-    go Ordering·gt e = refl
 
 abbrev Inv-loop : tie.InvT-loop
 Inv-loop a b i₀ i = (i ≤ length b) × (compareBytes a b ≡ compareBytes (drop i a) (drop i b))

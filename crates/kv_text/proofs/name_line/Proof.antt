@@ -8,8 +8,8 @@ use mathlib.Core.Path.{_∙_, _≡_, sym}
 use native.Mathlib.Omega.{arith}
 use Rattle.definitions.specs.Lists.{isThere}
 use Rattle.definitions.specs.Numbers.{name}
-use Rattle.kv_text.proofs.Lines.{line-within, not-there, read-absent, read-right, read-wrong}
-use Rattle.kv_text.proofs.Tested.{only-if-there}
+use Rattle.laws.proofs.Tests.{not-there, only-if-there}
+use Rattle.kv_text.proofs.Lines.{line-within, read-absent, read-right, read-wrong}
 use Rattle.kv_text.proofs.name_line.Statement.{statement}
 use Rattle.kv_text.proofs.name_line.Tie as tie
 

@@ -8,8 +8,7 @@ use mathlib.Core.Path.{_∙_, _≡_, sym}
 use Rattle.definitions.specs.Alleles.{alleleOf, letters, lettersOf, nonRef, spanDel, spelled}
 use Rattle.definitions.specs.Bytes.{sameBytes, text}
 use Rattle.definitions.specs.Lists.{isThere}
-use Rattle.kv_text.proofs.Lines.{not-there}
-use Rattle.kv_text.proofs.Tested.{only-if-there}
+use Rattle.laws.proofs.Tests.{not-there, only-if-there}
 use Rattle.kv_text.proofs.read_allele.Statement.{statement}
 use Rattle.kv_text.proofs.read_allele.Tie as tie
 
