@@ -1,0 +1,66 @@
+-- The tables that a cohort is read into: the names by where they stand in the text, and a row of numbers for each site.
+use Prim.Native.Nat.{_*_, _+_, _<_, ℕ}
+use lib.Dec.{eqb, leb}
+use lib.ListN.{getD, length}
+use mathlib.Core.Bool.{cond}
+use mathlib.Core.List.{List, map}
+use mathlib.Core.Option.{Option, some}
+use mathlib.Core.Path.{_≡_}
+use Rattle.definitions.specs.Alleles.{Allele, isBlock, letters, nonRef, spanDel, spelled}
+use Rattle.definitions.specs.Bytes.{comma, fieldsOf, sameBytes}
+use Rattle.definitions.specs.Cohort.{Site}
+use Rattle.definitions.specs.Lists.{indexWhere, numbersFrom, onlyIf}
+use Rattle.definitions.specs.Numbers.{maxNumber, numberList}
+use Rattle.kv_text.specs.Fields.{between}
+
+-- ---- names
+
+-- the name with this number: two numbers say where it stands
+unfoldable pub nameAt : List ℕ → List ℕ → ℕ → List ℕ
+nameAt s names i = between s (getD names (2 * i) 0) (getD names (2 * i + 1) 0)
+
+unfoldable pub namesIn : List ℕ → List ℕ → ℕ → List (List ℕ)
+namesIn s names count = map (nameAt s names) (numbersFrom 0 count)
+
+-- ---- sites
+
+-- a row has so many numbers: 0 sample, 1 contig, by the number of the first site with that name, 2 start, 3 end, 4 whether the
+-- site is a block, 5 GQ, 6 DP, and where the text has (7, 8) the contig, (9, 10) REF, (11, 12) the ALTs, (13, 14) AD, (15, 16) PL
+abbrev pub rowLength : ℕ
+rowLength = 17
+
+unfoldable pub column : ℕ → List ℕ → ℕ → ℕ
+column k rows site = getD rows (site * rowLength + k) 0
+
+-- the bytes from the offset in one column to just before that in another
+unfoldable pub partAt : ℕ → ℕ → List ℕ → List ℕ → ℕ → List ℕ
+partAt from to s rows site = between s (column from rows site) (column to rows site)
+
+-- GQ or DP as a number of the table: one past the greatest of a text is missing
+unfoldable pub codeOption : ℕ → Option ℕ
+codeOption c = onlyIf (leb c maxNumber) c
+
+-- the allele that a field is, which is known to spell one
+unfoldable pub alleleSpelled : List ℕ → Allele
+alleleSpelled s = cond (sameBytes s (spelled spanDel)) spanDel (cond (sameBytes s (spelled nonRef)) nonRef (letters s))
+
+-- the site that a row stands for; a list of numbers is missing if its part of the text is none
+unfoldable pub siteAt : List ℕ → List ℕ → ℕ → Site
+siteAt s rows site = record {
+  sample = column 0 rows site;
+  contig = partAt 7 8 s rows site;
+  start = column 2 rows site;
+  end = column 3 rows site;
+  alleles = record { ref = partAt 9 10 s rows site; alts = map alleleSpelled (fieldsOf comma (partAt 11 12 s rows site)) };
+  gq = codeOption (column 5 rows site);
+  dp = codeOption (column 6 rows site);
+  ad = numberList (partAt 13 14 s rows site);
+  pl = numberList (partAt 15 16 s rows site);
+}
+
+-- the rows of a table stand for these sites
+pub record SiteRows (s rows : List ℕ) (sites : List Site) : Type 0 where
+  pub read : sites ≡ map (siteAt s rows) (numbersFrom 0 (length sites))
+  pub contigs : (site : ℕ) → site < length sites
+      → indexWhere (sameBytes (partAt 7 8 s rows site)) (map (λ (x : Site). x .contig) sites) ≡ some (column 1 rows site)
+  pub blocks : (site : ℕ) → site < length sites → eqb (column 4 rows site) 1 ≡ isBlock (siteAt s rows site .alleles)

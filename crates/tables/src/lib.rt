@@ -1,0 +1,175 @@
+// The tables that a cohort is read into. Every number of a site is taken: past the table's end all columns are 0.
+ghost use mathlib.Core.Path.{_≡_};
+ghost use lib.Dec.{eqb};
+ghost use lib.ListN.{length};
+ghost use lib.Seq.{sets};
+ghost use mathlib.Core.List.{[]};
+ghost use mathlib.Core.Option.{Option·getD};
+ghost use Rattle.definitions.specs.Answers.{scratchAfter};
+ghost use Rattle.definitions.specs.Bytes.{comma, fieldsOf};
+ghost use Rattle.definitions.specs.Numbers.{numberList};
+ghost use Rattle.kv_text.specs.Fields.{between, firstNumbers};
+ghost use Rattle.kv_write.specs.Optional.{optionOf};
+ghost use Rattle.tables.specs.Tables.{codeOption, column, partAt};
+use bio_ids::GenomePosition;
+use bio_ids::SampleIndex;
+use kv_text::NumbersRead;
+use kv_write::OptionalNumber;
+
+// Sets every number of a table to 0.
+pub fn clear(table: &mut [usize])
+    ensures { λ _. ⌜ now (table .exit) ≡ scratchAfter (now (table .entry)) ⌝ }
+{
+    for i in 0..table.len() {
+        table[i] = 0;
+    }
+}
+
+// A part of a text, as far as the text goes.
+pub fn part<'a>(s: &'a [u8], from: usize, to: usize) -> &'a [u8]
+    ensures { λ r. ⌜ now r ≡ between (now (s .entry)) from to ⌝ }
+{
+    if to <= from {
+        return &s[..0];
+    }
+    if s.len() <= from {
+        return &s[..0];
+    }
+    if s.len() < to {
+        return &s[from..];
+    }
+    &s[from..to]
+}
+
+// A number of a site's row.
+fn column(rows: &[usize], site: usize, k: usize) -> usize
+    ensures { λ r. ⌜ r ≡ column k (now (rows .entry)) site ⌝ }
+{
+    if rows.len() / 17 < site {
+        return 0;
+    }
+    let first = site * 17;
+    if rows.len() - first <= k {
+        return 0;
+    }
+    rows[first + k]
+}
+
+// The sample whose site it is.
+pub fn sample_of(rows: &[usize], site: usize) -> SampleIndex
+    ensures { λ r. ⌜ r .0 ≡ column 0 (now (rows .entry)) site ⌝ }
+{
+    SampleIndex::new(column(rows, site, 0))
+}
+
+// The site's contig, as the number of the first site on it.
+pub fn contig_of(rows: &[usize], site: usize) -> usize
+    ensures { λ r. ⌜ r ≡ column 1 (now (rows .entry)) site ⌝ }
+{
+    column(rows, site, 1)
+}
+
+// The site's first position.
+pub fn start_of(rows: &[usize], site: usize) -> GenomePosition
+    ensures { λ r. ⌜ r .0 ≡ column 2 (now (rows .entry)) site ⌝ }
+{
+    GenomePosition::new_1based(column(rows, site, 2) as u64)
+}
+
+// The site's last position.
+pub fn end_of(rows: &[usize], site: usize) -> GenomePosition
+    ensures { λ r. ⌜ r .0 ≡ column 3 (now (rows .entry)) site ⌝ }
+{
+    GenomePosition::new_1based(column(rows, site, 3) as u64)
+}
+
+// Whether the site is a reference block.
+pub fn is_block(rows: &[usize], site: usize) -> bool
+    ensures { λ r. ⌜ r ≡ eqb (column 4 (now (rows .entry)) site) 1 ⌝ }
+{
+    column(rows, site, 4) == 1
+}
+
+// A number of a table that may be missing.
+fn optional(code: usize) -> OptionalNumber
+    ensures { λ r. ⌜ optionOf r ≡ codeOption code ⌝ }
+{
+    if code <= 2147483647 {
+        return OptionalNumber::Present(code as u32);
+    }
+    OptionalNumber::Missing
+}
+
+// The site's GQ.
+pub fn gq_of(rows: &[usize], site: usize) -> OptionalNumber
+    ensures { λ r. ⌜ optionOf r ≡ codeOption (column 5 (now (rows .entry)) site) ⌝ }
+{
+    optional(column(rows, site, 5))
+}
+
+// The site's DP.
+pub fn dp_of(rows: &[usize], site: usize) -> OptionalNumber
+    ensures { λ r. ⌜ optionOf r ≡ codeOption (column 6 (now (rows .entry)) site) ⌝ }
+{
+    optional(column(rows, site, 6))
+}
+
+// The part of the text between the offsets in two columns.
+fn part_at<'a>(s: &'a [u8], rows: &[usize], site: usize, from: usize, to: usize) -> &'a [u8]
+    ensures { λ r. ⌜ now r ≡ partAt from to (now (s .entry)) (now (rows .entry)) site ⌝ }
+{
+    let first = column(rows, site, from);
+    let end = column(rows, site, to);
+    part(s, first, end)
+}
+
+// The name of the site's contig.
+pub fn contig_name<'a>(s: &'a [u8], rows: &[usize], site: usize) -> &'a [u8]
+    ensures { λ r. ⌜ now r ≡ partAt 7 8 (now (s .entry)) (now (rows .entry)) site ⌝ }
+{
+    part_at(s, rows, site, 7, 8)
+}
+
+// The site's REF.
+pub fn reference_allele<'a>(s: &'a [u8], rows: &[usize], site: usize) -> &'a [u8]
+    ensures { λ r. ⌜ now r ≡ partAt 9 10 (now (s .entry)) (now (rows .entry)) site ⌝ }
+{
+    part_at(s, rows, site, 9, 10)
+}
+
+// The site's ALTs, with commas.
+pub fn alternate_alleles<'a>(s: &'a [u8], rows: &[usize], site: usize) -> &'a [u8]
+    ensures { λ r. ⌜ now r ≡ partAt 11 12 (now (s .entry)) (now (rows .entry)) site ⌝ }
+{
+    part_at(s, rows, site, 11, 12)
+}
+
+// The numbers of a list into a slice, as many as fit; the answer is how many they are, 0 for a missing list.
+fn numbers_in(list: &[u8], out: &mut [u32]) -> usize
+    ensures count { λ r. ⌜ r ≡ length (Option·getD (numberList (now (list .entry))) []) ⌝ }
+    ensures values { λ r. ⌜ now (out .exit) ≡ sets (now (out .entry)) 0 (firstNumbers (fieldsOf comma (now (list .entry)))) ⌝ }
+{
+    let numbers = kv_text::read_numbers(list, out);
+    match numbers {
+        NumbersRead::Count(n) => n,
+        NumbersRead::Fault => 0,
+    }
+}
+
+// The site's AD.
+pub fn ad_of(s: &[u8], rows: &[usize], site: usize, out: &mut [u32]) -> usize
+    ensures count { λ r. ⌜ r ≡ length (Option·getD (numberList (partAt 13 14 (now (s .entry)) (now (rows .entry)) site)) []) ⌝ }
+    ensures values { λ r. ⌜ now (out .exit) ≡ sets (now (out .entry)) 0 (firstNumbers (fieldsOf comma (partAt 13 14 (now (s .entry)) (now (rows .entry)) site))) ⌝ }
+{
+    let list = part_at(s, rows, site, 13, 14);
+    numbers_in(list, out)
+}
+
+// The site's PL.
+pub fn pl_of(s: &[u8], rows: &[usize], site: usize, out: &mut [u32]) -> usize
+    ensures count { λ r. ⌜ r ≡ length (Option·getD (numberList (partAt 15 16 (now (s .entry)) (now (rows .entry)) site)) []) ⌝ }
+    ensures values { λ r. ⌜ now (out .exit) ≡ sets (now (out .entry)) 0 (firstNumbers (fieldsOf comma (partAt 15 16 (now (s .entry)) (now (rows .entry)) site))) ⌝ }
+{
+    let list = part_at(s, rows, site, 15, 16);
+    numbers_in(list, out)
+}
