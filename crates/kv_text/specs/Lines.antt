@@ -6,6 +6,7 @@ use mathlib.Core.Option.{Option, bind, none, some}
 use mathlib.Core.Path.{_≡_}
 use Rattle.definitions.specs.Bytes.{comma, fieldsOf}
 use Rattle.definitions.specs.Lines.{linesOf, valueOf}
+use Rattle.definitions.specs.Numbers.{numberList}
 use Rattle.kv_text.specs.Fields.{between, firstNumbers}
 use Rattle.kv_text.specs.declared.ListAt.{ListAt}
 use Rattle.kv_text.specs.declared.ListAt.the-variants as list
@@ -65,8 +66,10 @@ listFound s (list.Missing e) = readTo none e
 listFound s (list.Found a e n) = readTo (some (firstNumbers (fieldsOf comma (between s a e)))) e
 listFound s list.Wrong = unread
 
--- the list stands before its LF and has so many numbers
+-- the list stands before its LF, reads, and has so many numbers
 abbrev pub listCount : List ℕ → ListAt → Type 0
 listCount s (list.Missing e) = Unit {0}
-listCount s (list.Found a e n) = (a ≤ e) × (n ≡ length (firstNumbers (fieldsOf comma (between s a e))))
+listCount s (list.Found a e n) =
+    (a ≤ e) × (numberList (between s a e) ≡ some (firstNumbers (fieldsOf comma (between s a e))))
+    × (n ≡ length (firstNumbers (fieldsOf comma (between s a e))))
 listCount s list.Wrong = Unit {0}

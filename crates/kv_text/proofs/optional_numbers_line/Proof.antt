@@ -72,7 +72,7 @@ returns-3 c = let l = rw (c .before .before .before .before .before .before .bef
     let q = rw (c .before .n .given .1) at ((c .before .before .before .before .read-numbers .ensures .0)) in (
       read-right _ _ _ (orMissing numberList) _ _ _ (l .0)
           (missing-some numberList _ _ (sym (c .before .before .before .before .before .before .before .before .same-bytes .ensures) ∙ (c .before .before .before .before .before .before .before .if1 .left)) (q .0)),
-      (l .1, q .1),
+      (l .1, q .0, q .1),
     )
 
 returns-4 : tie.Need-returns-4

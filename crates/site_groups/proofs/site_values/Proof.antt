@@ -1,13 +1,13 @@
 -- One line after the other, each behind the one before it.
 use borrow.Author.Needs.{needs}
 use native.Mathlib.Omega.{arith}
-use Rattle.cohort.proofs.SiteLines.{ad-wrong, dp-wrong, gq-wrong, pl-wrong, values-read}
+use Rattle.site_groups.proofs.SiteLines.{ad-wrong, dp-wrong, gq-wrong, pl-wrong, values-read}
 use Rattle.definitions.specs.Bytes.{text}
 use Rattle.definitions.specs.Lines.{keyOf}
 use Rattle.definitions.specs.Numbers.{number, numberList, orMissing}
 use Rattle.kv_text.proofs.Lines.{line-within}
-use Rattle.cohort.proofs.site_values.Statement.{statement}
-use Rattle.cohort.proofs.site_values.Tie as tie
+use Rattle.site_groups.proofs.site_values.Statement.{statement}
+use Rattle.site_groups.proofs.site_values.Tie as tie
 
 slice-aggregate-code-line : tie.Need-slice-aggregate-code-line
 slice-aggregate-code-line c = search needs

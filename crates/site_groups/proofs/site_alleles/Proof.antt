@@ -2,12 +2,12 @@
 use borrow.Author.Needs.{needs}
 use mathlib.Core.Option.{some}
 use native.Mathlib.Omega.{arith}
-use Rattle.cohort.proofs.SiteLines.{alleles-read, alt-wrong, ref-wrong}
+use Rattle.site_groups.proofs.SiteLines.{alleles-read, alt-wrong, ref-wrong}
 use Rattle.definitions.specs.Bytes.{text}
 use Rattle.definitions.specs.Lines.{keyOf}
 use Rattle.kv_text.proofs.Lines.{line-within}
-use Rattle.cohort.proofs.site_alleles.Statement.{statement}
-use Rattle.cohort.proofs.site_alleles.Tie as tie
+use Rattle.site_groups.proofs.site_alleles.Statement.{statement}
+use Rattle.site_groups.proofs.site_alleles.Tie as tie
 
 slice-aggregate-value-line : tie.Need-slice-aggregate-value-line
 slice-aggregate-value-line c = search needs

@@ -1,56 +1,47 @@
 -- What reading the lines of a site group finds.
 use Prim.Native.Nat.{_≤_, ℕ}
-use lib.Dec.{eqb, leb}
 use lib.ListN.{drop, length, take}
-use mathlib.Core.Bool.{cond}
-use mathlib.Core.List.{List}
-use mathlib.Core.Option.{Option, none, some}
+use mathlib.Core.List.{List, []}
+use mathlib.Core.Option.{Option, Option·getD, some}
 use mathlib.Core.Path.{_≡_}
-use Rattle.definitions.specs.Bytes.{comma, fieldsOf}
 use Rattle.definitions.specs.Checked.{accepted, refused}
 use Rattle.definitions.specs.Cohort.{SiteText, siteLines, siteTextOf}
 use Rattle.definitions.specs.Lines.{Line, lineAt, linesOf}
-use Rattle.definitions.specs.Lists.{onlyIf}
-use Rattle.definitions.specs.Numbers.{maxNumber, name, number, numberList, orMissing}
-use Rattle.kv_text.specs.Fields.{between, firstNumbers}
+use Rattle.definitions.specs.Numbers.{name, number, numberList, orMissing}
+use Rattle.kv_text.specs.Fields.{between}
 use Rattle.kv_text.specs.Lines.{Behind, LineFound, readTo, unread}
 use Rattle.kv_text.specs.declared.NumberAt.{NumberAt}
 use Rattle.kv_text.specs.declared.NumberAt.the-variants as one
-use Rattle.cohort.specs.declared.AllelesAt.{AllelesAt}
-use Rattle.cohort.specs.declared.AllelesAt.the-variants as alleles
-use Rattle.cohort.specs.declared.NumbersPart.{NumbersPart}
-use Rattle.cohort.specs.declared.Part.{Part}
-use Rattle.cohort.specs.declared.PartAt.{PartAt}
-use Rattle.cohort.specs.declared.PartAt.the-variants as part
-use Rattle.cohort.specs.declared.PlaceAt.{PlaceAt}
-use Rattle.cohort.specs.declared.PlaceAt.the-variants as place
-use Rattle.cohort.specs.declared.SiteAlleles.{SiteAlleles}
-use Rattle.cohort.specs.declared.SitePlace.{SitePlace}
-use Rattle.cohort.specs.declared.SiteValues.{SiteValues}
-use Rattle.cohort.specs.declared.TextAt.{TextAt}
-use Rattle.cohort.specs.declared.TextAt.the-variants as text
-use Rattle.cohort.specs.declared.ValuesAt.{ValuesAt}
-use Rattle.cohort.specs.declared.ValuesAt.the-variants as values
+use Rattle.tables.specs.Tables.{codeOption}
+use Rattle.site_groups.specs.declared.AllelesAt.{AllelesAt}
+use Rattle.site_groups.specs.declared.AllelesAt.the-variants as alleles
+use Rattle.site_groups.specs.declared.NumbersPart.{NumbersPart}
+use Rattle.site_groups.specs.declared.Part.{Part}
+use Rattle.site_groups.specs.declared.PartAt.{PartAt}
+use Rattle.site_groups.specs.declared.PartAt.the-variants as part
+use Rattle.site_groups.specs.declared.PlaceAt.{PlaceAt}
+use Rattle.site_groups.specs.declared.PlaceAt.the-variants as place
+use Rattle.site_groups.specs.declared.SiteAlleles.{SiteAlleles}
+use Rattle.site_groups.specs.declared.SitePlace.{SitePlace}
+use Rattle.site_groups.specs.declared.SiteValues.{SiteValues}
+use Rattle.site_groups.specs.declared.TextAt.{TextAt}
+use Rattle.site_groups.specs.declared.TextAt.the-variants as text
+use Rattle.site_groups.specs.declared.ValuesAt.{ValuesAt}
+use Rattle.site_groups.specs.declared.ValuesAt.the-variants as values
 
--- a number that may be missing, as code: a number past the greatest of a text is none
-unfoldable pub codeOption : ℕ → Option ℕ
-codeOption c = onlyIf (leb c maxNumber) c
-
+-- the answers about a line
 abbrev pub codeFound : NumberAt → LineFound (Option ℕ)
 codeFound (one.Found c e) = readTo (codeOption c) e
 codeFound one.Wrong = unread
 
--- a list of numbers that may be missing, by where it stands and how many numbers it has: none is missing
-unfoldable pub partOption : List ℕ → ℕ → ℕ → ℕ → Option (List ℕ)
-partOption s a e n = cond (eqb n 0) none (some (firstNumbers (fieldsOf comma (between s a e))))
-
 abbrev pub partFound : List ℕ → PartAt → LineFound (Option (List ℕ))
-partFound s (part.Part a e n) = readTo (partOption s a e n) e
+partFound s (part.Part a e n) = readTo (numberList (between s a e)) e
 partFound s part.Wrong = unread
 
-abbrev pub PartOrdered : PartAt → Type 0
-PartOrdered (part.Part a e n) = a ≤ e
-PartOrdered part.Wrong = Unit {0}
+-- a list has so many numbers, none if it is missing
+abbrev pub PartCounted : List ℕ → PartAt → Type 0
+PartCounted s (part.Part a e n) = n ≡ length (Option·getD (numberList (between s a e)) [])
+PartCounted s part.Wrong = Unit {0}
 
 -- the bytes of a part of the text
 abbrev pub bytesOf : List ℕ → Part → List ℕ
@@ -87,9 +78,12 @@ unfoldable pub AllelesRead : List ℕ → ℕ → AllelesAt → Type 0
 AllelesRead s at (alleles.Alleles a) = (first : ℕ) → Behind s first 4 at → AlleleLines s first a
 AllelesRead s at alleles.Wrong = (first : ℕ) → Behind s first 4 at → siteTextOf (siteGroup s first) ≡ refused 1
 
--- a list of numbers in the text
+-- a list of numbers in the text, and that it has as many as its count says
 abbrev pub numbersOf : List ℕ → NumbersPart → Option (List ℕ)
-numbersOf s n = partOption s (n .at) (n .end) (n .count)
+numbersOf s n = numberList (between s (n .at) (n .end))
+
+abbrev pub Counted : List ℕ → NumbersPart → Type 0
+Counted s n = n .count ≡ length (Option·getD (numbersOf s n) [])
 
 -- the last four lines
 pub record ValueLines (s : List ℕ) (first : ℕ) (v : SiteValues) : Type 0 where
@@ -97,8 +91,8 @@ pub record ValueLines (s : List ℕ) (first : ℕ) (v : SiteValues) : Type 0 whe
   pub dp : lineAt (siteGroup s first) 7 "dp" (orMissing number) ≡ accepted (codeOption (v .dp))
   pub ad : lineAt (siteGroup s first) 8 "ad" (orMissing numberList) ≡ accepted (numbersOf s (v .ad))
   pub pl : lineAt (siteGroup s first) 9 "pl" (orMissing numberList) ≡ accepted (numbersOf s (v .pl))
-  pub ad-ordered : v .ad .at ≤ v .ad .end
-  pub pl-ordered : v .pl .at ≤ v .pl .end
+  pub ad-count : Counted s (v .ad)
+  pub pl-count : Counted s (v .pl)
   pub behind : Behind s first 10 (v .next)
   pub within : v .next ≤ length s
 

@@ -1,13 +1,13 @@
 -- One line after the other, each behind the one before it.
 use borrow.Author.Needs.{needs}
 use native.Mathlib.Omega.{arith}
-use Rattle.cohort.proofs.SiteLines.{contig-wrong, end-wrong, place-read, site-wrong, start-wrong}
+use Rattle.site_groups.proofs.SiteLines.{contig-wrong, end-wrong, place-read, site-wrong, start-wrong}
 use Rattle.definitions.specs.Bytes.{text}
 use Rattle.definitions.specs.Lines.{keyOf}
 use Rattle.definitions.specs.Numbers.{name, number}
 use Rattle.kv_text.proofs.Lines.{line-within}
-use Rattle.cohort.proofs.site_place.Statement.{statement}
-use Rattle.cohort.proofs.site_place.Tie as tie
+use Rattle.site_groups.proofs.site_place.Statement.{statement}
+use Rattle.site_groups.proofs.site_place.Tie as tie
 
 slice-aggregate-number-line : tie.Need-slice-aggregate-number-line
 slice-aggregate-number-line c = search needs

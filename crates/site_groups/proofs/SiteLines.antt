@@ -1,32 +1,33 @@
 -- The lines of a site group, and what their answers mean.
 use Prim.Native.Nat.{_+_, _≤_, ℕ}
-use borrow.Author.Tests.{le-leb, ne-eqb}
+use borrow.Author.Tests.{le-leb}
 use lib.ListN.{drop, getD, length}
-use mathlib.Core.List.{List}
-use mathlib.Core.Option.{Option, none, some}
+use mathlib.Core.List.{List, []}
+use mathlib.Core.Option.{Option, Option·getD, none, some}
 use mathlib.Core.Path.{_≡_, refl}
 use native.Mathlib.Omega.{arith}
-use Rattle.definitions.specs.Bytes.{comma, fieldsOf}
+use Rattle.definitions.specs.Bytes.{fieldsOf}
 use Rattle.definitions.specs.Checked.{Checked, _>>=_, orRefuse, refused}
 use Rattle.definitions.specs.Cohort.{siteLines, siteTextOf}
 use Rattle.definitions.specs.Lines.{Line, keyOf, lineAt, linesOf, valueOf}
-use Rattle.definitions.specs.Lists.{onlyIf}
-use Rattle.definitions.specs.Numbers.{maxNumber, name, number, numberList, orMissing}
+use Rattle.definitions.specs.Lists.{allOf, allSome, onlyIf, splitWhere}
+use Rattle.definitions.specs.Numbers.{maxNumber, name, noLeadingZero, number, numberList, orMissing}
 use Rattle.laws.proofs.Checked.{then, then-refused}
-use Rattle.laws.proofs.SoundValues.{Numbers}
 use Rattle.laws.proofs.Tests.{after-bind}
 use Rattle.kv_text.proofs.Groups.{behind-next, behind-start, line-read, line-unread}
 use Rattle.kv_text.proofs.Lines.{line-within}
-use Rattle.kv_text.specs.Fields.{between, firstNumbers}
+use Rattle.kv_text.specs.Fields.{between}
 use Rattle.kv_text.specs.Lines.{Behind, LineReads, lineValue, readTo, unread}
-use Rattle.cohort.specs.SiteGroups.{AlleleLines, AllelesRead, PlaceLines, PlaceRead, TextRead, ValueLines, ValuesRead, codeOption, partOption}
-use Rattle.cohort.specs.declared.AllelesAt.the-variants as alleles
-use Rattle.cohort.specs.declared.PlaceAt.the-variants.{Place, Wrong}
-use Rattle.cohort.specs.declared.SiteAlleles.{SiteAlleles}
-use Rattle.cohort.specs.declared.SitePlace.{SitePlace}
-use Rattle.cohort.specs.declared.SiteValues.{SiteValues}
-use Rattle.cohort.specs.declared.TextAt.the-variants as text
-use Rattle.cohort.specs.declared.ValuesAt.the-variants as values
+use Rattle.tables.proofs.Parts.{between-none}
+use Rattle.tables.specs.Tables.{codeOption}
+use Rattle.site_groups.specs.SiteGroups.{AlleleLines, AllelesRead, PlaceLines, PlaceRead, TextRead, ValueLines, ValuesRead}
+use Rattle.site_groups.specs.declared.AllelesAt.the-variants as alleles
+use Rattle.site_groups.specs.declared.PlaceAt.the-variants.{Place, Wrong}
+use Rattle.site_groups.specs.declared.SiteAlleles.{SiteAlleles}
+use Rattle.site_groups.specs.declared.SitePlace.{SitePlace}
+use Rattle.site_groups.specs.declared.SiteValues.{SiteValues}
+use Rattle.site_groups.specs.declared.TextAt.the-variants as text
+use Rattle.site_groups.specs.declared.ValuesAt.the-variants as values
 
 -- what holds of every value that reads holds of a line's
 pub line-back : {A : Type 0} (P : A → Type 0) (s : List ℕ) (at : ℕ) (key : List ℕ) (read : List ℕ → Option A) (a : A) (e : ℕ)
@@ -180,8 +181,8 @@ module _ (s : List ℕ) (at : ℕ) where
       unfolding ValuesRead siteLines
       ad-wrong l first b = ad-refused _ (line-unread (b₈ first b) "ad" (orMissing numberList) 10 (omega arith) l)
 
-      module _ (a₈ e₈ n₈ : ℕ) (l₈ : LineReads s (e₇ + 1) (keyOf "ad") (orMissing numberList) (readTo (partOption s a₈ e₈ n₈) e₈))
-          (ordered₈ : a₈ ≤ e₈) where
+      module _ (a₈ e₈ n₈ : ℕ) (l₈ : LineReads s (e₇ + 1) (keyOf "ad") (orMissing numberList) (readTo (numberList (between s a₈ e₈)) e₈))
+          (count₈ : n₈ ≡ length (Option·getD (numberList (between s a₈ e₈)) [])) where
         b₉ : (first : ℕ) → Behind s first 6 at → Behind s first 9 (e₈ + 1)
         b₉ first b = behind-next (b₈ first b) "ad" (orMissing numberList) _ e₈ l₈
 
@@ -189,8 +190,8 @@ module _ (s : List ℕ) (at : ℕ) where
         unfolding ValuesRead siteLines
         pl-wrong l first b = pl-refused _ (line-unread (b₉ first b) "pl" (orMissing numberList) 10 (omega arith) l)
 
-        pub values-read : (a₉ e₉ n₉ : ℕ) → LineReads s (e₈ + 1) (keyOf "pl") (orMissing numberList) (readTo (partOption s a₉ e₉ n₉) e₉)
-            → a₉ ≤ e₉
+        pub values-read : (a₉ e₉ n₉ : ℕ) → LineReads s (e₈ + 1) (keyOf "pl") (orMissing numberList) (readTo (numberList (between s a₉ e₉)) e₉)
+            → n₉ ≡ length (Option·getD (numberList (between s a₉ e₉)) [])
             → ValuesRead s at (values.Values (record {
               gq = gq;
               dp = dp;
@@ -199,13 +200,13 @@ module _ (s : List ℕ) (at : ℕ) where
               next = e₉ + 1;
             }))
         unfolding ValuesRead siteLines
-        values-read a₉ e₉ n₉ l₉ ordered₉ first b = record {
+        values-read a₉ e₉ n₉ l₉ count₉ first b = record {
           gq = line-read b "gq" (orMissing number) 10 (omega arith) _ e₆ l₆;
           dp = line-read (b₇ first b) "dp" (orMissing number) 10 (omega arith) _ e₇ l₇;
           ad = line-read (b₈ first b) "ad" (orMissing numberList) 10 (omega arith) _ e₈ l₈;
           pl = line-read (b₉ first b) "pl" (orMissing numberList) 10 (omega arith) _ e₉ l₉;
-          ad-ordered = ordered₈;
-          pl-ordered = ordered₉;
+          ad-count = count₈;
+          pl-count = count₉;
           behind = behind-next (b₉ first b) "pl" (orMissing numberList) _ e₉ l₉;
           within = let h = line-within s (e₈ + 1) (keyOf "pl") (orMissing numberList) _ e₉ l₉ in omega arith;
         }
@@ -235,11 +236,10 @@ code-number n h = rw (le-leb n maxNumber h)
 
 -- ---- parts
 
-pub part-missing : (s : List ℕ) (a e : ℕ) → partOption s a e 0 ≡ none
-unfolding partOption
-part-missing s a e = refl
+pub no-list : numberList [] ≡ none
+unfolding numberList fieldsOf splitWhere allSome number onlyIf allOf noLeadingZero
+no-list = refl
 
-pub part-there : (s : List ℕ) (a e n : ℕ) → n ≡ length (firstNumbers (fieldsOf comma (between s a e)))
-    → Numbers (firstNumbers (fieldsOf comma (between s a e))) → partOption s a e n ≡ some (firstNumbers (fieldsOf comma (between s a e)))
-unfolding partOption
-part-there s a e n h k = rw (ne-eqb n 0 (λ z. absurd (omega (arith, k .some-number))))
+-- a missing list is an empty part
+pub part-missing : (s : List ℕ) (e : ℕ) → numberList (between s e e) ≡ none
+part-missing s e = rw (between-none s e e (omega arith)) no-list

@@ -1,8 +1,8 @@
-// cohort.kv: site groups by their lines.
+// The site groups of cohort.kv.
 ghost use mathlib.Core.Path.{_≡_};
 ghost use Rattle.definitions.specs.Numbers.{number, numberList, orMissing};
 ghost use Rattle.kv_text.specs.Lines.{LineReads};
-ghost use Rattle.cohort.specs.SiteGroups.{AllelesRead, PartOrdered, PlaceRead, TextRead, ValuesRead, codeFound, partFound};
+ghost use Rattle.site_groups.specs.SiteGroups.{AllelesRead, PartCounted, PlaceRead, TextRead, ValuesRead, codeFound, partFound};
 use kv_text::ListAt;
 use kv_text::NumberAt;
 use kv_text::OptionalAt;
@@ -27,7 +27,7 @@ pub enum PartAt {
 }
 
 fn part_line(s: &[u8], at: usize, key: &[u8]) -> PartAt
-    ensures { λ r. ⌜ LineReads (now (s .entry)) at (now (key .entry)) (orMissing numberList) (partFound (now (s .entry)) r) × PartOrdered r ⌝ }
+    ensures { λ r. ⌜ LineReads (now (s .entry)) at (now (key .entry)) (orMissing numberList) (partFound (now (s .entry)) r) × PartCounted (now (s .entry)) r ⌝ }
 {
     let line = kv_text::optional_numbers_line(s, at, key);
     match line {

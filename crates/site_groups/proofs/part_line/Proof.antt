@@ -1,12 +1,8 @@
--- A missing list is a part with no numbers; a list that reads has some.
+-- A missing list is an empty part.
 use borrow.Author.Needs.{needs}
-use native.Mathlib.Omega.{arith}
-use Rattle.cohort.proofs.SiteLines.{line-back, part-missing, part-there}
-use Rattle.definitions.specs.Numbers.{numberList, orMissing}
-use Rattle.laws.proofs.Every.{IfThere}
-use Rattle.laws.proofs.SoundValues.{Numbers, list-or-missing-sound}
-use Rattle.cohort.proofs.part_line.Statement.{statement}
-use Rattle.cohort.proofs.part_line.Tie as tie
+use Rattle.site_groups.proofs.SiteLines.{part-missing}
+use Rattle.site_groups.proofs.part_line.Statement.{statement}
+use Rattle.site_groups.proofs.part_line.Tie as tie
 
 optional-numbers-line-requires : tie.Need-optional-numbers-line-requires
 optional-numbers-line-requires c κs = search needs
@@ -21,12 +17,12 @@ enum-told : tie.Need-enum-told
 enum-told c = search needs
 
 returns : tie.Need-returns
-returns c = let l = rw (c .before .line .given .1) at (c .before .before .before .optional-numbers-line .ensures) in (rw (part-missing _ _ _) (l .0), omega arith)
+returns c = let l = rw (c .before .line .given .1) at (c .before .before .before .optional-numbers-line .ensures) in
+    (rw (part-missing _ _) (l .0), rw (part-missing _ _))
 
 returns-2 : tie.Need-returns-2
 returns-2 c = let l = rw (c .before .line2 .given .1) at (c .before .before .before .optional-numbers-line .ensures) in
-    let some-numbers = line-back (IfThere Numbers) _ _ _ (orMissing numberList) _ _ list-or-missing-sound (l .0) in
-    (rw (part-there _ _ _ _ (l .1 .1) some-numbers) (l .0), l .1 .0)
+    (rw (l .1 .1) (l .0), rw (l .1 .1) (l .1 .2))
 
 returns-3 : tie.Need-returns-3
 returns-3 c = (rw (c .enum-told .given .1) at ((c .before .before .optional-numbers-line .ensures .0)), tt)

@@ -1,12 +1,12 @@
 -- A missing number gets the code that is past every number of a text.
 use borrow.Author.Needs.{needs}
-use Rattle.cohort.proofs.SiteLines.{code-missing, code-number, line-back}
+use Rattle.site_groups.proofs.SiteLines.{code-missing, code-number, line-back}
 use Rattle.definitions.specs.Numbers.{number, orMissing}
 use Rattle.laws.proofs.Decimals.{InRange}
 use Rattle.laws.proofs.Every.{IfThere}
 use Rattle.laws.proofs.SoundValues.{number-or-missing-sound}
-use Rattle.cohort.proofs.code_line.Statement.{statement}
-use Rattle.cohort.proofs.code_line.Tie as tie
+use Rattle.site_groups.proofs.code_line.Statement.{statement}
+use Rattle.site_groups.proofs.code_line.Tie as tie
 
 optional-number-line-requires : tie.Need-optional-number-line-requires
 optional-number-line-requires c κs = search needs

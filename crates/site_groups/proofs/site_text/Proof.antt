@@ -1,9 +1,9 @@
 -- The three parts of the group, each behind the one before it.
 use borrow.Author.Needs.{needs}
-use Rattle.cohort.proofs.SiteLines.{text-read}
-use Rattle.cohort.specs.SiteGroups.{AllelesRead, PlaceRead, TextRead, ValuesRead}
-use Rattle.cohort.proofs.site_text.Statement.{statement}
-use Rattle.cohort.proofs.site_text.Tie as tie
+use Rattle.site_groups.proofs.SiteLines.{text-read}
+use Rattle.site_groups.specs.SiteGroups.{AllelesRead, PlaceRead, TextRead, ValuesRead}
+use Rattle.site_groups.proofs.site_text.Statement.{statement}
+use Rattle.site_groups.proofs.site_text.Tie as tie
 
 site-place-requires : tie.Need-site-place-requires
 site-place-requires c κs = search needs
