@@ -6,7 +6,7 @@ use mathlib.Core.Bool.{cond}
 use mathlib.Core.List.{List, map}
 use mathlib.Core.Option.{Option, some}
 use mathlib.Core.Path.{_≡_}
-use Rattle.definitions.specs.Alleles.{Allele, isBlock, letters, nonRef, spanDel, spelled}
+use Rattle.definitions.specs.Alleles.{Allele, RefAlts, isBlock, letters, nonRef, spanDel, spelled}
 use Rattle.definitions.specs.Bytes.{comma, fieldsOf, sameBytes}
 use Rattle.definitions.specs.Cohort.{Site}
 use Rattle.definitions.specs.Lists.{indexWhere, numbersFrom, onlyIf}
@@ -44,6 +44,10 @@ codeOption c = onlyIf (leb c maxNumber) c
 unfoldable pub alleleSpelled : List ℕ → Allele
 alleleSpelled s = cond (sameBytes s (spelled spanDel)) spanDel (cond (sameBytes s (spelled nonRef)) nonRef (letters s))
 
+-- REF and the ALTs that two values spell
+unfoldable pub refAltsSpelled : List ℕ → List ℕ → RefAlts
+refAltsSpelled ref alt = record { ref = ref; alts = map alleleSpelled (fieldsOf comma alt) }
+
 -- the site that a row stands for; a list of numbers is missing if its part of the text is none
 unfoldable pub siteAt : List ℕ → List ℕ → ℕ → Site
 siteAt s rows site = record {
@@ -51,7 +55,7 @@ siteAt s rows site = record {
   contig = partAt 7 8 s rows site;
   start = column 2 rows site;
   end = column 3 rows site;
-  alleles = record { ref = partAt 9 10 s rows site; alts = map alleleSpelled (fieldsOf comma (partAt 11 12 s rows site)) };
+  alleles = refAltsSpelled (partAt 9 10 s rows site) (partAt 11 12 s rows site);
   gq = codeOption (column 5 rows site);
   dp = codeOption (column 6 rows site);
   ad = numberList (partAt 13 14 s rows site);

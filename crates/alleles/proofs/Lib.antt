@@ -1,0 +1,2 @@
+pub mod FieldLoop
+pub mod Spelled
