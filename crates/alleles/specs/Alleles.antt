@@ -1,5 +1,5 @@
 -- What checking a REF and a list of ALTs finds.
-use Prim.Native.Nat.{suc, ℕ}
+use Prim.Native.Nat.{_≤_, suc, ℕ}
 use lib.ListN.{length}
 use mathlib.Core.Bool.{Bool}
 use mathlib.Core.List.{List}
@@ -15,6 +15,7 @@ use Rattle.alleles.specs.declared.AllelesRead.the-variants.{Alleles, Fau
 pub record AllelesRight (most count : ℕ) (ref alt : List ℕ) (n : ℕ) (non-ref : Bool) : Type 0 where
   pub right : refAltsOf most count ref alt ≡ some (refAltsSpelled ref alt)
   pub number : n ≡ suc (length (fieldsOf comma alt))
+  pub few : n ≤ count
   pub has : non-ref ≡ hasNonRef (refAltsSpelled ref alt)
 
 unfoldable pub AllelesFound : ℕ → ℕ → List ℕ → List ℕ → AllelesRead → Type 0

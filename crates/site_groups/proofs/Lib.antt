@@ -1,1 +1,2 @@
+pub mod SiteChecks
 pub mod SiteLines

@@ -20,7 +20,7 @@ use Rattle.kv_text.specs.Fields.{between}
 use Rattle.kv_text.specs.Lines.{Behind, LineReads, lineValue, readTo, unread}
 use Rattle.tables.proofs.Parts.{between-none}
 use Rattle.tables.specs.Tables.{codeOption}
-use Rattle.site_groups.specs.SiteGroups.{AlleleLines, AllelesRead, PlaceLines, PlaceRead, TextRead, ValueLines, ValuesRead}
+use Rattle.site_groups.specs.SiteGroups.{AlleleLines, AlleleLinesRead, PlaceLines, PlaceRead, TextRead, ValueLines, ValuesRead}
 use Rattle.site_groups.specs.declared.AllelesAt.the-variants as alleles
 use Rattle.site_groups.specs.declared.PlaceAt.the-variants.{Place, Wrong}
 use Rattle.site_groups.specs.declared.SiteAlleles.{SiteAlleles}
@@ -135,18 +135,18 @@ module _ (s : List ℕ) (at : ℕ) where
 -- ---- the alleles' lines
 
 module _ (s : List ℕ) (at : ℕ) where
-  pub ref-wrong : LineReads s at (keyOf "ref") some unread → AllelesRead s at alleles.Wrong
-  unfolding AllelesRead siteLines
+  pub ref-wrong : LineReads s at (keyOf "ref") some unread → AlleleLinesRead s at alleles.Wrong
+  unfolding AlleleLinesRead siteLines
   ref-wrong l first b = ref-refused _ (line-unread b "ref" some 10 (omega arith) l)
 
   module _ (a₄ e₄ : ℕ) (l₄ : LineReads s at (keyOf "ref") some (readTo (between s a₄ e₄) e₄)) (ordered : a₄ ≤ e₄) where
-    pub alt-wrong : LineReads s (e₄ + 1) (keyOf "alt") some unread → AllelesRead s at alleles.Wrong
-    unfolding AllelesRead siteLines
+    pub alt-wrong : LineReads s (e₄ + 1) (keyOf "alt") some unread → AlleleLinesRead s at alleles.Wrong
+    unfolding AlleleLinesRead siteLines
     alt-wrong l first b = alt-refused _ (line-unread (behind-next b "ref" some _ e₄ l₄) "alt" some 10 (omega arith) l)
 
     pub alleles-read : (a₅ e₅ : ℕ) → LineReads s (e₄ + 1) (keyOf "alt") some (readTo (between s a₅ e₅) e₅) → a₅ ≤ e₅
-        → AllelesRead s at (alleles.Alleles (record { refs = record { at = a₄; end = e₄ }; alts = record { at = a₅; end = e₅ }; next = e₅ + 1 }))
-    unfolding AllelesRead siteLines
+        → AlleleLinesRead s at (alleles.Alleles (record { refs = record { at = a₄; end = e₄ }; alts = record { at = a₅; end = e₅ }; next = e₅ + 1 }))
+    unfolding AlleleLinesRead siteLines
     alleles-read a₅ e₅ l₅ ordered₅ first b =
         let b₅ = behind-next b "ref" some _ e₄ l₄ in
         record {

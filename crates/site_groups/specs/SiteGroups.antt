@@ -2,17 +2,19 @@
 use Prim.Native.Nat.{_≤_, ℕ}
 use lib.ListN.{drop, length, take}
 use mathlib.Core.List.{List, []}
+use mathlib.Core.Bool.{Bool}
 use mathlib.Core.Option.{Option, Option·getD, some}
 use mathlib.Core.Path.{_≡_}
-use Rattle.definitions.specs.Checked.{accepted, refused}
-use Rattle.definitions.specs.Cohort.{SiteText, siteLines, siteTextOf}
+use Rattle.definitions.specs.Alleles.{isBlock}
+use Rattle.definitions.specs.Checked.{Checked, _>>=_, accepted, refused}
+use Rattle.definitions.specs.Cohort.{Site, SiteText, checkedSite, siteLines, siteTextOf}
 use Rattle.definitions.specs.Lines.{Line, lineAt, linesOf}
 use Rattle.definitions.specs.Numbers.{name, number, numberList, orMissing}
 use Rattle.kv_text.specs.Fields.{between}
 use Rattle.kv_text.specs.Lines.{Behind, LineFound, readTo, unread}
 use Rattle.kv_text.specs.declared.NumberAt.{NumberAt}
 use Rattle.kv_text.specs.declared.NumberAt.the-variants as one
-use Rattle.tables.specs.Tables.{codeOption}
+use Rattle.tables.specs.Tables.{codeOption, refAltsSpelled}
 use Rattle.site_groups.specs.declared.AllelesAt.{AllelesAt}
 use Rattle.site_groups.specs.declared.AllelesAt.the-variants as alleles
 use Rattle.site_groups.specs.declared.NumbersPart.{NumbersPart}
@@ -22,6 +24,10 @@ use Rattle.site_groups.specs.declared.PartAt.the-variants as part
 use Rattle.site_groups.specs.declared.PlaceAt.{PlaceAt}
 use Rattle.site_groups.specs.declared.PlaceAt.the-variants as place
 use Rattle.site_groups.specs.declared.SiteAlleles.{SiteAlleles}
+use Rattle.site_groups.specs.declared.SiteAt.{SiteAt}
+use Rattle.site_groups.specs.declared.SiteAt.the-variants as site
+use Rattle.site_groups.specs.declared.SiteCheck.{SiteCheck}
+use Rattle.site_groups.specs.declared.SiteCheck.the-variants as check
 use Rattle.site_groups.specs.declared.SitePlace.{SitePlace}
 use Rattle.site_groups.specs.declared.SiteValues.{SiteValues}
 use Rattle.site_groups.specs.declared.TextAt.{TextAt}
@@ -74,9 +80,9 @@ pub record AlleleLines (s : List ℕ) (first : ℕ) (a : SiteAlleles) : Type 0 w
   pub behind : Behind s first 6 (a .next)
   pub within : a .next ≤ length s
 
-unfoldable pub AllelesRead : List ℕ → ℕ → AllelesAt → Type 0
-AllelesRead s at (alleles.Alleles a) = (first : ℕ) → Behind s first 4 at → AlleleLines s first a
-AllelesRead s at alleles.Wrong = (first : ℕ) → Behind s first 4 at → siteTextOf (siteGroup s first) ≡ refused 1
+unfoldable pub AlleleLinesRead : List ℕ → ℕ → AllelesAt → Type 0
+AlleleLinesRead s at (alleles.Alleles a) = (first : ℕ) → Behind s first 4 at → AlleleLines s first a
+AlleleLinesRead s at alleles.Wrong = (first : ℕ) → Behind s first 4 at → siteTextOf (siteGroup s first) ≡ refused 1
 
 -- a list of numbers in the text, and that it has as many as its count says
 abbrev pub numbersOf : List ℕ → NumbersPart → Option (List ℕ)
@@ -124,3 +130,43 @@ pub record TextLines (s : List ℕ) (at : ℕ) (p : SitePlace) (a : SiteAlleles)
 unfoldable pub TextRead : List ℕ → ℕ → TextAt → Type 0
 TextRead s at (text.Text p a v) = TextLines s at p a v
 TextRead s at text.Wrong = siteTextOf (siteGroup s at) ≡ refused 1
+
+-- the site that they stand for
+abbrev pub siteFrom : List ℕ → SitePlace → SiteAlleles → SiteValues → Site
+siteFrom s p a v = record {
+  sample = p .sample;
+  contig = bytesOf s (p .contig);
+  start = p .start;
+  end = p .end;
+  alleles = refAltsSpelled (bytesOf s (a .refs)) (bytesOf s (a .alts));
+  gq = codeOption (v .gq);
+  dp = codeOption (v .dp);
+  ad = numbersOf s (v .ad);
+  pl = numbersOf s (v .pl);
+}
+
+-- rows 2 to 8 let it through, and it is a block or not
+pub record SiteRight (s : List ℕ) (p : SitePlace) (a : SiteAlleles) (v : SiteValues) (samples before : ℕ) (block : Bool) : Type 0 where
+  pub value : checkedSite samples before (siteTextAt s p a v) ≡ accepted (siteFrom s p a v)
+  pub is-block : block ≡ isBlock (siteFrom s p a v .alleles)
+
+-- what is checked had its numbers counted right
+unfoldable pub SiteChecked : List ℕ → SitePlace → SiteAlleles → SiteValues → ℕ → ℕ → SiteCheck → Type 0
+SiteChecked s p a v samples before (check.Right block) =
+    Counted s (v .ad) → Counted s (v .pl) → SiteRight s p a v samples before block
+SiteChecked s p a v samples before (check.Refused row) =
+    Counted s (v .ad) → Counted s (v .pl) → checkedSite samples before (siteTextAt s p a v) ≡ refused row
+
+-- the ten lines at an offset as a site, with so many samples and after so many sites
+unfoldable pub siteGroupOf : List ℕ → ℕ → ℕ → ℕ → Checked Site
+siteGroupOf s at samples before = siteTextOf (siteGroup s at) >>= checkedSite samples before
+
+pub record SiteTo (s : List ℕ) (at samples before : ℕ) (p : SitePlace) (a : SiteAlleles) (v : SiteValues) (block : Bool) : Type 0 where
+  pub value : siteGroupOf s at samples before ≡ accepted (siteFrom s p a v)
+  pub is-block : block ≡ isBlock (siteFrom s p a v .alleles)
+  pub behind : Behind s at siteLines (v .next)
+  pub within : v .next ≤ length s
+
+unfoldable pub SiteRead : List ℕ → ℕ → ℕ → ℕ → SiteAt → Type 0
+SiteRead s at samples before (site.Site p a v block) = SiteTo s at samples before p a v block
+SiteRead s at samples before (site.Refused row) = siteGroupOf s at samples before ≡ refused row

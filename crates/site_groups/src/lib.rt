@@ -1,8 +1,12 @@
 // The site groups of cohort.kv.
 ghost use mathlib.Core.Path.{_≡_};
+ghost use mathlib.Core.Bool.{_&&_, _||_, cond};
+ghost use lib.Dec.{eqb, leb};
+ghost use Rattle.definitions.specs.Alleles.{genotypeCount};
 ghost use Rattle.definitions.specs.Numbers.{number, numberList, orMissing};
 ghost use Rattle.kv_text.specs.Lines.{LineReads};
-ghost use Rattle.site_groups.specs.SiteGroups.{AllelesRead, PartCounted, PlaceRead, TextRead, ValuesRead, codeFound, partFound};
+ghost use Rattle.site_groups.specs.SiteGroups.{AlleleLinesRead, PartCounted, PlaceRead, SiteChecked, SiteRead, TextRead, ValuesRead, codeFound, partFound};
+use alleles::AllelesRead;
 use kv_text::ListAt;
 use kv_text::NumberAt;
 use kv_text::OptionalAt;
@@ -98,7 +102,7 @@ pub enum AllelesAt {
 }
 
 fn site_alleles(s: &[u8], at: usize) -> AllelesAt
-    ensures { λ r. ⌜ AllelesRead (now (s .entry)) at r ⌝ }
+    ensures { λ r. ⌜ AlleleLinesRead (now (s .entry)) at r ⌝ }
 {
     let reference = kv_text::value_line(s, at, b"ref=");
     let ValueAt::At(a4, e4) = reference else {
@@ -197,4 +201,97 @@ pub fn site_text(s: &[u8], at: usize) -> TextAt
         return TextAt::Wrong;
     };
     TextAt::Text(place, alleles, values)
+}
+
+// Row 7, for so many alleles with `<NON_REF>`: a block has one letter, any other site as many letters as positions.
+fn end_fits(alleles: usize, letters: usize, positions: usize) -> bool
+    ensures { λ r. ⌜ r ≡ cond (eqb alleles 2) (eqb letters 1) (eqb letters positions) ⌝ }
+{
+    if alleles == 2 {
+        return letters == 1;
+    }
+    letters == positions
+}
+
+// Row 8, for so many alleles: n(n+1)/2 numbers in PL and at most n in AD; 0 is a missing list.
+fn counts_fit(alleles: u8, pl: usize, ad: usize) -> bool
+    ensures { λ r. ⌜ r ≡ (eqb pl 0 || eqb pl (genotypeCount alleles)) && leb ad alleles ⌝ }
+{
+    let n = alleles as usize;
+    if n < ad {
+        return false;
+    }
+    if pl == 0 {
+        return true;
+    }
+    pl == n * (n + 1) / 2
+}
+
+// Whether a site whose lines are spelled right is a block; or the row, 2 to 8, that refuses it.
+pub enum SiteCheck {
+    Right(bool),
+    Refused(usize),
+}
+
+// Rows 2 to 8 of a cohort with so many samples, after so many sites: the lowest that applies decides.
+fn check_site(
+    s: &[u8],
+    place: SitePlace,
+    alleles: SiteAlleles,
+    values: SiteValues,
+    samples: usize,
+    before: usize,
+) -> SiteCheck
+    ensures { λ r. ⌜ SiteChecked (now (s .entry)) place alleles values samples before r ⌝ }
+{
+    if 4096 <= before {
+        return SiteCheck::Refused(2);
+    }
+    if samples <= place.sample as usize {
+        return SiteCheck::Refused(3);
+    }
+    if place.start < 1 {
+        return SiteCheck::Refused(4);
+    }
+    if place.end < place.start {
+        return SiteCheck::Refused(4);
+    }
+    let reference = tables::part(s, alleles.refs.at, alleles.refs.end);
+    let alts = tables::part(s, alleles.alts.at, alleles.alts.end);
+    let read = alleles::check_alleles(reference, alts, 128, 8);
+    let AllelesRead::Alleles(n, non_ref) = read else {
+        return SiteCheck::Refused(5);
+    };
+    if !non_ref {
+        return SiteCheck::Refused(6);
+    }
+    let positions = (place.end - place.start) as usize + 1;
+    if !end_fits(n, reference.len(), positions) {
+        return SiteCheck::Refused(7);
+    }
+    if !counts_fit(n as u8, values.pl.count, values.ad.count) {
+        return SiteCheck::Refused(8);
+    }
+    SiteCheck::Right(n == 2)
+}
+
+// A site of a cohort, by its lines, and whether it is a block; or the row that refuses it.
+pub enum SiteAt {
+    Site(SitePlace, SiteAlleles, SiteValues, bool),
+    Refused(usize),
+}
+
+// The site group at an offset, of a cohort with so many samples, after so many sites: rows 1 to 8.
+pub fn site_at(s: &[u8], at: usize, samples: usize, before: usize) -> SiteAt
+    ensures { λ r. ⌜ SiteRead (now (s .entry)) at samples before r ⌝ }
+{
+    let text = site_text(s, at);
+    let TextAt::Text(place, alleles, values) = text else {
+        return SiteAt::Refused(1);
+    };
+    let check = check_site(s, place, alleles, values, samples, before);
+    match check {
+        SiteCheck::Right(block) => SiteAt::Site(place, alleles, values, block),
+        SiteCheck::Refused(row) => SiteAt::Refused(row),
+    }
 }

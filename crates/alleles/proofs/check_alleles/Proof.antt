@@ -60,6 +60,7 @@ unfolding AllelesFound onlyIf comma text
 returns-6 c = record {
   right = checked _ _ _ _ ∙ rw (← (c .before .before .before .before .before .before .before .before .before .before .before .count-fields .ensures), le-leb (suc ((c .before .before .before .before .before .before .before .before .before .before .before .count-fields .result))) ((c .before .before .before .before .before .before .before .before .before .before .before .before .before .before .args .count)) (omega arith), sym ((c .before .before .before .before .before .before .before .before .before .is-letters .ensures)) ∙ not-false _ (c .before .before .before .before .before .before .before .before .if2 .left), sym ((c .before .before .before .before .before .before .before .are-alleles .ensures)) ∙ not-false _ (c .before .before .before .before .before .before .if3 .left), sym ((c .before .before .before .before .before .among-fields .ensures)) ∙ (c .before .before .before .before .if4 .left), sym ((c .before .before .before .distinct-fields .ensures)) ∙ not-false _ (c .before .before .if5 .left));
   number = omega (arith, (c .before .before .before .before .before .before .before .before .before .before .before .count-fields .ensures));
+  few = omega arith;
   has = (c .among-fields2 .ensures) ∙ has-non-ref _ _;
 }
 

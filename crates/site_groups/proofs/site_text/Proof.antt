@@ -1,7 +1,7 @@
 -- The three parts of the group, each behind the one before it.
 use borrow.Author.Needs.{needs}
 use Rattle.site_groups.proofs.SiteLines.{text-read}
-use Rattle.site_groups.specs.SiteGroups.{AllelesRead, PlaceRead, TextRead, ValuesRead}
+use Rattle.site_groups.specs.SiteGroups.{AlleleLinesRead, PlaceRead, TextRead, ValuesRead}
 use Rattle.site_groups.proofs.site_text.Statement.{statement}
 use Rattle.site_groups.proofs.site_text.Tie as tie
 
@@ -28,7 +28,7 @@ enum-told-2 : tie.Need-enum-told-2
 enum-told-2 c = search needs
 
 returns-2 : tie.Need-returns-2
-unfolding AllelesRead PlaceRead TextRead
+unfolding AlleleLinesRead PlaceRead TextRead
 returns-2 c = let place = rw (c .before .before .before .before .first .given .1) at (c .before .before .before .before .before .before .site-place .ensures) in
     (rw (c .enum-told2 .given .1) at (c .before .before .site-alleles .ensures)) _ (place .behind)
 
@@ -42,13 +42,13 @@ enum-told-3 : tie.Need-enum-told-3
 enum-told-3 c = search needs
 
 returns-3 : tie.Need-returns-3
-unfolding AllelesRead PlaceRead TextRead ValuesRead
+unfolding AlleleLinesRead PlaceRead TextRead ValuesRead
 returns-3 c = let place = rw (c .before .before .before .before .before .before .before .before .first .given .1) at (c .before .before .before .before .before .before .before .before .before .before .site-place .ensures) in
     let alleles = (rw (c .before .before .before .before .second .given .1) at (c .before .before .before .before .before .before .site-alleles .ensures)) _ (place .behind) in
     (rw (c .enum-told3 .given .1) at (c .before .before .site-values .ensures)) _ (alleles .behind)
 
 returns-4 : tie.Need-returns-4
-unfolding AllelesRead PlaceRead ValuesRead
+unfolding AlleleLinesRead PlaceRead ValuesRead
 returns-4 c = let place = rw (c .before .before .before .before .before .before .before .before .before .first .given .1) at (c .before .before .before .before .before .before .before .before .before .before .before .site-place .ensures) in
     let alleles = (rw (c .before .before .before .before .before .second .given .1) at (c .before .before .before .before .before .before .before .site-alleles .ensures)) _ (place .behind) in
     text-read _ _ _ _ _ place alleles ((rw (c .before .third .given .1) at (c .before .before .before .site-values .ensures)) _ (alleles .behind))
