@@ -25,7 +25,7 @@ leastPlace pl = Option·getD (indexWhere (eqb (least pl)) pl) 0
 unfoldable pub leastPair : List ℕ → Option AllelePair
 leastPair pl = bind (present pl) λ there. getElem? (genotypePairs 16) (leastPlace there)
 
--- what is said of a sample with this map and these values: `siteData` of a site is that (proofs/Site.antt)
+-- what is said of a sample with this map and these values: `siteData` of a site is that (`site-values` of proofs/Said.antt)
 unfoldable pub valuesOf : List ℕ → Option ℕ → Option ℕ → Option (List ℕ) → Option (List ℕ) → SampleData
 valuesOf alleleMap gq dp ad pl =
     let recordPl = Option·map (remappedPl alleleMap) pl in

@@ -86,7 +86,9 @@ pub fn genotype_index_map_diploid(map: &[u8], place: usize) -> MappedAt
 
 // The record's PL at a place of at most 16 alleles; 0 past them.
 fn mapped_pl(map: &[u8], pl: &[u32], place: usize) -> u32
-    ensures { λ r. ⌜ r ≡ Option·getD (Option·map (λ p. getD (now (pl .entry)) (mappedPlace (now (map .entry)) p) 0) (getElem? (genotypePairs 16) place)) 0 ⌝ }
+    ensures { λ r. ⌜ r ≡ Option·getD
+        (Option·map (λ p. getD (now (pl .entry)) (mappedPlace (now (map .entry)) p) 0) (getElem? (genotypePairs 16) place))
+        0 ⌝ }
 {
     match genotype_index_map_diploid(map, place) {
         MappedAt::At(old) => value_at(pl, old),

@@ -19,7 +19,9 @@ pair-at-requires : tie.Need-pair-at-requires
 pair-at-requires c κs = search needs
 
 returns-2 : tie.Need-returns-2
-returns-2 c = (c .pair-at .ensures) ∙ ap (getElem? (genotypePairs 16)) (c .before .least-place .ensures) ∙ sym (pl-there (c .before .before .before .before .args .pl .now) (c .before .before .if1 .left))
+returns-2 c =
+    (c .pair-at .ensures)
+    ∙ ap (getElem? (genotypePairs 16)) (c .before .least-place .ensures) ∙ sym (pl-there (c .before .before .before .before .args .pl .now) (c .before .before .if1 .left))
 
 pub best-diploid-gt-from-pl-spec : {M : Type 1} → statement M
 best-diploid-gt-from-pl-spec =

@@ -44,10 +44,12 @@ enum-told : tie.Need-enum-told
 enum-told c = search needs
 
 returns : tie.Need-returns
-returns c = found (c .before .before .before .before .before .before .before .before .args .map .now) _ _ (rw ((c .before .before .before .before .low .given .1)) at (c .before .before .before .before .before .before .pair-at .ensures)) (c .before .before .mapped-allele .ensures) (c .before .mapped-allele2 .ensures) (c .place-of .ensures)
+returns c =
+    found (c .before .before .before .before .before .before .before .before .args .map .now) _ _ (rw (c .before .before .before .before .low .given .1) at (c .before .before .before .before .before .before .pair-at .ensures))
+    (c .before .before .mapped-allele .ensures) (c .before .mapped-allele2 .ensures) (c .place-of .ensures)
 
 returns-2 : tie.Need-returns-2
-returns-2 c = missing (c .before .before .before .before .args .map .now) (rw ((c .enum-told .given .1)) at (c .before .before .pair-at .ensures))
+returns-2 c = missing (c .before .before .before .before .args .map .now) (rw (c .enum-told .given .1) at (c .before .before .pair-at .ensures))
 
 pub genotype-index-map-diploid-spec : {M : Type 1} → statement M
 genotype-index-map-diploid-spec =

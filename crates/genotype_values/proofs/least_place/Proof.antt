@@ -27,7 +27,7 @@ loop-less : tie.Need-loop-less Inv-loop μ-loop
 loop-less c = search needs
 
 loop-again : tie.Need-loop-again Inv-loop μ-loop
-loop-again c = rw ((c .lesser-place .ensures)) (place-next (c .before .before .before .before .args .pl .now) _ _ (c .before .loop-test .taken) ∙ (c .before .before .loop .inv))
+loop-again c = rw (c .lesser-place .ensures) (place-next (c .before .before .before .before .args .pl .now) _ _ (c .before .loop-test .taken) ∙ (c .before .before .loop .inv))
 
 returns : tie.Need-returns Inv-loop μ-loop
 returns c = sym (place-end (c .before .before .before .args .pl .now) _ _ (c .loop-test .left)) ∙ (c .before .loop .inv)

@@ -24,7 +24,7 @@ reference-requires : tie.Need-reference-requires
 reference-requires c κs = search needs
 
 returns : tie.Need-returns
-returns c = rw ((c .new .ensures), (c .before .before .before .get .ensures))
+returns c = rw (c .new .ensures, (c .before .before .before .get .ensures))
 
 returns-2 : tie.Need-returns-2
 returns-2 c = past (c .before .before .before .before .args .map .now) (c .reference .ensures) (c .before .before .get .ensures) (c .before .if1 .left)

@@ -38,10 +38,16 @@ enum-told : tie.Need-enum-told
 enum-told c = search needs
 
 returns : tie.Need-returns
-returns c = found (c .before .before .before .before .before .before .before .args .pl .now) (mappedPlace (c .before .before .before .before .before .before .before .args .map .now)) (getElem? (genotypePairs 16) (c .before .before .before .before .before .before .before .args .place)) _ (rw ((c .before .before .old .given .1)) at (c .before .before .before .before .genotype-index-map-diploid .ensures)) (c .value-at .ensures)
+returns c =
+    let args = c .before .before .before .before .before .before .before .args in
+    found (args .pl .now) (mappedPlace (args .map .now)) (getElem? (genotypePairs 16) (args .place)) _
+    (rw (c .before .before .old .given .1) at (c .before .before .before .before .genotype-index-map-diploid .ensures)) (c .value-at .ensures)
 
 returns-2 : tie.Need-returns-2
-returns-2 c = missing (c .before .before .before .before .before .args .pl .now) (mappedPlace (c .before .before .before .before .before .args .map .now)) (getElem? (genotypePairs 16) (c .before .before .before .before .before .args .place)) (rw ((c .enum-told .given .1)) at (c .before .before .genotype-index-map-diploid .ensures))
+returns-2 c =
+    let args = c .before .before .before .before .before .args in
+    missing (args .pl .now) (mappedPlace (args .map .now)) (getElem? (genotypePairs 16) (args .place))
+    (rw (c .enum-told .given .1) at (c .before .before .genotype-index-map-diploid .ensures))
 
 pub mapped-pl-spec : {M : Type 1} → statement M
 mapped-pl-spec =

@@ -12,7 +12,7 @@ enum-known-gt c = search needs
 
 put-pair-line-requires : tie.Need-put-pair-line-requires
 unfolding pairOf writtenOrMissing
-put-pair-line-requires c κs = rw ((c .before .before .gt .given .1)) at (c .before .before .before .before .before .pre)
+put-pair-line-requires c κs = rw (c .before .before .gt .given .1) at (c .before .before .before .before .before .pre)
 
 enum-told : tie.Need-enum-told
 enum-told c = search needs
@@ -22,21 +22,21 @@ slice-aggregate-put-missing-line c = search needs
 
 put-missing-line-requires : tie.Need-put-missing-line-requires
 unfolding pairOf writtenOrMissing line keyOf text
-put-missing-line-requires c κs = rw ((c .before .before .enum-told .given .1)) at (c .before .before .before .before .before .pre)
+put-missing-line-requires c κs = rw (c .before .before .enum-told .given .1) at (c .before .before .before .before .before .pre)
 
 same-length : tie.Need-same-length
 same-length c = search needs
 
 returns : tie.Need-returns
 unfolding pairOf writtenOrMissing
-returns c = rw ((c .before .before .before .before .before .gt .given .1)) (c .before .before .put-pair-line .ensures)
+returns c = rw (c .before .before .before .before .before .gt .given .1) (c .before .before .put-pair-line .ensures)
 
 same-length-2 : tie.Need-same-length-2
 same-length-2 c = search needs
 
 returns-2 : tie.Need-returns-2
 unfolding pairOf writtenOrMissing line keyOf text
-returns-2 c = rw ((c .before .before .before .before .before .enum-told .given .1)) (c .before .before .put-missing-line .ensures)
+returns-2 c = rw (c .before .before .before .before .before .enum-told .given .1) (c .before .before .put-missing-line .ensures)
 
 pub put-genotype-line-spec : {M : Type 1} → statement M
 put-genotype-line-spec =

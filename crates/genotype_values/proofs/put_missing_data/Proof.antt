@@ -13,14 +13,14 @@ slice-aggregate-put-bytes c = search needs
 
 put-bytes-requires : tie.Need-put-bytes-requires
 unfolding printedSampleData printedValues missingData line keyOf text writtenOrMissing lineFeed
-put-bytes-requires c κs = (c .before .before .before .pre)
+put-bytes-requires c κs = c .before .before .before .pre
 
 same-length : tie.Need-same-length
 same-length c = search needs
 
 returns : tie.Need-returns
 unfolding printedSampleData printedValues missingData line keyOf text writtenOrMissing lineFeed
-returns c = (c .before .before .put-bytes .ensures)
+returns c = c .before .before .put-bytes .ensures
 
 pub put-missing-data-spec : {M : Type 1} → statement M
 put-missing-data-spec =

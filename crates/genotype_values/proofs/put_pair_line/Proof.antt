@@ -9,7 +9,9 @@ slice-aggregate-put-bytes : tie.Need-slice-aggregate-put-bytes
 slice-aggregate-put-bytes c = search needs
 
 put-bytes-requires : tie.Need-put-bytes-requires
-put-bytes-requires c κs = omega (arith, (c .before .before .before .pre), genotype-line-length (c .before .before .before .args .low .0) (c .before .before .before .args .high .0))
+put-bytes-requires c κs =
+    let args = c .before .before .before .args in
+    omega (arith, c .before .before .before .pre, genotype-line-length (args .low .0) (args .high .0))
 
 get-requires : tie.Need-get-requires
 get-requires c κs = search needs
@@ -18,12 +20,15 @@ cast-put-number : tie.Need-cast-put-number
 cast-put-number c = search needs
 
 put-number-requires : tie.Need-put-number-requires
-put-number-requires c κs = rw ((c .get .ensures)) (omega (arith, (c .before .before .before .before .before .before .before .before .pre), (c .before .before .before .before .put-bytes .ensures .next), genotype-line-length (c .before .before .before .before .before .before .before .before .args .low .0) (c .before .before .before .before .before .before .before .before .args .high .0)))
+put-number-requires c κs =
+    let args = c .before .before .before .before .before .before .before .before .args in
+    rw (c .get .ensures) (omega (arith, c .before .before .before .before .before .before .before .before .pre, (c .before .before .before .before .put-bytes .ensures .next), genotype-line-length (args .low .0) (args .high .0)))
 
 put-byte-requires : tie.Need-put-byte-requires
 put-byte-requires c κs =
-    let low = rw ((c .before .before .before .before .get .ensures)) at (c .before .before .before .put-number .ensures) in
-    omega (arith, (c .before .before .before .before .before .before .before .before .before .before .before .before .pre), (c .before .before .before .before .before .before .before .before .put-bytes .ensures .next), low .next, genotype-line-length (c .before .before .before .before .before .before .before .before .before .before .before .before .args .low .0) (c .before .before .before .before .before .before .before .before .before .before .before .before .args .high .0))
+    let args = c .before .before .before .before .before .before .before .before .before .before .before .before .args in
+    let low = rw (c .before .before .before .before .get .ensures) at (c .before .before .before .put-number .ensures) in
+    omega (arith, c .before .before .before .before .before .before .before .before .before .before .before .before .pre, (c .before .before .before .before .before .before .before .before .put-bytes .ensures .next), low .next, genotype-line-length (args .low .0) (args .high .0))
 
 get-requires-2 : tie.Need-get-requires-2
 get-requires-2 c κs = search needs
@@ -33,20 +38,28 @@ cast-put-number-2 c = search needs
 
 put-number-requires-2 : tie.Need-put-number-requires-2
 put-number-requires-2 c κs =
-    let low = rw ((c .before .before .before .before .before .before .before .before .before .get .ensures)) at (c .before .before .before .before .before .before .before .before .put-number .ensures) in
-    rw ((c .get2 .ensures)) (omega (arith, (c .before .before .before .before .before .before .before .before .before .before .before .before .before .before .before .before .before .pre), (c .before .before .before .before .before .before .before .before .before .before .before .before .before .put-bytes .ensures .next), low .next, (c .before .before .before .before .put-byte .ensures .next), genotype-line-length (c .before .before .before .before .before .before .before .before .before .before .before .before .before .before .before .before .before .args .low .0) (c .before .before .before .before .before .before .before .before .before .before .before .before .before .before .before .before .before .args .high .0)))
+    let args = c .before .before .before .before .before .before .before .before .before .before .before .before .before .before .before .before .before .args in
+    let low = rw (c .before .before .before .before .before .before .before .before .before .get .ensures) at (c .before .before .before .before .before .before .before .before .put-number .ensures) in
+    rw (c .get2 .ensures)
+    (omega (arith, c .before .before .before .before .before .before .before .before .before .before .before .before .before .before .before .before .before .pre, (c .before .before .before .before .before .before .before .before .before .before .before .before .before .put-bytes .ensures .next), low .next, c .before .before .before .before .put-byte .ensures .next, genotype-line-length (args .low .0) (args .high .0)))
 
 put-byte-requires-2 : tie.Need-put-byte-requires-2
 put-byte-requires-2 c κs =
-    let low = rw ((c .before .before .before .before .before .before .before .before .before .before .before .before .before .get .ensures)) at (c .before .before .before .before .before .before .before .before .before .before .before .before .put-number .ensures) in
-    let high = rw ((c .before .before .before .before .get2 .ensures)) at (c .before .before .before .put-number2 .ensures) in
-    omega (arith, (c .before .before .before .before .before .before .before .before .before .before .before .before .before .before .before .before .before .before .before .before .before .pre), (c .before .before .before .before .before .before .before .before .before .before .before .before .before .before .before .before .before .put-bytes .ensures .next), low .next, (c .before .before .before .before .before .before .before .before .put-byte .ensures .next), high .next, genotype-line-length (c .before .before .before .before .before .before .before .before .before .before .before .before .before .before .before .before .before .before .before .before .before .args .low .0) (c .before .before .before .before .before .before .before .before .before .before .before .before .before .before .before .before .before .before .before .before .before .args .high .0))
+    let args = c .before .before .before .before .before .before .before .before .before .before .before .before .before .before .before .before .before .before .before .before .before .args in
+    let low = rw (c .before .before .before .before .before .before .before .before .before .before .before .before .before .get .ensures) at (c .before .before .before .before .before .before .before .before .before .before .before .before .put-number .ensures) in
+    let high = rw (c .before .before .before .before .get2 .ensures) at (c .before .before .before .put-number2 .ensures) in
+    omega (arith, c .before .before .before .before .before .before .before .before .before .before .before .before .before .before .before .before .before .before .before .before .before .pre, (c .before .before .before .before .before .before .before .before .before .before .before .before .before .before .before .before .before .put-bytes .ensures .next), low .next, c .before .before .before .before .before .before .before .before .put-byte .ensures .next, high .next, genotype-line-length (args .low .0) (args .high .0))
 
 same-length : tie.Need-same-length
 same-length c = search needs
 
 returns : tie.Need-returns
-returns c = pair-laid (c .before .before .before .before .before .before .before .before .before .before .before .before .before .before .before .before .before .before .before .before .before .before .before .before .args .low .0) (c .before .before .before .before .before .before .before .before .before .before .before .before .before .before .before .before .before .before .before .before .before .before .before .before .args .high .0) (c .before .before .before .before .before .before .before .before .before .before .before .before .before .before .before .before .before .before .before .before .put-bytes .ensures) (rw ((c .before .before .before .before .before .before .before .before .before .before .before .before .before .before .before .before .get .ensures)) at (c .before .before .before .before .before .before .before .before .before .before .before .before .before .before .before .put-number .ensures)) (c .before .before .before .before .before .before .before .before .before .before .before .put-byte .ensures) (rw ((c .before .before .before .before .before .before .before .get2 .ensures)) at (c .before .before .before .before .before .before .put-number2 .ensures)) (c .before .before .put-byte2 .ensures)
+returns c =
+    let args = c .before .before .before .before .before .before .before .before .before .before .before .before .before .before .before .before .before .before .before .before .before .before .before .before .args in
+    let low = rw (c .before .before .before .before .before .before .before .before .before .before .before .before .before .before .before .before .get .ensures) at (c .before .before .before .before .before .before .before .before .before .before .before .before .before .before .before .put-number .ensures) in
+    let high = rw (c .before .before .before .before .before .before .before .get2 .ensures) at (c .before .before .before .before .before .before .put-number2 .ensures) in
+    pair-laid (args .low .0) (args .high .0) (c .before .before .before .before .before .before .before .before .before .before .before .before .before .before .before .before .before .before .before .before .put-bytes .ensures) low (c .before .before .before .before .before .before .before .before .before .before .before .put-byte .ensures) high
+    (c .before .before .put-byte2 .ensures)
 
 pub put-pair-line-spec : {M : Type 1} → statement M
 put-pair-line-spec =

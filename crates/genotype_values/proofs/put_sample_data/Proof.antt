@@ -19,33 +19,45 @@ remap-present-ad-requires : tie.Need-remap-present-ad-requires
 remap-present-ad-requires c κs = search needs
 
 array-share-prefix-record-ad : tie.Need-array-share-prefix-record-ad
-array-share-prefix-record-ad c = filled-within (c .before .before .remap-present-ad .ensures) (few-ad (c .before .before .before .before .before .before .before .before .before .before .before .args .map .now) (c .before .before .before .before .before .before .before .before .before .before .before .args .ad .now) (c .before .before .before .before .before .before .before .before .before .before .before .pre .atMost))
+array-share-prefix-record-ad c =
+    let args = c .before .before .before .before .before .before .before .before .before .before .before .args in
+    filled-within (c .before .before .remap-present-ad .ensures) (few-ad (args .map .now) (args .ad .now) (c .before .before .before .before .before .before .before .before .before .before .before .pre .atMost))
 
 slice-aggregate-put-values : tie.Need-slice-aggregate-put-values
-slice-aggregate-put-values c = filled-length (c .before .before .before .remap-present-ad .ensures) (few-ad (c .before .before .before .before .before .before .before .before .before .before .before .before .args .map .now) (c .before .before .before .before .before .before .before .before .before .before .before .before .args .ad .now) (c .before .before .before .before .before .before .before .before .before .before .before .before .pre .atMost))
+slice-aggregate-put-values c =
+    let args = c .before .before .before .before .before .before .before .before .before .before .before .before .args in
+    filled-length (c .before .before .before .remap-present-ad .ensures) (few-ad (args .map .now) (args .ad .now) (c .before .before .before .before .before .before .before .before .before .before .before .before .pre .atMost))
 
 array-share-prefix-record-pl : tie.Need-array-share-prefix-record-pl
-array-share-prefix-record-pl c = filled-within (c .before .before .before .before .before .before .remap-present-pl .ensures) (few-pl (c .before .before .before .before .before .before .before .before .before .before .before .before .args .map .now) (c .before .before .before .before .before .before .before .before .before .before .before .before .args .pl .now) (c .before .before .before .before .before .before .before .before .before .before .before .before .pre .atMost))
+array-share-prefix-record-pl c =
+    let args = c .before .before .before .before .before .before .before .before .before .before .before .before .args in
+    filled-within (c .before .before .before .before .before .before .remap-present-pl .ensures) (few-pl (args .map .now) (args .pl .now) (c .before .before .before .before .before .before .before .before .before .before .before .before .pre .atMost))
 
 slice-aggregate-put-values-2 : tie.Need-slice-aggregate-put-values-2
-slice-aggregate-put-values-2 c = filled-length (c .before .before .before .before .before .before .before .remap-present-pl .ensures) (few-pl (c .before .before .before .before .before .before .before .before .before .before .before .before .before .args .map .now) (c .before .before .before .before .before .before .before .before .before .before .before .before .before .args .pl .now) (c .before .before .before .before .before .before .before .before .before .before .before .before .before .pre .atMost))
+slice-aggregate-put-values-2 c =
+    let args = c .before .before .before .before .before .before .before .before .before .before .before .before .before .args in
+    filled-length (c .before .before .before .before .before .before .before .remap-present-pl .ensures) (few-pl (args .map .now) (args .pl .now) (c .before .before .before .before .before .before .before .before .before .before .before .before .before .pre .atMost))
 
 put-values-requires : tie.Need-put-values-requires
 put-values-requires c κs =
-    let few = (c .before .before .before .before .before .before .before .before .before .before .before .before .before .pre .atMost) in
-    let ads = filled-front (c .before .before .before .before .remap-present-ad .ensures) (few-ad (c .before .before .before .before .before .before .before .before .before .before .before .before .before .args .map .now) (c .before .before .before .before .before .before .before .before .before .before .before .before .before .args .ad .now) few) in
-    let pls = filled-front (c .before .before .before .before .before .before .before .remap-present-pl .ensures) (few-pl (c .before .before .before .before .before .before .before .before .before .before .before .before .before .args .map .now) (c .before .before .before .before .before .before .before .before .before .before .before .before .before .args .pl .now) few) in
-    rw (fronts-printed (c .before .before .before .before .before .before .before .before .before .before .before .before .before .args .map .now) (c .before .before .before .before .before .before .before .before .before .before .before .before .before .pre .alleles) (optionOf (c .before .before .before .before .before .before .before .before .before .before .before .before .before .args .gq)) (optionOf (c .before .before .before .before .before .before .before .before .before .before .before .before .before .args .dp)) (c .before .before .before .before .before .before .before .before .before .before .before .before .before .args .ad .now) (c .before .before .before .before .before .before .before .before .before .before .before .before .before .args .pl .now) few ads pls) (c .before .before .before .before .before .before .before .before .before .before .before .before .before .pre .fits)
+    let args = c .before .before .before .before .before .before .before .before .before .before .before .before .before .args in
+    let pre = c .before .before .before .before .before .before .before .before .before .before .before .before .before .pre in
+    let ads = filled-front (c .before .before .before .before .remap-present-ad .ensures) (few-ad (args .map .now) (args .ad .now) (pre .atMost)) in
+    let pls = filled-front (c .before .before .before .before .before .before .before .remap-present-pl .ensures) (few-pl (args .map .now) (args .pl .now) (pre .atMost)) in
+    rw (fronts-printed (args .map .now) (pre .alleles) (optionOf (args .gq)) (optionOf (args .dp)) (args .ad .now) (args .pl .now) (pre .atMost) ads pls)
+    (pre .fits)
 
 same-length : tie.Need-same-length
 same-length c = search needs
 
 returns : tie.Need-returns
 returns c =
-    let few = (c .before .before .before .before .before .before .before .before .before .before .before .before .before .before .before .before .pre .atMost) in
-    let ads = filled-front (c .before .before .before .before .before .before .before .remap-present-ad .ensures) (few-ad (c .before .before .before .before .before .before .before .before .before .before .before .before .before .before .before .before .args .map .now) (c .before .before .before .before .before .before .before .before .before .before .before .before .before .before .before .before .args .ad .now) few) in
-    let pls = filled-front (c .before .before .before .before .before .before .before .before .before .before .remap-present-pl .ensures) (few-pl (c .before .before .before .before .before .before .before .before .before .before .before .before .before .before .before .before .args .map .now) (c .before .before .before .before .before .before .before .before .before .before .before .before .before .before .before .before .args .pl .now) few) in
-    rw (fronts-printed (c .before .before .before .before .before .before .before .before .before .before .before .before .before .before .before .before .args .map .now) (c .before .before .before .before .before .before .before .before .before .before .before .before .before .before .before .before .pre .alleles) (optionOf (c .before .before .before .before .before .before .before .before .before .before .before .before .before .before .before .before .args .gq)) (optionOf (c .before .before .before .before .before .before .before .before .before .before .before .before .before .before .before .before .args .dp)) (c .before .before .before .before .before .before .before .before .before .before .before .before .before .before .before .before .args .ad .now) (c .before .before .before .before .before .before .before .before .before .before .before .before .before .before .before .before .args .pl .now) few ads pls) at (c .before .before .put-values .ensures)
+    let args = c .before .before .before .before .before .before .before .before .before .before .before .before .before .before .before .before .args in
+    let pre = c .before .before .before .before .before .before .before .before .before .before .before .before .before .before .before .before .pre in
+    let ads = filled-front (c .before .before .before .before .before .before .before .remap-present-ad .ensures) (few-ad (args .map .now) (args .ad .now) (pre .atMost)) in
+    let pls = filled-front (c .before .before .before .before .before .before .before .before .before .before .remap-present-pl .ensures) (few-pl (args .map .now) (args .pl .now) (pre .atMost)) in
+    rw (fronts-printed (args .map .now) (pre .alleles) (optionOf (args .gq)) (optionOf (args .dp)) (args .ad .now) (args .pl .now) (pre .atMost) ads pls) at
+    (c .before .before .put-values .ensures)
 
 pub put-sample-data-spec : {M : Type 1} → statement M
 put-sample-data-spec =

@@ -42,14 +42,17 @@ loop-less c = search needs
 
 loop-again : tie.Need-loop-again Inv-loop μ-loop
 loop-again c =
-    let value = (c .before .before .before .before .value-at .ensures) ∙ ap (λ a. getD (c .before .before .before .before .before .before .before .before .before .before .before .before .before .args .ad .now) a 0) ((c .before .before .before .before .before .get .ensures) ∙ (c .before .before .before .before .before .before .new .ensures)) in
-    next-stored (λ a. getD (c .before .before .before .before .before .before .before .before .before .before .before .before .before .args .ad .now) a 0) (c .before .before .before .before .before .before .before .before .before .before .before .before .before .args .map .now) 0 (c .before .before .before .before .before .before .before .before .loop-test .taken) value (c .before .before .put-value .ensures) (c .before .before .before .before .before .before .before .before .before .loop .inv)
+    let args = c .before .before .before .before .before .before .before .before .before .before .before .before .before .args in
+    let value = (c .before .before .before .before .value-at .ensures) ∙ ap (λ a. getD (args .ad .now) a 0) ((c .before .before .before .before .before .get .ensures) ∙ (c .before .before .before .before .before .before .new .ensures)) in
+    next-stored (λ a. getD (args .ad .now) a 0) (args .map .now) 0 (c .before .before .before .before .before .before .before .before .loop-test .taken) value (c .before .before .put-value .ensures) (c .before .before .before .before .before .before .before .before .before .loop .inv)
 
 same-length : tie.Need-same-length Inv-loop μ-loop
 same-length c = unstored-length (c .before .loop .inv)
 
 returns : tie.Need-returns Inv-loop μ-loop
-returns c = all-stored (λ a. getD (c .before .before .before .before .before .args .ad .now) a 0) (c .before .before .before .before .before .args .map .now) (c .loop-test .left) (c .before .loop .inv)
+returns c =
+    let args = c .before .before .before .before .before .args in
+    all-stored (λ a. getD (args .ad .now) a 0) (args .map .now) (c .loop-test .left) (c .before .loop .inv)
 
 pub remap-ad-spec : {M : Type 1} → statement M
 remap-ad-spec =

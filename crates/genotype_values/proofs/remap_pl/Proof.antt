@@ -30,7 +30,7 @@ mul-count : tie.Need-mul-count Inv-loop μ-loop
 mul-count c = omega (arith, product-bound (length (c .before .before .before .before .args .map .now)) (c .if1 .left))
 
 loop-holds : tie.Need-loop-holds Inv-loop μ-loop
-loop-holds c = all-left (pl-by-pairs (c .before .before .before .before .args .map .now) (c .before .before .before .before .args .pl .now))
+loop-holds c = let args = c .before .before .before .before .args in all-left (pl-by-pairs (args .map .now) (args .pl .now))
 
 mapped-pl-requires : tie.Need-mapped-pl-requires Inv-loop μ-loop
 mapped-pl-requires c κs = search needs
@@ -46,17 +46,22 @@ loop-less c = search needs
 
 loop-again : tie.Need-loop-again Inv-loop μ-loop
 loop-again c =
-    let n = length (c .before .before .before .before .before .before .before .before .before .before .before .args .map .now) in
-    let value = (c .before .before .before .before .mapped-pl .ensures) ∙ value-there (plAt (c .before .before .before .before .before .before .before .before .before .before .before .args .map .now) (c .before .before .before .before .before .before .before .before .before .before .before .args .pl .now)) n (c .before .before .before .before .before .before .loop .place) (c .before .before .before .before .before .before .before .if1 .left) (omega (arith, count-is n)) in
-    next-stored (plAt (c .before .before .before .before .before .before .before .before .before .before .before .args .map .now) (c .before .before .before .before .before .before .before .before .before .before .before .args .pl .now)) (genotypePairs n) noPair (omega (arith, count-is n, genotype-pairs-length n)) value (c .before .before .put-value .ensures) (c .before .before .before .before .before .before .loop .inv)
+    let args = c .before .before .before .before .before .before .before .before .before .before .before .args in
+    let n = length (args .map .now) in
+    let there = value-there (plAt (args .map .now) (args .pl .now)) n (c .before .before .before .before .before .before .loop .place) (c .before .before .before .before .before .before .before .if1 .left) (omega (arith, count-is n)) in
+    next-stored (plAt (args .map .now) (args .pl .now)) (genotypePairs n) noPair
+    (omega (arith, count-is n, genotype-pairs-length n)) ((c .before .before .before .before .mapped-pl .ensures) ∙ there) (c .before .before .put-value .ensures) (c .before .before .before .before .before .before .loop .inv)
 
 same-length : tie.Need-same-length Inv-loop μ-loop
 same-length c = unstored-length (c .before .loop .inv)
 
 returns-2 : tie.Need-returns-2 Inv-loop μ-loop
 returns-2 c =
-    let n = length (c .before .before .before .before .before .before .args .map .now) in
-    pl-remapped (c .before .before .if1 .left) (all-stored (plAt (c .before .before .before .before .before .before .args .map .now) (c .before .before .before .before .before .before .args .pl .now)) (genotypePairs n) (omega (arith, count-is n, genotype-pairs-length n)) (c .before .loop .inv)) (count-is n)
+    let args = c .before .before .before .before .before .before .args in
+    let n = length (args .map .now) in
+    pl-remapped (c .before .before .if1 .left)
+    (all-stored (plAt (args .map .now) (args .pl .now)) (genotypePairs n) (omega (arith, count-is n, genotype-pairs-length n)) (c .before .loop .inv))
+    (count-is n)
 
 pub remap-pl-spec : {M : Type 1} → statement M
 remap-pl-spec =

@@ -17,7 +17,10 @@ same-length : tie.Need-same-length
 same-length c = search needs
 
 returns-2 : tie.Need-returns-2
-returns-2 c = some-filled (remappedAd (c .before .before .before .before .before .before .before .before .args .map .now)) (c .before .before .before .before .before .before .before .before .args .ad .now) (c .before .before .before .before .if1 .left) (record { laid = (c .before .before .remap-ad .ensures); count = sym (ad-length (c .before .before .before .before .before .before .before .before .args .map .now) (c .before .before .before .before .before .before .before .before .args .ad .now)) })
+returns-2 c =
+    let args = c .before .before .before .before .before .before .before .before .args in
+    some-filled (remappedAd (args .map .now)) (args .ad .now) (c .before .before .before .before .if1 .left)
+    (record { laid = (c .before .before .remap-ad .ensures); count = sym (ad-length (args .map .now) (args .ad .now)) })
 
 pub remap-present-ad-spec : {M : Type 1} → statement M
 remap-present-ad-spec = tie.close (tie.spec returns remap-ad-requires same-length returns-2)

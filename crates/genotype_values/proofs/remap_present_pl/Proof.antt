@@ -15,7 +15,9 @@ same-length : tie.Need-same-length
 same-length c = search needs
 
 returns-2 : tie.Need-returns-2
-returns-2 c = some-filled (remappedPl (c .before .before .before .before .before .before .before .before .args .map .now)) (c .before .before .before .before .before .before .before .before .args .pl .now) (c .before .before .before .before .if1 .left) (pl-filled (c .before .before .remap-pl .ensures) (c .before .before .before .before .before .before .before .before .pre))
+returns-2 c =
+    let args = c .before .before .before .before .before .before .before .before .args in
+    some-filled (remappedPl (args .map .now)) (args .pl .now) (c .before .before .before .before .if1 .left) (pl-filled (c .before .before .remap-pl .ensures) (c .before .before .before .before .before .before .before .before .pre))
 
 pub remap-present-pl-spec : {M : Type 1} → statement M
 remap-present-pl-spec = tie.close (tie.spec returns remap-pl-requires same-length returns-2)
