@@ -1,0 +1,110 @@
+-- The spans of a clip text, passed one by one, and what each gives.
+use Prim.Native.Nat.{_<_, _≤_, suc, ℕ}
+use lib.Dec.{leb}
+use lib.ListN.{length}
+use mathlib.Core.Bool.{Bool, _&&_, _||_, cond, false, true}
+use mathlib.Core.List.{List, [], _++_, _∷_, flatMap}
+use mathlib.Core.Option.{some}
+use mathlib.Core.Path.{_≡_, refl, subst}
+use native.Mathlib.Omega.{arith}
+use Rattle.clip_and_reference.proofs.Groups.{SpansFrom, groupsAt, first-group, no-more, none-faulty}
+use Rattle.clip_and_reference.specs.Groups.{GroupFaulty, GroupTo}
+use Rattle.definitions.specs.Bytes.{sameBytes}
+use Rattle.definitions.specs.ClipAndReference.{Span, spanOf}
+use Rattle.definitions.specs.Intervals.{Interval, inClip, spanBreakpoints, spansOn}
+use Rattle.definitions.specs.Lists.{anyOf, filterBy}
+use Rattle.laws.proofs.Checked.{each-read-back}
+use Rattle.laws.proofs.Every.{Every, also, every-filter, every-flatMap, every-map, every-of-each, nothing}
+use Rattle.laws.proofs.SoundInput.{SoundSpan, span-sound}
+
+-- ---- spans passed
+
+-- the text's spans from an offset on, with a fact of them and of all its spans
+pub record RestFrom (clip : List ℕ) (R : List Span → List Span → Type 0) (at : ℕ) : Type 0 where
+  pub rest : (spans : List Span) → SpansFrom clip 0 spans → (rest : List Span) × SpansFrom clip at rest × R spans rest
+
+module _ (clip : List ℕ) {R : List Span → List Span → Type 0} where
+  pub rest-start : ((spans : List Span) → R spans spans) → RestFrom clip R 0
+  rest-start r = record { rest = λ spans from. (spans, from, r spans) }
+
+  module _ {at : ℕ} (p : RestFrom clip R at) where
+    -- the next span is passed
+    pub rest-next : {Q : List Span → List Span → Type 0} (c : Span) (next : ℕ) → GroupTo clip at spanOf c next
+        → ((spans rest : List Span) → R spans (c ∷ rest) → Q spans rest) → RestFrom clip Q next
+    rest-next c next g step = record {
+      rest = λ spans from.
+          let (rest, f, r) = p .rest spans from in
+          let (later, e, f′) = first-group spanOf clip f c next g in
+          (later, f′, step spans later (subst (R spans) e r));
+    }
+
+    -- a fact of all spans by the next
+    pub rest-first : {Q : Type 0} (c : Span) (next : ℕ) → GroupTo clip at spanOf c next
+        → (spans : List Span) → SpansFrom clip 0 spans → ((rest : List Span) → R spans (c ∷ rest) → Q) → Q
+    rest-first c next g spans from found =
+        let (rest, f, r) = p .rest spans from in
+        let (later, e, f′) = first-group spanOf clip f c next g in
+        found later (subst (R spans) e r)
+
+    pub rest-faulty : {Q : Type 0} → at < length clip → GroupFaulty clip at spanOf → (spans : List Span) → SpansFrom clip 0 spans → Q
+    rest-faulty h g spans from = let (rest, f, r) = p .rest spans from in none-faulty spanOf clip f h g
+
+    pub rest-end : length clip ≤ at → (spans : List Span) → SpansFrom clip 0 spans → R spans []
+    rest-end h spans from = let (rest, f, r) = p .rest spans from in subst (R spans) (no-more spanOf clip f h) r
+
+-- every span is in range
+pub spans-sound : (clip : List ℕ) (spans : List Span) → SpansFrom clip 0 spans → Every SoundSpan spans
+unfolding groupsAt
+spans-sound clip spans from =
+    every-of-each (λ before c h. h) (each-read-back (λ before c. SoundSpan c) (λ _. spanOf) [] spans _ (λ before. span-sound) (from .all))
+
+-- ---- what a span gives
+
+module _ (contig : List ℕ) where
+  -- the breakpoints of the spans on the contig
+  abbrev pub ofSpans : List Span → List ℕ
+  ofSpans spans = flatMap spanBreakpoints (spansOn contig (some spans))
+
+  pub spans-none : ofSpans [] ≡ []
+  unfolding spansOn filterBy flatMap
+  spans-none = refl
+
+  pub spans-next : (c : Span) (rest : List Span)
+      → ofSpans (c ∷ rest) ≡ cond (sameBytes contig (c .contig)) (c .start ∷ suc (c .end) ∷ []) [] ++ ofSpans rest
+  unfolding spansOn filterBy flatMap spanBreakpoints
+  spans-next c rest = go (sameBytes contig (c .contig))
+    where
+      others : List Span
+      others = filterBy (λ (d : Span). sameBytes contig (d .contig)) rest
+
+      go : (b : Bool) → flatMap spanBreakpoints (cond b (c ∷ others) others) ≡ cond b (c .start ∷ suc (c .end) ∷ []) [] ++ flatMap spanBreakpoints others
+      go true = refl
+      go false = refl
+
+  pub spans-from-one : (spans : List Span) → Every SoundSpan spans → Every (λ x. 1 ≤ x) (ofSpans spans)
+  unfolding spansOn spanBreakpoints
+  spans-from-one spans h = every-flatMap spanBreakpoints (every-map each (every-filter _ _ h))
+    where
+      each : (c : Span) → SoundSpan c → Every (λ x. 1 ≤ x) (spanBreakpoints c)
+      each c k = let b : 1 ≤ suc (c .end) = omega arith in also (k .from-one) (also b nothing)
+
+  module _ (i : Interval) where
+    pub clip-none : inClip contig (some []) i ≡ false
+    unfolding inClip spansOn filterBy anyOf
+    clip-none = refl
+
+    pub clip-next : (c : Span) (rest : List Span)
+        → inClip contig (some (c ∷ rest)) i
+        ≡ (sameBytes contig (c .contig) && (leb (c .start) (i .first) && leb (i .last) (c .end))) || inClip contig (some rest) i
+    unfolding inClip spansOn filterBy anyOf
+    clip-next c rest = go (sameBytes contig (c .contig))
+      where
+        holds : Span → Bool
+        holds d = leb (d .start) (i .first) && leb (i .last) (d .end)
+
+        others : List Span
+        others = filterBy (λ (d : Span). sameBytes contig (d .contig)) rest
+
+        go : (b : Bool) → anyOf holds (cond b (c ∷ others) others) ≡ (b && holds c) || anyOf holds others
+        go true = refl
+        go false = refl
