@@ -199,7 +199,7 @@ module _ (s : List ℕ) (at : ℕ) where
               pl = record { at = a₉; end = e₉; count = n₉ };
               next = e₉ + 1;
             }))
-        unfolding ValuesRead siteLines
+        unfolding ValuesRead siteLines LineReads
         values-read a₉ e₉ n₉ l₉ count₉ first b = record {
           gq = line-read b "gq" (orMissing number) 10 (omega arith) _ e₆ l₆;
           dp = line-read (b₇ first b) "dp" (orMissing number) 10 (omega arith) _ e₇ l₇;
@@ -208,6 +208,7 @@ module _ (s : List ℕ) (at : ℕ) where
           ad-count = count₈;
           pl-count = count₉;
           behind = behind-next (b₉ first b) "pl" (orMissing numberList) _ e₉ l₉;
+          forward = omega (arith, b₉ first b .forward, l₉ .forward);
           within = let h = line-within s (e₈ + 1) (keyOf "pl") (orMissing numberList) _ e₉ l₉ in omega arith;
         }
 

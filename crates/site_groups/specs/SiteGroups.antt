@@ -1,5 +1,5 @@
 -- What reading the lines of a site group finds.
-use Prim.Native.Nat.{_≤_, ℕ}
+use Prim.Native.Nat.{_<_, _≤_, ℕ}
 use lib.ListN.{drop, length, take}
 use mathlib.Core.List.{List, []}
 use mathlib.Core.Bool.{Bool}
@@ -100,6 +100,7 @@ pub record ValueLines (s : List ℕ) (first : ℕ) (v : SiteValues) : Type 0 whe
   pub ad-count : Counted s (v .ad)
   pub pl-count : Counted s (v .pl)
   pub behind : Behind s first 10 (v .next)
+  pub forward : first < v .next
   pub within : v .next ≤ length s
 
 unfoldable pub ValuesRead : List ℕ → ℕ → ValuesAt → Type 0
@@ -165,6 +166,7 @@ pub record SiteTo (s : List ℕ) (at samples before : ℕ) (p : SitePlace) (a : 
   pub value : siteGroupOf s at samples before ≡ accepted (siteFrom s p a v)
   pub is-block : block ≡ isBlock (siteFrom s p a v .alleles)
   pub behind : Behind s at siteLines (v .next)
+  pub forward : at < v .next
   pub within : v .next ≤ length s
 
 unfoldable pub SiteRead : List ℕ → ℕ → ℕ → ℕ → SiteAt → Type 0

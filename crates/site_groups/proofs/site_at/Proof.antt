@@ -37,6 +37,7 @@ returns-2 c = let t = rw ((c .before .before .before .before .before .text .give
       value = then _ _ (t .text) (r .value);
       is-block = r .is-block;
       behind = t .values .behind;
+      forward = t .values .forward;
       within = t .values .within;
     }
 

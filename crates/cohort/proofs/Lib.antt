@@ -1,0 +1,4 @@
+pub mod Contigs
+pub mod Rows
+pub mod Sites
+pub mod Whole

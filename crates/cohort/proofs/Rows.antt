@@ -1,0 +1,222 @@
+-- A row stored behind the others: the table then has one site more.
+use Prim.Native.Nat.{_*_, _+_, _<_, _≤_, suc, zero, ℕ}
+use borrow.Author.Tests.{eq-eqb}
+use lib.Dec.{eqb}
+use lib.ListN.{drop, getD, length, length-map, set}
+use lib.Seq.{drop-set-lt, getD-set-other, getD-set-same, length-sets, lt-length-set, sets}
+use mathlib.Core.Bool.{Bool, cond, false, true}
+use mathlib.Core.List.{List, [], _++_, _∷_, map, map-append, map-map, reverse}
+use mathlib.Core.Option.{Option, Option·getD, Option·map, none, some}
+use mathlib.Core.Path.{_∙_, _≡_, ap, refl, sym}
+use native.Mathlib.Decide.{ℕ-discrete}
+use native.Mathlib.Nat.{add-zero, zero-add}
+use native.Mathlib.Numerals.{add-one}
+use native.Mathlib.Omega.{arith}
+use Rattle.definitions.specs.Alleles.{isBlock}
+use Rattle.definitions.specs.Bytes.{sameBytes}
+use Rattle.definitions.specs.Cohort.{Site}
+use Rattle.definitions.specs.Lists.{indexWhere, numbersFrom}
+use Rattle.kv_text.specs.Fields.{between}
+use Rattle.laws.proofs.Bytes.{same-refl}
+use Rattle.laws.proofs.Members.{length-numbers, numbers-append}
+use Rattle.laws.proofs.Tests.{not-none, some-same}
+use Rattle.site_groups.specs.SiteGroups.{siteFrom}
+use Rattle.site_groups.specs.declared.SiteAlleles.{SiteAlleles}
+use Rattle.site_groups.specs.declared.SitePlace.{SitePlace}
+use Rattle.site_groups.specs.declared.SiteValues.{SiteValues}
+use Rattle.tables.specs.Tables.{SiteRows, column, partAt, siteAt}
+use Rattle.cohort.proofs.Contigs.{names-length}
+use Rattle.cohort.specs.Cohort.{ContigsNumbered, contigNames, firstOn, rowOf, sitesIn}
+
+-- ---- sets
+
+pub get-before : (vs l : List ℕ) (at i : ℕ) → i < at → getD (sets l at vs) i 0 ≡ getD l i 0
+get-before [] l at i h = refl
+get-before (v ∷ vs) l at i h = get-before vs (set l at v) (suc at) i (omega arith) ∙ getD-set-other l at i v 0 (λ e. absurd (omega arith))
+
+get-here : (vs l : List ℕ) (at k : ℕ) → k < length vs → at + length vs ≤ length l → getD (sets l at vs) (at + k) 0 ≡ getD vs k 0
+get-here [] l at k h r = absurd (omega arith)
+get-here (v ∷ vs) l at zero h r =
+    rw (add-zero at) (get-before vs (set l at v) (suc at) at (omega arith) ∙ getD-set-same l at v 0 (omega arith))
+get-here (v ∷ vs) l at (suc k) h r =
+    let there : at + suc k ≡ suc at + k = omega arith in
+    rw there (get-here vs (set l at v) (suc at) k (omega arith) (omega (arith, length-sets l at (v ∷ []))))
+
+drop-sets : (vs l : List ℕ) (at n : ℕ) → at + length vs ≤ n → drop n (sets l at vs) ≡ drop n l
+drop-sets [] l at n h = refl
+drop-sets (v ∷ vs) l at n h = drop-sets vs (set l at v) (suc at) n (omega arith) ∙ drop-set-lt n l at v (omega arith)
+
+-- ---- numbersFrom
+
+map-same : {A : Type 0} (f g : ℕ → A) (a n : ℕ) → ((i : ℕ) → i < a + n → f i ≡ g i) → map f (numbersFrom a n) ≡ map g (numbersFrom a n)
+unfolding numbersFrom
+map-same f g a zero h = refl
+map-same f g a (suc n) h = rw (h a (omega arith), map-same f g (suc a) n (λ i k. h i (omega arith)))
+
+one-more : {A : Type 0} (f : ℕ → A) (n : ℕ) → map f (numbersFrom 0 (n + 1)) ≡ map f (numbersFrom 0 n) ++ (f n ∷ [])
+one-more f n = ap (map f) (numbers-append 0 n 1) ∙ map-append f (numbersFrom 0 n) (numbersFrom (0 + n) 1) ∙ rw (zero-add n) last
+  where
+    last : map f (numbersFrom 0 n) ++ map f (numbersFrom n 1) ≡ map f (numbersFrom 0 n) ++ (f n ∷ [])
+    last = unfold numbersFrom in refl
+
+-- ---- indexWhere
+
+module _ {A : Type 0} (p : A → Bool) where
+  index-kept : (l r : List A) (i : ℕ) → indexWhere p l ≡ some i → indexWhere p (l ++ r) ≡ some i
+  unfolding indexWhere
+  index-kept [] r i e = not-none e
+  index-kept (x ∷ l) r i e = go (p x) (indexWhere p l) (indexWhere p (l ++ r)) (λ k. index-kept l r k) refl e
+    where
+      go : (b : Bool) (o u : Option ℕ) → ((k : ℕ) → indexWhere p l ≡ some k → u ≡ some k) → indexWhere p l ≡ o
+          → cond b (some 0) (Option·map suc o) ≡ some i → cond b (some 0) (Option·map suc u) ≡ some i
+      go true o u rest q e = e
+      go false none u rest q e = not-none e
+      go false (some k) u rest q e = rw (rest k q) e
+
+  index-last : (l : List A) (x : A) → p x ≡ true → indexWhere p (l ++ (x ∷ [])) ≡ some (Option·getD (indexWhere p l) (length l))
+  unfolding indexWhere
+  index-last [] x e = rw e
+  index-last (y ∷ l) x e = go (p y) (indexWhere p l) (index-last l x e)
+    where
+      go : (b : Bool) (o : Option ℕ) → indexWhere p (l ++ (x ∷ [])) ≡ some (Option·getD o (length l))
+          → cond b (some 0) (Option·map suc (indexWhere p (l ++ (x ∷ [])))) ≡ some (Option·getD (cond b (some 0) (Option·map suc o)) (suc (length l)))
+      go true o q = refl
+      go false none q = rw q
+      go false (some k) q = rw q
+
+-- ---- a row
+
+module _ (rows row : List ℕ) (count : ℕ) (whole : length row ≡ 17) (room : count * 17 + 17 ≤ length rows) where
+  abbrev stored : List ℕ
+  stored = sets rows (count * 17) row
+
+  column-before : (k site : ℕ) → k < 17 → site < count → column k stored site ≡ column k rows site
+  unfolding column
+  column-before k site h b = get-before row rows (count * 17) (site * 17 + k) (omega arith)
+
+  column-here : (k : ℕ) → k < 17 → column k stored count ≡ getD row k 0
+  unfolding column
+  column-here k h = get-here row rows (count * 17) k (omega arith) (omega arith)
+
+  pub rest-kept : drop ((count + 1) * 17) stored ≡ drop ((count + 1) * 17) rows
+  rest-kept = drop-sets row rows (count * 17) ((count + 1) * 17) (omega arith)
+
+  part-before : (s : List ℕ) (from to site : ℕ) → from < 17 → to < 17 → site < count → partAt from to s stored site ≡ partAt from to s rows site
+  unfolding partAt
+  part-before s from to site f t b = rw (column-before from site f b, column-before to site t b)
+
+  site-before : (s : List ℕ) (site : ℕ) → site < count → siteAt s stored site ≡ siteAt s rows site
+  unfolding siteAt
+  site-before s site b = rw (
+    column-before 0 site (omega arith) b,
+    column-before 2 site (omega arith) b,
+    column-before 3 site (omega arith) b,
+    column-before 5 site (omega arith) b,
+    column-before 6 site (omega arith) b,
+    part-before s 7 8 site (omega arith) (omega arith) b,
+    part-before s 9 10 site (omega arith) (omega arith) b,
+    part-before s 11 12 site (omega arith) (omega arith) b,
+    part-before s 13 14 site (omega arith) (omega arith) b,
+    part-before s 15 16 site (omega arith) (omega arith) b,
+  )
+
+-- ---- a site more
+
+-- the rows of the first `count` sites say which contigs are the same, and which sites are blocks
+pub record Numbered (s rows : List ℕ) (count : ℕ) : Type 0 where
+  pub contigs : ContigsNumbered s rows count
+  pub blocks : (site : ℕ) → site < count → eqb (column 4 rows site) 1 ≡ isBlock (siteAt s rows site .alleles)
+
+pub numbered-none : (s rows : List ℕ) → Numbered s rows 0
+numbered-none s rows = record { contigs = λ site h. absurd (omega arith); blocks = λ site h. absurd (omega arith) }
+
+pub sites-count : (s rows : List ℕ) (count : ℕ) → length (sitesIn s rows count) ≡ count
+unfolding sitesIn
+sites-count s rows count = length-map (numbersFrom 0 count) (siteAt s rows) ∙ length-numbers 0 count
+
+-- the contigs of the sites are the names in their rows
+site-contigs : (s rows : List ℕ) (count : ℕ) → map (λ (x : Site). x .contig) (sitesIn s rows count) ≡ contigNames s rows count
+unfolding sitesIn contigNames siteAt
+site-contigs s rows count = map-map (λ (x : Site). x .contig) (siteAt s rows) (numbersFrom 0 count)
+
+pub numbered-rows : (s rows : List ℕ) (count : ℕ) → Numbered s rows count → SiteRows s rows (sitesIn s rows count)
+numbered-rows s rows count n = record {
+  read = rw (sites-count s rows count) (unfold sitesIn in refl);
+  contigs = λ site h. rw (site-contigs s rows count) (n .contigs site (rw (sites-count s rows count) at h));
+  blocks = λ site h. n .blocks site (rw (sites-count s rows count) at h);
+}
+
+module _ (s rows : List ℕ) (count : ℕ) (p : SitePlace) (contig : ℕ) (a : SiteAlleles) (v : SiteValues) (block : Bool)
+    (room : count * 17 + 17 ≤ length rows) where
+  abbrev row : List ℕ
+  row = rowOf p contig a v block
+
+  abbrev after : List ℕ
+  after = sets rows (count * 17) row
+
+  here : (k : ℕ) → k < 17 → column k after count ≡ getD row k 0
+  here = column-here rows row count refl room
+
+  part-here : (from to : ℕ) → from < 17 → to < 17 → partAt from to s after count ≡ between s (getD row from 0) (getD row to 0)
+  unfolding partAt
+  part-here from to f t = rw (here from f, here to t)
+
+  site-here : siteAt s after count ≡ siteFrom s p a v
+  unfolding siteAt
+  site-here = rw (
+    here 0 (omega arith),
+    here 2 (omega arith),
+    here 3 (omega arith),
+    here 5 (omega arith),
+    here 6 (omega arith),
+    part-here 7 8 (omega arith) (omega arith),
+    part-here 9 10 (omega arith) (omega arith),
+    part-here 11 12 (omega arith) (omega arith),
+    part-here 13 14 (omega arith) (omega arith),
+    part-here 15 16 (omega arith) (omega arith),
+  )
+
+  pub sites-more : sitesIn s after (count + 1) ≡ sitesIn s rows count ++ (siteFrom s p a v ∷ [])
+  unfolding sitesIn
+  sites-more = one-more (siteAt s after) count
+      ∙ rw (map-same (siteAt s after) (siteAt s rows) 0 count (λ i h. site-before rows row count refl room s i (omega arith)), site-here)
+
+  names-more : contigNames s after (count + 1) ≡ contigNames s rows count ++ (partAt 7 8 s after count ∷ [])
+  unfolding contigNames
+  names-more = one-more (partAt 7 8 s after) count
+      ∙ rw (map-same (partAt 7 8 s after) (partAt 7 8 s rows) 0 count
+      (λ i h. part-before rows row count refl room s 7 8 i (omega arith) (omega arith) (omega arith)))
+
+  module _ (numbered : Numbered s rows count) (first : contig ≡ firstOn s rows count (between s (p .contig .at) (p .contig .end)))
+      (is-block : block ≡ isBlock (siteFrom s p a v .alleles)) where
+    contigs-more : ContigsNumbered s after (count + 1)
+    contigs-more site h = rw names-more (go (ℕ-discrete site count))
+      where
+        names : List (List ℕ)
+        names = contigNames s rows count ++ (partAt 7 8 s after count ∷ [])
+
+        go : Dec (site ≡ count) → indexWhere (sameBytes (partAt 7 8 s after site)) (contigNames s rows count ++ (partAt 7 8 s after count ∷ []))
+            ≡ some (column 1 after site)
+        go (yes q) = rw q (index-last (sameBytes (partAt 7 8 s after count)) (contigNames s rows count) (partAt 7 8 s after count) (same-refl (partAt 7 8 s after count))
+            ∙ rw (here 1 (omega arith), part-here 7 8 (omega arith) (omega arith), names-length s rows count, first) (unfold firstOn in refl))
+        go (no q) =
+            let b : site < count = omega arith in
+            index-kept (sameBytes (partAt 7 8 s after site)) (contigNames s rows count) _ (column 1 after site)
+            (rw (part-before rows row count refl room s 7 8 site (omega arith) (omega arith) b, column-before rows row count refl room 1 site (omega arith) b)
+            (numbered .contigs site b))
+
+    blocks-more : (site : ℕ) → site < count + 1 → eqb (column 4 after site) 1 ≡ isBlock (siteAt s after site .alleles)
+    blocks-more site h = go (ℕ-discrete site count)
+      where
+        flag : (b : Bool) → eqb (cond b 1 0) 1 ≡ b
+        flag true = refl
+        flag false = refl
+
+        go : Dec (site ≡ count) → eqb (column 4 after site) 1 ≡ isBlock (siteAt s after site .alleles)
+        go (yes q) = rw (q, here 4 (omega arith), site-here, ← is-block) (flag block)
+        go (no q) =
+            let b : site < count = omega arith in
+            rw (column-before rows row count refl room 4 site (omega arith) b, site-before rows row count refl room s site b) (numbered .blocks site b)
+
+    pub numbered-more : Numbered s after (count + 1)
+    numbered-more = record { contigs = contigs-more; blocks = blocks-more }

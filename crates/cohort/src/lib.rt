@@ -1,0 +1,174 @@
+// cohort.kv as tables: the names, and a row of numbers for each site.
+ghost use mathlib.Core.Bool.{_&&_, cond};
+ghost use mathlib.Core.Path.{_≡_};
+ghost use Prim.Native.Nat.{_*_, _+_, _≤_};
+ghost use lib.Dec.{eqb};
+ghost use lib.ListN.{length};
+ghost use lib.Seq.{sets};
+ghost use Rattle.definitions.specs.Bytes.{sameBytes};
+ghost use Rattle.definitions.specs.Limits.{maxSites};
+ghost use Rattle.tables.specs.Tables.{column, partAt, rowLength};
+ghost use Rattle.cohort.specs.Cohort.{CohortAt, CohortFitting, ContigsNumbered, Room, SitesRead, firstOn, rowOf};
+use sample_names::HeaderRead;
+use site_groups::SiteAlleles;
+use site_groups::SiteAt;
+use site_groups::SitePlace;
+use site_groups::SiteValues;
+
+// Stores the numbers of a row from an offset on.
+fn store_row(rows: &mut [usize], first: usize, row: &[usize])
+    requires { ⌜ first + length (now row) ≤ length (now rows) ⌝ }
+    ensures { λ _. ⌜ now (rows .exit) ≡ sets (now (rows .entry)) first (now (row .entry)) ⌝ }
+{
+    for k in 0..row.len() {
+        let n = row[k];
+        rows[first + k] = n;
+    }
+}
+
+fn flag(b: bool) -> usize
+    ensures { λ r. ⌜ r ≡ cond b 1 0 ⌝ }
+{
+    if b { 1 } else { 0 }
+}
+
+// Stores a site's row.
+fn put_site(
+    rows: &mut [usize],
+    site: usize,
+    place: SitePlace,
+    contig: usize,
+    alleles: SiteAlleles,
+    values: SiteValues,
+    block: bool,
+)
+    requires { ⌜ site * 17 + 17 ≤ length (now rows) ⌝ }
+    ensures { λ _. ⌜ now (rows .exit) ≡ sets (now (rows .entry)) (site * 17) (rowOf place contig alleles values block) ⌝ }
+{
+    let row = [
+        place.sample as usize,
+        contig,
+        place.start as usize,
+        place.end as usize,
+        flag(block),
+        values.gq as usize,
+        values.dp as usize,
+        place.contig.at,
+        place.contig.end,
+        alleles.refs.at,
+        alleles.refs.end,
+        alleles.alts.at,
+        alleles.alts.end,
+        values.ad.at,
+        values.ad.end,
+        values.pl.at,
+        values.pl.end,
+    ];
+    store_row(rows, site * 17, &row);
+}
+
+// Whether a site is the first on its contig, and that contig has this name.
+fn is_first_on(s: &[u8], rows: &[usize], site: usize, contig: &[u8]) -> bool
+    ensures { λ r. ⌜ r ≡ eqb (column 1 (now (rows .entry)) site) site && sameBytes (now (contig .entry)) (partAt 7 8 (now (s .entry)) (now (rows .entry)) site) ⌝ }
+{
+    if tables::contig_of(rows, site) != site {
+        return false;
+    }
+    let name = tables::contig_name(s, rows, site);
+    kv_text::same_bytes(contig, name)
+}
+
+// The number of the first site on a contig among so many, or their number if there is none. A name is compared with each contig once.
+fn contig_number(s: &[u8], rows: &[usize], count: usize, contig: &[u8]) -> usize
+    requires { ⌜ ContigsNumbered (now s) (now rows) count ⌝ }
+    ensures { λ r. ⌜ r ≡ firstOn (now (s .entry)) (now (rows .entry)) count (now (contig .entry)) ⌝ }
+{
+    for site in 0..count {
+        if is_first_on(s, rows, site, contig) {
+            return site;
+        }
+    }
+    count
+}
+
+// How many sites there are, or the row that refuses the first faulty group.
+pub enum SitesAt {
+    Sites(usize),
+    Refused(usize),
+}
+
+// The site groups from an offset on, of a cohort with so many samples: a row for each, from the first row on.
+fn read_sites(s: &[u8], at: usize, samples: usize, rows: &mut [usize]) -> SitesAt
+    requires { ⌜ maxSites * rowLength ≤ length (now rows) ⌝ }
+    ensures { λ r. ⌜ SitesRead samples (now (s .entry)) at (now (rows .entry)) (now (rows .exit)) r ⌝ }
+{
+    let mut next = at;
+    let mut count = 0;
+    while next < s.len() {
+        let group = site_groups::site_at(s, next, samples, count);
+        match group {
+            SiteAt::Refused(row) => {
+                return SitesAt::Refused(row);
+            }
+            SiteAt::Site(place, alleles, values, block) => {
+                let name = tables::part(s, place.contig.at, place.contig.end);
+                let contig = contig_number(s, rows, count, name);
+                put_site(rows, count, place, contig, alleles, values, block);
+                count += 1;
+                next = values.next;
+            }
+        }
+    }
+    SitesAt::Sites(count)
+}
+
+// The number of samples, and of sites; or the row that refuses the text; or a table is too short.
+pub enum CohortRead {
+    Cohort(usize, usize),
+    Refused(usize),
+    NoRoom,
+}
+
+// The same where there is room; what stands in the tables after a refusal is open.
+fn read_fitting(s: &[u8], names: &mut [usize], rows: &mut [usize]) -> CohortRead
+    requires { ⌜ Room (now names) (now rows) ⌝ }
+    ensures { λ r. ⌜ CohortFitting (now (s .entry)) (now (names .entry)) (now (names .exit)) (now (rows .entry)) (now (rows .exit)) r ⌝ }
+{
+    if 16777216 < s.len() {
+        return CohortRead::Refused(2);
+    }
+    let header = sample_names::read_samples(s, names);
+    match header {
+        HeaderRead::NoRoom => CohortRead::NoRoom,
+        HeaderRead::Refused(row) => CohortRead::Refused(row),
+        HeaderRead::Samples(samples, at) => {
+            let sites = read_sites(s, at, samples, rows);
+            match sites {
+                SitesAt::Refused(row) => CohortRead::Refused(row),
+                SitesAt::Sites(count) => CohortRead::Cohort(samples, count),
+            }
+        }
+    }
+}
+
+// Reads cohort.kv, rows 1 to 8, into the two tables: 128 numbers for names, two each, and 17 numbers for each of 4,096 sites.
+pub fn read_cohort(s: &[u8], names: &mut [usize], rows: &mut [usize]) -> CohortRead
+    ensures { λ r. ⌜ CohortAt (now (s .entry)) (now (names .entry)) (now (names .exit)) (now (rows .entry)) (now (rows .exit)) r ⌝ }
+{
+    if names.len() < 128 {
+        return CohortRead::NoRoom;
+    }
+    if rows.len() < 69632 {
+        return CohortRead::NoRoom;
+    }
+    let read = read_fitting(s, names, rows);
+    match read {
+        CohortRead::NoRoom => CohortRead::NoRoom,
+        CohortRead::Cohort(samples, sites) => CohortRead::Cohort(samples, sites),
+        CohortRead::Refused(row) => {
+            tables::clear(names);
+            tables::clear(rows);
+            CohortRead::Refused(row)
+        }
+    }
+}

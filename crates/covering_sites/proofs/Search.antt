@@ -1,0 +1,117 @@
+-- The search for the first site of each run that covers a position, one site and one sample at a time.
+use Prim.Native.Nat.{_+_, _-_, _<_, _^_, _≤_, suc, ℕ}
+use lib.ListN.{getD, length, set}
+use lib.Seq.{drop-cons, sets}
+use mathlib.Core.Bool.{Bool, cond, false, true}
+use mathlib.Core.List.{List, [], _∷_, filterMap, filterMap-cons-none, filterMap-cons-some}
+use mathlib.Core.Option.{none, some}
+use mathlib.Core.Path.{_∙_, _≡_, ap, refl, sym}
+use native.Mathlib.Nat.{sub-zero, zero-add}
+use native.Mathlib.Numerals.{add-one}
+use native.Mathlib.Omega.{arith}
+use Rattle.definitions.specs.Lists.{firstWhere, numbersFrom}
+use Rattle.kv_text.specs.Fields.{between}
+use Rattle.kv_write.proofs.Laying.{Left, done, left-length, one, recast, start}
+use Rattle.laws.proofs.Members.{length-numbers, member-numbers}
+use Rattle.covering_sites.proofs.Kept.{numbers-end, numbers-next}
+use Rattle.covering_sites.proofs.Same.{filterMap-few, filterMap-same}
+use Rattle.covering_sites.specs.Covering.{Found, coveringRows, rowCovers}
+use Rattle.covering_sites.specs.Runs.{Runs, runAt}
+
+-- ---- one run
+
+part-next : (l : List ℕ) (i to : ℕ) → i < to → to ≤ length l → between l i to ≡ getD l i 0 ∷ between l (i + 1) to
+part-next l i to h k =
+    let n : to - i ≡ suc (to - (i + 1)) = omega arith in
+    let b : i < length l = omega arith in
+    rw (n, drop-cons l i 0 b, ← add-one i)
+
+part-end : (l : List ℕ) (i to : ℕ) → to ≤ i → between l i to ≡ []
+part-end l i to h = let n : to - i ≡ 0 = omega arith in rw n
+
+module _ (q : ℕ → Bool) (chosen : List ℕ) (from to : ℕ) where
+  -- none so far passes: nothing is stored yet, and the first of those that are left is the first of all
+  pub record Searching (found₀ : List ℕ) (count₀ : ℕ) (found : List ℕ) (count i : ℕ) : Type 0 where
+    pub found-same : found ≡ found₀
+    pub count-same : count ≡ count₀
+    pub first-same : firstWhere q (between chosen i to) ≡ firstWhere q (between chosen from to)
+
+  module _ {found₀ : List ℕ} {count₀ : ℕ} {found : List ℕ} {count i : ℕ} (s : Searching found₀ count₀ found count i) where
+    module _ (h : i < to) (k : to ≤ length chosen) where
+      pub search-skip : q (getD chosen i 0) ≡ false → Searching found₀ count₀ found count (i + 1)
+      unfolding firstWhere
+      search-skip e = record {
+        found-same = s .found-same;
+        count-same = s .count-same;
+        first-same =
+            sym (ap (λ (b : Bool). cond b (some (getD chosen i 0)) (firstWhere q (between chosen (i + 1) to))) e)
+            ∙ sym (ap (firstWhere q) (part-next chosen i to h k)) ∙ s .first-same;
+      }
+
+      pub search-hit : q (getD chosen i 0) ≡ true → firstWhere q (between chosen from to) ≡ some (getD chosen i 0)
+      unfolding firstWhere
+      search-hit e =
+          sym (s .first-same) ∙ ap (firstWhere q) (part-next chosen i to h k)
+          ∙ ap (λ (b : Bool). cond b (some (getD chosen i 0)) (firstWhere q (between chosen (i + 1) to))) e
+
+    pub search-none : to ≤ i → firstWhere q (between chosen from to) ≡ none
+    unfolding firstWhere
+    search-none h = sym (s .first-same) ∙ ap (firstWhere q) (part-end chosen i to h)
+
+-- ---- all runs
+
+module _ (rows : List ℕ) (position : ℕ) (chosen bounds : List ℕ) (samples : ℕ) where
+  -- the sites found in the runs from this sample on
+  unfoldable pub foundFrom : ℕ → List ℕ
+  foundFrom x = filterMap (λ y. firstWhere (rowCovers rows position) (runAt chosen bounds y)) (numbersFrom x (samples - x))
+
+  -- those of the samples that are left complete the list
+  pub record Samples (found₀ found : List ℕ) (count x : ℕ) : Type 0 where
+    pub through : x ≤ samples
+    pub few : count ≤ x
+    pub left : Left found₀ 0 (coveringRows rows position samples (runAt chosen bounds)) found count (foundFrom x)
+
+  pub samples-start : {found₀ : List ℕ} → samples ≤ length found₀ → length found₀ < 2 ^ 64 → Samples found₀ found₀ 0 0
+  unfolding foundFrom coveringRows
+  samples-start h k = record {
+    through = omega arith;
+    few = omega arith;
+    left =
+        rw sub-zero (start (omega (
+          arith,
+          filterMap-few (λ y. firstWhere (rowCovers rows position) (runAt chosen bounds y)) (numbersFrom 0 samples),
+          length-numbers 0 samples,
+        )));
+  }
+
+  module _ {found₀ found : List ℕ} {count x : ℕ} (s : Samples found₀ found count x) where
+    module _ (h : x < samples) where
+      pub sample-one : {site : ℕ} → firstWhere (rowCovers rows position) (runAt chosen bounds x) ≡ some site
+          → Samples found₀ (set found count site) (count + 1) (x + 1)
+      unfolding foundFrom
+      sample-one {site} e = record {
+        through = omega arith;
+        few = omega (arith, s .few);
+        left =
+            one (record { next = refl; laid = refl })
+            (recast (ap (filterMap _) (numbers-next samples x h) ∙ filterMap-cons-some _ x _ e) (s .left));
+      }
+
+      pub sample-none : firstWhere (rowCovers rows position) (runAt chosen bounds x) ≡ none → Samples found₀ found count (x + 1)
+      unfolding foundFrom
+      sample-none e = record {
+        through = omega arith;
+        few = omega (arith, s .few);
+        left = recast (ap (filterMap _) (numbers-next samples x h) ∙ filterMap-cons-none _ x _ e) (s .left);
+      }
+
+    pub samples-end : samples ≤ x → (run : ℕ → List ℕ) → Runs chosen bounds samples run
+        → Found found₀ (coveringRows rows position samples run) found count
+    unfolding foundFrom coveringRows filterMap
+    samples-end h run r =
+        let l = done (recast (ap (filterMap _) (numbers-end samples x h)) (s .left)) in
+        let e = filterMap-same _ _ (numbersFrom 0 samples) (λ y m. ap (firstWhere (rowCovers rows position)) (r .each y (let b = member-numbers 0 samples m in omega (arith, b .1)))) in
+        record { count = l .next ∙ zero-add _ ∙ ap length e; stored = l .laid ∙ ap (sets found₀ 0) e }
+
+    pub samples-length : length found ≡ length found₀
+    samples-length = left-length (s .left)

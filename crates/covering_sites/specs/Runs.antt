@@ -1,0 +1,29 @@
+-- Numbers in runs, one for each sample: a list that holds one run behind the other, and the bounds between them.
+use Prim.Native.Nat.{_+_, _<_, _≤_, ℕ}
+use lib.ListN.{getD, length, take}
+use mathlib.Core.Bool.{Bool, false, true}
+use mathlib.Core.List.{List, [], _∷_, flatMap}
+use mathlib.Core.Path.{_≡_}
+use Rattle.definitions.specs.Lists.{numbersFrom}
+use Rattle.kv_text.specs.Fields.{between}
+
+-- the run of a sample: from its bound to just before the next one
+unfoldable pub runAt : List ℕ → List ℕ → ℕ → List ℕ
+runAt list bounds x = between list (getD bounds x 0) (getD bounds (x + 1) 0)
+
+-- bounds of the runs of so many samples, in a list of this length
+pub record Bounded (size : ℕ) (bounds : List ℕ) (samples : ℕ) : Type 0 where
+  pub long : samples < length bounds
+  pub up : (x : ℕ) → x < samples → getD bounds x 0 ≤ getD bounds (x + 1) 0
+  pub within : (x : ℕ) → x < samples → getD bounds (x + 1) 0 ≤ size
+
+-- the list holds these runs, from its beginning on
+pub record Runs (list bounds : List ℕ) (samples : ℕ) (run : ℕ → List ℕ) : Type 0 where
+  pub bounded : Bounded (length list) bounds samples
+  pub each : (x : ℕ) → x < samples → runAt list bounds x ≡ run x
+  pub whole : take (getD bounds samples 0) list ≡ flatMap run (numbersFrom 0 samples)
+
+-- a number, or nothing if it is not kept
+abbrev pub keptOf : Bool → ℕ → List ℕ
+keptOf true n = n ∷ []
+keptOf false n = []
