@@ -63,11 +63,11 @@ same-length-6 c = search needs
 returns-5 : tie.Need-returns-5
 unfolding CohortAt CohortFitting
 returns-5 c = record {
-      room = record { for-names = (c .before .before .before .before .before .before .before .before .before .before .before .before .before .before .before .before .before .before .before .if1 .left); for-rows = (c .before .before .before .before .before .before .before .before .before .before .before .before .before .before .before .before .before .before .if2 .left) };
-      value = rw ((c .before .before .before .before .before .before .before .before .before .read2 .given .1)) at ((c .before .before .before .before .before .before .before .before .before .before .before .before .before .before .before .read-fitting .ensures));
-      names-cleared = (c .before .before .before .before .before .before .clear .ensures) ∙ scratch-same _ _ ((c .before .before .before .before .before .before .before .before .before .before .before .before .before .before .before .read-fitting .kept .1 .0));
-      rows-cleared = (c .before .before .clear2 .ensures) ∙ scratch-same _ _ ((c .before .before .before .before .before .before .before .before .before .before .before .before .before .before .before .read-fitting .kept .1 .1 .0));
-    }
+  room = record { for-names = (c .before .before .before .before .before .before .before .before .before .before .before .before .before .before .before .before .before .before .before .if1 .left); for-rows = (c .before .before .before .before .before .before .before .before .before .before .before .before .before .before .before .before .before .before .if2 .left) };
+  value = rw ((c .before .before .before .before .before .before .before .before .before .read2 .given .1)) at ((c .before .before .before .before .before .before .before .before .before .before .before .before .before .before .before .read-fitting .ensures));
+  names-cleared = (c .before .before .before .before .before .before .clear .ensures) ∙ scratch-same _ _ ((c .before .before .before .before .before .before .before .before .before .before .before .before .before .before .before .read-fitting .kept .1 .0));
+  rows-cleared = (c .before .before .clear2 .ensures) ∙ scratch-same _ _ ((c .before .before .before .before .before .before .before .before .before .before .before .before .before .before .before .read-fitting .kept .1 .1 .0));
+}
 
 pub read-cohort-spec : {M : Type 1} → statement M
 read-cohort-spec =
