@@ -1,2 +1,3 @@
 pub mod First
+pub mod Indexes
 pub mod Readings

@@ -2,11 +2,11 @@
 use Prim.Native.Nat.{_-_, _<_, _≤_, ℕ}
 use borrow.Author.Tests.{le-ltb, lt-ltb}
 use lib.Dec.{eqb, ltb}
-use lib.ListN.{drop, length, length-append, length-drop, take, take-append-drop}
+use lib.ListN.{drop, length, length-append, length-drop, length-map, take, take-append-drop}
 use lib.Seq.{drop-append-seam, take-all, take-append-seam}
 use mathlib.Core.Bool.{Bool, cond, false, true}
-use mathlib.Core.List.{List, [], _++_, _∷_, map}
-use mathlib.Core.Option.{Option, none, some}
+use mathlib.Core.List.{List, _++_, _∷_, map, map-map}
+use mathlib.Core.Option.{none, some}
 use mathlib.Core.Path.{_∙_, _≡_, ap, ap₂, refl, sym}
 use native.Mathlib.Omega.{arith}
 use Rattle.definitions.specs.Alleles.{Allele, letters, nonRef, sameAllele, spanDel, spelled}
@@ -30,6 +30,9 @@ spelled-non-ref : (f : List ℕ) → sameBytes f (text "<NON_REF>") ≡ true →
 unfolding alleleSpelled spelled text sameBytes compareBytes andThen
 spelled-non-ref f h = rw (same-is f (text "<NON_REF>") h)
 
+pub non-ref-spelled : alleleSpelled (text "<NON_REF>") ≡ nonRef
+non-ref-spelled = spelled-non-ref (text "<NON_REF>") (is-same refl)
+
 spelled-letters : (f : List ℕ) → sameBytes f (text "*") ≡ false → sameBytes f (text "<NON_REF>") ≡ false → alleleSpelled f ≡ letters f
 unfolding alleleSpelled spelled
 spelled-letters f h k = rw (h, k)
@@ -42,7 +45,7 @@ is-span-del f =
 
 pub is-non-ref : (f : List ℕ) → sameAllele (alleleSpelled f) nonRef ≡ sameBytes f (text "<NON_REF>")
 is-non-ref f =
-    ap (sameAllele (alleleSpelled f)) (sym (spelled-non-ref (text "<NON_REF>") (is-same refl))) ∙ same-by-bytes f (text "<NON_REF>")
+    ap (sameAllele (alleleSpelled f)) (sym non-ref-spelled) ∙ same-by-bytes f (text "<NON_REF>")
 
 -- ---- an allele of the record beside the letters of a site that starts there
 
@@ -127,27 +130,26 @@ module _ (a : Allele) (ref own f : List ℕ) where
 
 -- ---- the alleles of a site of a table
 
+by-start : (starts : Bool) (ref own alts : List ℕ)
+    → cond starts
+    (map (λ a. some (extendedAllele ref own a)) (letters own ∷ map alleleSpelled (fieldsOf comma alts)))
+    (none ∷ map (spanningReading own) (map alleleSpelled (fieldsOf comma alts)))
+    ≡ readings starts ref own alts
+unfolding readings refReading altReading onlyIf
+by-start true ref own alts = rw (map-map (λ a. some (extendedAllele ref own a)) alleleSpelled (fieldsOf comma alts))
+by-start false ref own alts = rw (map-map (spanningReading own) alleleSpelled (fieldsOf comma alts))
+
 pub site-readings : (ref : List ℕ) (position : ℕ) (s rows : List ℕ) (site : ℕ)
     → remappedAlleles ref position (siteAt s rows site)
     ≡ readings (eqb (column 2 rows site) position) ref (partAt 9 10 s rows site) (partAt 11 12 s rows site)
-unfolding remappedAlleles startsAt siteRef siteAt refAltsSpelled readings refReading altReading onlyIf
-site-readings ref position s rows site = go (eqb (column 2 rows site) position)
-  where
-    own : List ℕ
-    own = partAt 9 10 s rows site
+unfolding remappedAlleles startsAt siteRef siteAt refAltsSpelled
+site-readings ref position s rows site = by-start (eqb (column 2 rows site) position) ref (partAt 9 10 s rows site) (partAt 11 12 s rows site)
 
-    started : (fs : List (List ℕ)) → map (λ a. some (extendedAllele ref own a)) (map alleleSpelled fs) ≡ map (altReading true ref own) fs
-    started [] = refl
-    started (f ∷ fs) = ap₂ (λ (x : Option Allele) (y : List (Option Allele)). x ∷ y) refl (started fs)
-
-    spanned : (fs : List (List ℕ)) → map (spanningReading own) (map alleleSpelled fs) ≡ map (altReading false ref own) fs
-    spanned [] = refl
-    spanned (f ∷ fs) = ap₂ (λ (x : Option Allele) (y : List (Option Allele)). x ∷ y) refl (spanned fs)
-
-    go : (b : Bool)
-        → cond b
-        (map (λ a. some (extendedAllele ref own a)) (letters own ∷ map alleleSpelled (fieldsOf comma (partAt 11 12 s rows site))))
-        (none ∷ map (spanningReading own) (map alleleSpelled (fieldsOf comma (partAt 11 12 s rows site))))
-        ≡ readings b ref own (partAt 11 12 s rows site)
-    go true = ap (λ (l : List (Option Allele)). some (extendedAllele ref own (letters own)) ∷ l) (started (fieldsOf comma (partAt 11 12 s rows site)))
-    go false = ap (λ (l : List (Option Allele)). none ∷ l) (spanned (fieldsOf comma (partAt 11 12 s rows site)))
+-- a site with at most 255 ALTs has no alleles past number 255
+pub few-alleles : (ref : List ℕ) (position : ℕ) (s rows : List ℕ) (site : ℕ) → length (fieldsOf comma (partAt 11 12 s rows site)) ≤ 255
+    → take 256 (remappedAlleles ref position (siteAt s rows site)) ≡ remappedAlleles ref position (siteAt s rows site)
+unfolding readings
+few-alleles ref position s rows site h =
+    let alts = fieldsOf comma (partAt 11 12 s rows site) in
+    let reading = altReading (eqb (column 2 rows site) position) ref (partAt 9 10 s rows site) in
+    take-all 256 _ (rw site-readings (omega (arith, length-map alts reading)))

@@ -1,13 +1,13 @@
 // For each allele of a record, the number of a sample's own allele.
-// A site's alleles are lent as bytes: `own` is its REF, `alternates` are its ALTs with commas. `starts` says whether the site
-// starts at the record's position (else it starts earlier), and `reference` is REF of the record.
-// Every text is taken. Numbers go to 255: a site's alleles past that are not looked at.
+// A site's alleles are lent as bytes: `own` is its REF, and `alternates` are its ALTs, with commas. `starts` says whether the
+// site starts at the record's position (else it starts earlier), and `reference` is REF of the record.
+// Numbers are bytes: alleles past number 255 are not looked at. A site with at most 255 ALTs has none (`few-alleles`, proofs/Readings.antt).
 ghost use mathlib.Core.Path.{_≡_};
 ghost use mathlib.Core.Option.{Option·getD};
 ghost use Prim.Native.Nat.{_+_};
 ghost use lib.ListN.{length, set, take};
 ghost use lib.Seq.{sets};
-ghost use Rattle.definitions.specs.Alleles.{letters, nonRef, sameAllele};
+ghost use Rattle.definitions.specs.Alleles.{letters, sameAllele};
 ghost use Rattle.definitions.specs.Bytes.{comma, fieldsOf};
 ghost use Rattle.definitions.specs.Lists.{indexWhere};
 ghost use Rattle.definitions.specs.MergedAlleles.{extendedAllele, isAllele, perSampleMap, remappedAlleles};
@@ -48,8 +48,8 @@ fn ref_reads_as(own: &[u8], starts: bool, reference: &[u8], allele: &[u8]) -> bo
     is_extended(allele, own, own, reference)
 }
 
-// Whether one of the site's ALTs does: `<NON_REF>` as itself; of a site that starts earlier, one of fewer bytes than REF as `*`
-// and no other; of one that starts there `*` as itself and letters extended.
+// Whether one of the site's ALTs reads as this allele: `<NON_REF>` does as itself; of a site that starts earlier, an ALT of fewer
+// bytes than REF as `*`, and no other; of one that starts there, `*` as itself, and letters as they are extended.
 fn reads_as(alt: &[u8], own: &[u8], starts: bool, reference: &[u8], allele: &[u8]) -> bool
     ensures { λ r. ⌜ r ≡ isAllele (alleleSpelled (now (allele .entry)))
         (altReading starts (now (reference .entry)) (now (own .entry)) (now (alt .entry))) ⌝ }
@@ -70,7 +70,14 @@ fn reads_as(alt: &[u8], own: &[u8], starts: bool, reference: &[u8], allele: &[u8
 }
 
 // The number of the first of the site's alleles that reads as this one, else the number given for it.
-fn first_reading(own: &[u8], alternates: &[u8], starts: bool, reference: &[u8], allele: &[u8], otherwise: AlleleIndex) -> AlleleIndex
+fn first_reading(
+    own: &[u8],
+    alternates: &[u8],
+    starts: bool,
+    reference: &[u8],
+    allele: &[u8],
+    otherwise: AlleleIndex,
+) -> AlleleIndex
     ensures { λ r. ⌜ r .0 ≡ Option·getD
         (indexWhere (isAllele (alleleSpelled (now (allele .entry))))
         (take 256 (readings starts (now (reference .entry)) (now (own .entry)) (now (alternates .entry)))))
@@ -107,17 +114,24 @@ fn put_index(map: &mut [u8], place: usize, index: AlleleIndex)
     }
 }
 
-// The number of the sample's allele for REF, which is 0, and for each of the record's ALTs, lent with commas, as far as there is
-// room; the answer is how many they are.
-fn put_indexes(own: &[u8], alternates: &[u8], starts: bool, reference: &[u8], alts: &[u8], map: &mut [u8]) -> usize
+// The numbers of the sample's alleles: 0 for REF, whatever its spelling, and then one for each of the record's ALTs, which are
+// lent with commas. They are stored as far as there is room; the answer is how many they are.
+fn put_indexes(
+    own: &[u8],
+    alternates: &[u8],
+    starts: bool,
+    reference: &[u8],
+    alts: &[u8],
+    map: &mut [u8],
+) -> usize
     ensures count { λ r. ⌜ r ≡ 1 + length (fieldsOf comma (now (alts .entry))) ⌝ }
     ensures values { λ r. ⌜ now (map .exit) ≡ sets (now (map .entry)) 0 (perSampleMap
         (take 256 (readings starts (now (reference .entry)) (now (own .entry)) (now (alternates .entry))))
         (allelesIn (now (alts .entry)))) ⌝ }
 {
-    let first = AlleleIndex::reference();
-    let absent = first_reading(own, alternates, starts, reference, b"<NON_REF>", first);
-    put_index(map, 0, first);
+    let zero = AlleleIndex::reference();
+    let absent = first_reading(own, alternates, starts, reference, b"<NON_REF>", zero);
+    put_index(map, 0, zero);
     let mut at = 0;
     let mut count = 1;
     loop {
@@ -132,8 +146,16 @@ fn put_indexes(own: &[u8], alternates: &[u8], starts: bool, reference: &[u8], al
     }
 }
 
-// The same for a site of a table and the record at a position.
-pub fn indexes_of_relevant_alleles_for_gvcf(s: &[u8], rows: &[usize], site: usize, position: GenomePosition, reference: &[u8], alts: &[u8], map: &mut [u8]) -> usize
+// The same for a site of a table and a record at a position.
+pub fn indexes_of_relevant_alleles_for_gvcf(
+    s: &[u8],
+    rows: &[usize],
+    site: usize,
+    position: GenomePosition,
+    reference: &[u8],
+    alts: &[u8],
+    map: &mut [u8],
+) -> usize
     ensures count { λ r. ⌜ r ≡ 1 + length (fieldsOf comma (now (alts .entry))) ⌝ }
     ensures values { λ r. ⌜ now (map .exit) ≡ sets (now (map .entry)) 0 (perSampleMap
         (take 256 (remappedAlleles (now (reference .entry)) (position .0) (siteAt (now (s .entry)) (now (rows .entry)) site)))

@@ -1,6 +1,5 @@
 -- A store past the end would change nothing.
 use borrow.Author.Needs.{needs}
-use lib.ListN.{set}
 use lib.Seq.{set-out}
 use mathlib.Core.Path.{sym}
 use Rattle.sample_alleles.proofs.put_index.Statement.{statement}
