@@ -9,6 +9,7 @@ use Rattle.definitions.specs.ClipAndReference.{ReferenceSegment, segmentHolds}
 use Rattle.definitions.specs.Cohort.{Site}
 use Rattle.definitions.specs.Lists.{anyOf, filterBy}
 use Rattle.definitions.specs.MergedRef.{longest, siteRef, startsAt}
+use Rattle.kv_text.specs.Fields.{between}
 use Rattle.laws.proofs.ReferenceLetter.{firstLetter}
 use Rattle.tables.specs.Tables.{partAt, siteAt}
 use Rattle.merged_ref.specs.declared.LetterAt.{LetterAt}
@@ -27,6 +28,11 @@ sitesAt s rows found = map (siteAt s rows) found
 -- the REFs of the sites that start at the position
 unfoldable pub startingRefs : ℕ → List Site → List (List ℕ)
 startingRefs position covering = map siteRef (filterBy (startsAt position) covering)
+
+-- the segment whose contig and letters stand in these parts of the reference text
+abbrev pub segmentBy : List ℕ → ℕ → ℕ → ℕ → ℕ → ℕ → ReferenceSegment
+segmentBy reference contigAt contigEnd first basesAt basesEnd =
+    record { contig = between reference contigAt contigEnd; first = first; bases = between reference basesAt basesEnd }
 
 -- where the letter of the first segment that holds the position stands in the reference text
 unfoldable pub LetterFound : List ℕ → List ℕ → ℕ → List ReferenceSegment → LetterAt → Type 0

@@ -1,11 +1,10 @@
 // REF of the record at a position, from the sites found over it, numbers of a table's rows in the order of samples. The answer says
 // where REF stands; `ref_bytes` hands on the part of the text. Nothing is copied.
-ghost use lib.Dec.{leb, ltb};
 ghost use lib.ListN.{drop, take};
-ghost use mathlib.Core.Bool.{_&&_, true};
+ghost use mathlib.Core.Bool.{true};
 ghost use mathlib.Core.List.{List, [], _∷_};
 ghost use mathlib.Core.Path.{_≡_};
-ghost use Prim.Native.Nat.{ℕ, _+_};
+ghost use Prim.Native.Nat.{ℕ};
 ghost use Rattle.clip_and_reference.proofs.Groups.{SegmentsFrom};
 ghost use Rattle.definitions.specs.Bytes.{isPrefix};
 ghost use Rattle.definitions.specs.ClipAndReference.{ReferenceSegment};
@@ -13,23 +12,11 @@ ghost use Rattle.definitions.specs.Lists.{allOf, onlyIf};
 ghost use Rattle.definitions.specs.MergedRef.{firstRef, mergedRef, refLetter};
 ghost use Rattle.laws.proofs.ReferenceLetter.{firstLetter};
 ghost use Rattle.tables.specs.Tables.{partAt};
-ghost use Rattle.merged_ref.specs.Answers.{LetterFound, LongestFound, letterBytes, refAnswer, refBytes, sitesAt, startingRefs};
+ghost use Rattle.merged_ref.specs.Answers.{LetterFound, LongestFound, letterBytes, refAnswer, refBytes, segmentBy, sitesAt, startingRefs};
 use bio_ids::GenomePosition;
 use clip_and_reference::SegmentAt;
 
 // ---- the reference letter
-
-// Whether a reference group holds a position: it is on the contig, and has a letter there.
-fn holds(on: bool, first: u64, count: usize, position: u64) -> bool
-    ensures { λ r. ⌜ r ≡ on && leb first position && ltb position (first + count) ⌝ }
-{
-    if on {
-        if first <= position {
-            return position - first < count as u64;
-        }
-    }
-    false
-}
 
 // Where a letter stands in the reference text.
 pub enum LetterAt {
@@ -37,12 +24,42 @@ pub enum LetterAt {
     Absent,
 }
 
+// The letter that a reference group gives, if it is on the contig and has one at the position.
+fn letter_in(
+    reference: &[u8],
+    contig_at: usize,
+    contig_end: usize,
+    first: u32,
+    bases_at: usize,
+    bases_end: usize,
+    contig: &[u8],
+    position: GenomePosition,
+) -> LetterAt
+    ensures { λ r. ⌜ LetterFound (now (reference .entry)) (now (contig .entry)) (position .0)
+        (segmentBy (now (reference .entry)) «contig_at» «contig_end» first «bases_at» «bases_end» ∷ []) r ⌝ }
+{
+    let name = tables::part(reference, contig_at, contig_end);
+    if !kv_text::same_bytes(contig, name) {
+        return LetterAt::Absent;
+    }
+    let wanted = position.get();
+    let from = first as u64;
+    if wanted < from {
+        return LetterAt::Absent;
+    }
+    let index = wanted - from;
+    let bases = tables::part(reference, bases_at, bases_end);
+    if bases.len() as u64 <= index {
+        return LetterAt::Absent;
+    }
+    LetterAt::At(bases_at + index as usize)
+}
+
 // The letter at the position that the first group in the text gives that holds it, for a reference in order.
 pub fn find_letter(reference: &[u8], contig: &[u8], position: GenomePosition) -> LetterAt
     ensures { λ r. ⌜ ((segments : List ReferenceSegment) → SegmentsFrom (now (reference .entry)) 0 segments
         → LetterFound (now (reference .entry)) (now (contig .entry)) (position .0) segments r) ⌝ }
 {
-    let wanted = position.get();
     let mut at = 0;
     while at < reference.len() {
         let group = clip_and_reference::segment_at(reference, at);
@@ -57,12 +74,18 @@ pub fn find_letter(reference: &[u8], contig: &[u8], position: GenomePosition) ->
         else {
             return LetterAt::Absent;
         };
-        let name = tables::part(reference, contig_at, contig_end);
-        let on = kv_text::same_bytes(contig, name);
-        let bases = tables::part(reference, bases_at, bases_end);
-        let from = first as u64;
-        if holds(on, from, bases.len(), wanted) {
-            return LetterAt::At(bases_at + (wanted - from) as usize);
+        let letter = letter_in(
+            reference,
+            contig_at,
+            contig_end,
+            first,
+            bases_at,
+            bases_end,
+            contig,
+            position,
+        );
+        if let LetterAt::At(i) = letter {
+            return LetterAt::At(i);
         }
         at = next;
     }
