@@ -1,0 +1,6 @@
+-- The loop of find_letter:
+pub mod Letters
+-- The sites that start at the position:
+pub mod Starting
+-- REF:
+pub mod Refs

@@ -1,0 +1,120 @@
+-- The REFs of the sites that start at a position, one site more at a time.
+use Prim.Native.Nat.{_<_, _≤_, ℕ}
+use borrow.Author.Tests.{eq-eqb, le-ltb, lt-ltb, ne-eqb}
+use lib.ListN.{getD, length}
+use mathlib.Core.Bool.{Bool, _&&_, cond, false, true}
+use mathlib.Core.List.{List, [], _∷_, map}
+use mathlib.Core.Path.{_∙_, _≡_, ap, refl, sym}
+use native.Mathlib.Omega.{arith}
+use Rattle.definitions.specs.Cohort.{Site}
+use Rattle.definitions.specs.Lists.{allOf, anyOf, filterBy}
+use Rattle.definitions.specs.MergedRef.{firstRef, longest, siteRef, startsAt}
+use Rattle.laws.proofs.Members.{filter-no, filter-yes}
+use Rattle.laws.proofs.Tests.{or-neither}
+use Rattle.tables.proofs.Parts.{between-none, column-past}
+use Rattle.tables.specs.Tables.{column, partAt, refAltsSpelled, siteAt}
+use Rattle.merged_ref.specs.Answers.{LongestFound, sitesAt, startingRefs}
+use Rattle.merged_ref.specs.declared.LongestAt.{LongestAt}
+use Rattle.merged_ref.specs.declared.LongestAt.the-variants as longestAt
+
+module _ (position : ℕ) (x : Site) (l : List Site) where
+  starts : startsAt position x ≡ true → startingRefs position (x ∷ l) ≡ siteRef x ∷ startingRefs position l
+  unfolding startingRefs
+  starts h = rw (filter-yes (startsAt position) x l h)
+
+  elsewhere : startsAt position x ≡ false → startingRefs position (x ∷ l) ≡ startingRefs position l
+  unfolding startingRefs
+  elsewhere h = rw (filter-no (startsAt position) x l h)
+
+none-starts : (position : ℕ) (l : List Site) → anyOf (startsAt position) l ≡ false → startingRefs position l ≡ []
+unfolding startingRefs filterBy anyOf
+none-starts position [] h = refl
+none-starts position (x ∷ l) h =
+    let (here, later) = or-neither (startsAt position x) (anyOf (startsAt position) l) h in
+    elsewhere position x l here ∙ none-starts position l later
+
+-- ---- a test of every REF, site by site
+
+and-true : (b : Bool) → b && true ≡ b
+and-true true = refl
+and-true false = refl
+
+pub tested : (f : List ℕ → Bool) (position : ℕ) (x : Site) (l : List Site)
+    → allOf f (startingRefs position (x ∷ l)) ≡ allOf f (startingRefs position (x ∷ [])) && allOf f (startingRefs position l)
+unfolding startingRefs filterBy allOf
+tested f position x l = go (startsAt position x)
+  where
+    others : List Site
+    others = filterBy (startsAt position) l
+
+    go : (b : Bool) → allOf f (map siteRef (cond b (x ∷ others) others))
+        ≡ allOf f (map siteRef (cond b (x ∷ []) [])) && allOf f (map siteRef others)
+    go true = rw (and-true (f (siteRef x)))
+    go false = refl
+
+module _ (f : List ℕ → Bool) (position : ℕ) (x : Site) where
+  pub tested-elsewhere : startsAt position x ≡ false → true ≡ allOf f (startingRefs position (x ∷ []))
+  unfolding startingRefs filterBy allOf
+  tested-elsewhere h = rw h
+
+  pub tested-there : startsAt position x ≡ true → f (siteRef x) ≡ allOf f (startingRefs position (x ∷ []))
+  unfolding startingRefs filterBy allOf
+  tested-there h = rw (h, and-true (f (siteRef x)))
+
+-- ---- the first site's REF
+
+module _ (s rows : List ℕ) where
+  pub ref-first : (found : List ℕ) → 0 < length found → partAt 9 10 s rows (getD found 0 0) ≡ firstRef (sitesAt s rows found)
+  unfolding firstRef siteRef siteAt refAltsSpelled
+  ref-first [] h = absurd (omega arith)
+  ref-first (x ∷ found) h = refl
+
+  -- without a site, by a number past the table
+  pub ref-none : (found : List ℕ) → length found ≡ 0 → partAt 9 10 s rows (length rows) ≡ firstRef (sitesAt s rows found)
+  unfolding firstRef partAt
+  ref-none [] h =
+      between-none s (column 9 rows (length rows)) (column 10 rows (length rows))
+      (omega (arith, column-past 10 rows (length rows) (omega arith)))
+  ref-none (x ∷ found) h = absurd (omega arith)
+
+-- ---- whether a row's site starts there
+
+module _ (s rows : List ℕ) (position site : ℕ) where
+  pub start-there : column 2 rows site ≡ position → startsAt position (siteAt s rows site) ≡ true
+  unfolding startsAt siteAt
+  start-there h = eq-eqb (column 2 rows site) position h
+
+  pub start-elsewhere : (column 2 rows site ≡ position → ⊥) → startsAt position (siteAt s rows site) ≡ false
+  unfolding startsAt siteAt
+  start-elsewhere h = ne-eqb (column 2 rows site) position h
+
+-- ---- the longest, from the last site on
+
+alone : (r : List ℕ) → r ≡ longest (r ∷ [])
+unfolding longest
+alone [] = refl
+alone (b ∷ r) = let h : 0 < length (b ∷ r) = omega arith in rw (lt-ltb 0 (length (b ∷ r)) h)
+
+module _ (s rows : List ℕ) (position site : ℕ) (found : List ℕ) where
+  -- the site starts elsewhere
+  pub passed : (best : LongestAt) → startsAt position (siteAt s rows site) ≡ false → LongestFound s rows position found best
+      → LongestFound s rows position (site ∷ found) best
+  unfolding LongestFound anyOf
+  passed longestAt.NoneStarts h f = rw h f
+  passed (longestAt.Site other) h f = (rw h (f .0), f .1 ∙ ap longest (sym (elsewhere position _ _ h)))
+
+  module _ (h : startsAt position (siteAt s rows site) ≡ true) where
+    -- no later one starts there
+    pub only : LongestFound s rows position found longestAt.NoneStarts → LongestFound s rows position (site ∷ found) (longestAt.Site site)
+    unfolding LongestFound anyOf siteRef siteAt refAltsSpelled
+    only f = (rw h refl, rw (starts position _ (sitesAt s rows found) h, none-starts position _ f) (alone _))
+
+    module _ (other : ℕ) (f : LongestFound s rows position found (longestAt.Site other)) where
+      -- its REF is longer than the longest of the later ones, or it is not
+      pub longer : length (partAt 9 10 s rows other) < length (partAt 9 10 s rows site) → LongestFound s rows position (site ∷ found) (longestAt.Site site)
+      unfolding LongestFound anyOf siteRef siteAt refAltsSpelled longest
+      longer k = (rw h refl, rw (starts position _ (sitesAt s rows found) h, ← f .1, lt-ltb _ _ k))
+
+      pub not-longer : length (partAt 9 10 s rows site) ≤ length (partAt 9 10 s rows other) → LongestFound s rows position (site ∷ found) (longestAt.Site other)
+      unfolding LongestFound anyOf siteRef siteAt refAltsSpelled longest
+      not-longer k = (rw h refl, rw (starts position _ (sitesAt s rows found) h, ← f .1, le-ltb _ _ k))

@@ -1,0 +1,49 @@
+-- The letter where no site starts; else the longest REF, if the others are its prefixes.
+use borrow.Author.Needs.{needs}
+use mathlib.Core.Path.{_∙_}
+use Rattle.merged_ref.proofs.Refs.{by-letter, conflict, shared}
+use Rattle.merged_ref.proofs.determine_reference_allele.Statement.{statement}
+use Rattle.merged_ref.proofs.determine_reference_allele.Tie as tie
+
+longest-ref-requires : tie.Need-longest-ref-requires
+longest-ref-requires c κs = search needs
+
+enum-known-longest : tie.Need-enum-known-longest
+enum-known-longest c = search needs
+
+enum-told : tie.Need-enum-told
+enum-told c = search needs
+
+ref-letter-requires : tie.Need-ref-letter-requires
+ref-letter-requires c κs = search needs
+
+returns : tie.Need-returns
+returns c = λ segments from. (c .ref-letter .ensures) _ segments from ∙ by-letter _ _ (c .before .before .before .before .before .before .before .before .before .args .reference .now) _ _ (c .before .before .before .before .before .before .before .before .before .args .found .now) _ segments (rw ((c .before .enum-told .given .1)) at ((c .before .before .before .longest-ref .ensures)))
+
+reference-allele-requires : tie.Need-reference-allele-requires
+reference-allele-requires c κs = search needs
+
+refs-agree-requires : tie.Need-refs-agree-requires
+refs-agree-requires c κs = search needs
+
+returns-2 : tie.Need-returns-2
+returns-2 c = λ segments from. shared _ _ _ _ _ (c .before .before .before .before .before .before .before .before .before .before .before .before .args .found .now) _ segments _ (rw ((c .before .before .before .before .longest .given .1)) at ((c .before .before .before .before .before .before .longest-ref .ensures)))
+    (rw (c .before .before .reference-allele .ensures) at ((c .before .refs-agree .ensures))) (c .if1 .taken)
+
+returns-3 : tie.Need-returns-3
+returns-3 c = λ segments from. conflict _ _ _ _ _ (c .before .before .before .before .before .before .before .before .before .before .before .before .args .found .now) _ segments _ (rw ((c .before .before .before .before .longest .given .1)) at ((c .before .before .before .before .before .before .longest-ref .ensures)))
+    (rw (c .before .before .reference-allele .ensures) at ((c .before .refs-agree .ensures))) (c .if1 .left)
+
+pub determine-reference-allele-spec : {M : Type 1} → statement M
+determine-reference-allele-spec =
+    tie.close
+    (tie.spec
+    longest-ref-requires
+    enum-known-longest
+    enum-told
+    ref-letter-requires
+    returns
+    reference-allele-requires
+    refs-agree-requires
+    returns-2
+    returns-3)

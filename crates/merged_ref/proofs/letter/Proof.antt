@@ -1,0 +1,40 @@
+-- By the place.
+use borrow.Author.Needs.{needs}
+use Rattle.merged_ref.specs.Answers.{letterBytes}
+use Rattle.merged_ref.proofs.letter.Statement.{statement}
+use Rattle.merged_ref.proofs.letter.Tie as tie
+
+enum-known-place : tie.Need-enum-known-place
+enum-known-place c = search needs
+
+one-at-requires : tie.Need-one-at-requires
+one-at-requires c κs = search needs
+
+enum-known-place-2 : tie.Need-enum-known-place-2
+enum-known-place-2 c = search needs
+
+reference-allele-requires : tie.Need-reference-allele-requires
+reference-allele-requires c κs = search needs
+
+one-at-requires-2 : tie.Need-one-at-requires-2
+one-at-requires-2 c κs = search needs
+
+returns : tie.Need-returns
+unfolding letterBytes
+returns c = rw ((c .before .before .place .given .1)) ((c .one-at .ensures))
+
+returns-2 : tie.Need-returns-2
+unfolding letterBytes
+returns-2 c = rw ((c .before .before .before .place2 .given .1), ← (c .before .reference-allele .ensures)) ((c .one-at2 .ensures))
+
+pub letter-spec : {M : Type 1} → statement M
+letter-spec =
+    tie.close
+    (tie.spec
+    enum-known-place
+    one-at-requires
+    enum-known-place-2
+    reference-allele-requires
+    one-at-requires-2
+    returns
+    returns-2)
