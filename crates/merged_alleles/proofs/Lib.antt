@@ -1,0 +1,7 @@
+pub mod Keeping
+pub mod Listing
+pub mod Letters
+pub mod Turns
+pub mod SpanDel
+pub mod Ends
+pub mod Sound

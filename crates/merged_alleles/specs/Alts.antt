@@ -1,0 +1,84 @@
+-- A list of ALTs as it is laid, and the letter ALTs of the sites in a table, by their bytes.
+use Prim.Native.Nat.{_*_, _<_, _≤_, suc, zero, ℕ}
+use lib.Dec.{eqb}
+use lib.ListN.{drop, length, take}
+use mathlib.Core.Bool.{Bool, cond}
+use mathlib.Core.List.{List, [], _++_, _∷_, flatMap, foldl, map}
+use mathlib.Core.Path.{_≡_}
+use Rattle.definitions.specs.Alleles.{Allele, letters, nonRef, spanDel, spelled, writtenAlleles}
+use Rattle.definitions.specs.Bytes.{comma, fieldsOf, sameBytes}
+use Rattle.definitions.specs.Cohort.{Site}
+use Rattle.definitions.specs.Lists.{anyOf}
+use Rattle.definitions.specs.MergedAlleles.{spanDelAlt}
+use Rattle.tables.specs.Tables.{column, partAt, siteAt}
+use Rattle.merged_alleles.specs.declared.AltsAt.{AltsAt}
+use Rattle.merged_alleles.specs.declared.AltsAt.the-variants.{Alts, TooMany}
+
+-- ---- ALTs kept by first occurrence
+
+-- an ALT behind those kept so far, unless it is among them
+unfoldable pub keepNew : List (List ℕ) → List ℕ → List (List ℕ)
+keepNew kept f = cond (anyOf (sameBytes f) kept) kept (kept ++ (f ∷ []))
+
+-- the same for several, one after the other
+abbrev pub keepAll : List (List ℕ) → List (List ℕ) → List (List ℕ)
+keepAll = foldl keepNew
+
+-- ---- the list as it is laid
+
+-- what a further ALT begins with: a comma, unless it is the first
+unfoldable pub commaBehind : ℕ → List ℕ
+commaBehind zero = []
+commaBehind (suc n) = comma ∷ []
+
+-- the n ALTs whose text is the first `len` bytes of a buffer
+unfoldable pub listed : List ℕ → ℕ → ℕ → List (List ℕ)
+listed d len zero = []
+listed d len (suc n) = fieldsOf comma (take len d)
+
+-- they are so many, and their text leaves room: 14 letter ALTs, each of at most 256 bytes and a comma, and one more
+pub record Listed (d : List ℕ) (len n : ℕ) : Type 0 where
+  pub room : 4096 ≤ length d
+  pub few : n ≤ 14
+  pub small : len ≤ 257 * n
+  pub count : length (listed d len n) ≡ n
+
+-- these ALTs were kept behind others, or there are over 14
+unfoldable pub Keeps : List (List ℕ) → List (List ℕ) → List ℕ → AltsAt → Type 0
+Keeps kept fs d (Alts len n) = Listed d len n × (listed d len n ≡ keepAll kept fs)
+Keeps kept fs d TooMany = 14 < length (keepAll kept fs)
+
+-- ---- the letter ALTs of a site
+
+-- what a field reads as, with the end of REF that the site's own lacks, if it is letters
+unfoldable pub extendedLetters : List ℕ → List ℕ → List (List ℕ)
+extendedLetters end f =
+    cond (sameBytes f (spelled spanDel)) [] (cond (sameBytes f (spelled nonRef)) [] ((f ++ end) ∷ []))
+
+-- those of the site in a row, if it starts at the position
+unfoldable pub siteLetters : List ℕ → List ℕ → List ℕ → ℕ → ℕ → List (List ℕ)
+siteLetters s rows ref position site =
+    cond (eqb (column 2 rows site) position)
+    (flatMap (extendedLetters (drop (length (partAt 9 10 s rows site)) ref)) (fieldsOf comma (partAt 11 12 s rows site)))
+    []
+
+-- ---- all ALTs
+
+-- the sites found
+abbrev pub sitesAt : List ℕ → List ℕ → List ℕ → List Site
+sitesAt s rows found = map (siteAt s rows) found
+
+-- behind letter ALTs: `*` if it is shown, and `<NON_REF>`
+abbrev pub withEnds : List (List ℕ) → Bool → List Allele
+withEnds kept shown = map letters kept ++ (spanDelAlt shown ++ (nonRef ∷ []))
+
+-- the first `len` bytes of a buffer are the text of these ALTs, n of them; what stands behind is open
+pub record AltsWritten (alts : List Allele) (d : List ℕ) (len n : ℕ) : Type 0 where
+  pub text : take len d ≡ writtenAlleles alts
+  pub count : n ≡ length alts
+  pub few : n ≤ 15
+
+-- or there are over 15 (row 13: over 16 alleles)
+unfoldable pub AltsLaid : List Allele → List ℕ → AltsAt → Type 0
+AltsLaid alts d (Alts len n) = AltsWritten alts d len n
+AltsLaid alts d TooMany = 15 < length alts

@@ -1,0 +1,2 @@
+pub mod Alts
+pub mod SoundSites
