@@ -1,0 +1,5 @@
+pub mod Ascending
+pub mod FirstSites
+pub mod Insertion
+pub mod Ordered
+pub mod Stored
