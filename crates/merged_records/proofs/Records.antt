@@ -1,0 +1,185 @@
+-- What is found at a position, as the definitions have it: covering sites, REF, ALTs, and the record or the row that refuses it.
+use Prim.Native.Nat.{_<_, _≤_, suc, ℕ}
+use borrow.Author.Tests.{le-leb, lt-leb}
+use lib.Dec.{leb}
+use lib.ListN.{drop, length, length-map, take}
+use lib.Seq.{length-take-le, sets-eq, take-at}
+use mathlib.Core.Bool.{Bool, false, true}
+use mathlib.Core.List.{List, [], _∷_, map}
+use mathlib.Core.Option.{Option, none, some}
+use mathlib.Core.Path.{_∙_, _≡_, ap, refl, subst, sym}
+use native.Mathlib.Nat.{zero-add}
+use native.Mathlib.Omega.{arith}
+use Rattle.covering_sites.proofs.CoveringFound.{covering-found, found-few, member-found}
+use Rattle.covering_sites.specs.Covering.{Found}
+use Rattle.definitions.specs.Alleles.{RefAlts}
+use Rattle.definitions.specs.Checked.{Checked, accepted, refused}
+use Rattle.definitions.specs.ClipAndReference.{ChoiceFrom}
+use Rattle.definitions.specs.CombinedList.{intervalRecord}
+use Rattle.definitions.specs.CoveringSites.{coveringSites}
+use Rattle.definitions.specs.Limits.{maxAlleles, maxSiteLetters}
+use Rattle.definitions.specs.Lists.{onlyIf}
+use Rattle.definitions.specs.MergedAlleles.{mergedAlts}
+use Rattle.definitions.specs.MergedRef.{mergedRef}
+use Rattle.definitions.specs.Records.{Record, recordOf}
+use Rattle.laws.proofs.Checked.{not-required, then, then-refused}
+use Rattle.laws.proofs.Every.{Every, IfThere, every-of}
+use Rattle.laws.proofs.MergedRefSound.{covering-sound, merged-ref-sound}
+use Rattle.laws.proofs.ReferenceLetter.{first-letter}
+use Rattle.laws.proofs.SoundValues.{Letters}
+use Rattle.merged_alleles.proofs.Sound.{found-sound}
+use Rattle.merged_alleles.specs.SoundSites.{SoundSites}
+use Rattle.merged_ref.specs.Answers.{refAnswer, refBytes}
+use Rattle.merged_ref.specs.declared.Place.{Place}
+use Rattle.merged_ref.specs.declared.RefAt.{RefAt}
+use Rattle.merged_ref.specs.declared.RefAt.the-variants as ref
+use Rattle.tables.specs.Tables.{siteAt}
+use Rattle.merged_records.specs.Found.{AltsFound, Over, RecordFound, RecordTo, covering}
+use Rattle.merged_records.specs.Loaded.{OnContig, chosenLetters, coveringNumbers, runs}
+use Rattle.merged_records.specs.declared.RecordAt.{RecordAt}
+use Rattle.merged_records.specs.declared.RecordAt.the-variants as answer
+
+module _ {s rows : List ℕ} {samples : ℕ} {lent : Bool} {reference contig : List ℕ}
+    (on : OnContig s rows samples lent reference contig) (position : ℕ) where
+  abbrev numbers : List ℕ
+  numbers = coveringNumbers on position
+
+  pub few-numbers : length numbers ≤ samples
+  few-numbers = found-few rows position samples (runs on)
+
+  pub numbers-cover : map (siteAt s rows) numbers ≡ covering on position
+  numbers-cover =
+      covering-found (on .loaded .input .cohort) (on .loaded .table) (on .loaded .names) (on .known) (on .own) position
+      ∙ ap (λ (name : List ℕ). coveringSites (on .loaded .input .cohort) name position) (sym (on .name))
+
+  pub numbers-known : Every (λ i. i < length (on .loaded .input .cohort .sites)) numbers
+  numbers-known = every-of numbers λ i m.
+      member-found rows (length (on .loaded .input .cohort .sites)) (on .first) position samples m .2 .known
+
+  -- they stand at the front of the list that was filled
+  pub front : (found : List ℕ) {after : List ℕ} {n : ℕ} → samples ≤ length found → Found found numbers after n → take n after ≡ numbers
+  front found room f =
+      rw (f .count, f .stored) (ap (take (length numbers)) (sets-eq numbers found 0 (omega (arith, few-numbers)) ∙ rw (zero-add (length numbers))) ∙ take-at numbers (drop (length numbers) found) (length numbers) refl)
+
+  -- ---- REF
+
+  -- the segments give the letters that are chosen
+  chosen-from : IfThere (λ r. ChoiceFrom r (chosenLetters (on .loaded))) (on .loaded .input .reference)
+  unfolding onlyIf
+  chosen-from = rw (on .loaded .reference-is) (go lent)
+    where
+      go : (b : Bool) → IfThere (λ r. ChoiceFrom r (chosenLetters (on .loaded))) (onlyIf b (on .loaded .segments))
+      go true = first-letter (on .loaded .segments)
+      go false = tt
+
+  module _ (some-site : 0 < length numbers) (ref : List ℕ)
+      (merged : mergedRef (on .loaded .input .reference) (chosenLetters (on .loaded)) contig position (covering on position) ≡ accepted ref) where
+    some-covering : 0 < length (covering on position)
+    some-covering = rw (← numbers-cover) (rw (length-map numbers (siteAt s rows)) some-site)
+
+    ref-letters : Letters maxSiteLetters ref
+    ref-letters = merged-ref-sound (on .loaded .input .reference) (chosenLetters (on .loaded)) contig position (covering on position) ref some-covering
+        (covering-sound (on .loaded .input .cohort) contig position (on .loaded .sound .cohort .sites))
+        (on .loaded .sound .reference) chosen-from merged .letters
+
+    pub sites-sound : SoundSites s rows numbers ref
+    sites-sound = found-sound s rows (on .loaded .table) (on .loaded .sound .cohort .sites) numbers-known ref-letters
+
+  -- ---- the record
+
+  module _ (last : ℕ) where
+    abbrev here-record : Checked Record
+    here-record = intervalRecord (on .loaded .input) (chosenLetters (on .loaded)) contig (record { first = position; last = last })
+
+    pub ref-refused : (row : ℕ)
+        → mergedRef (on .loaded .input .reference) (chosenLetters (on .loaded)) contig position (covering on position) ≡ refused row
+        → here-record ≡ refused row
+    unfolding intervalRecord recordOf
+    ref-refused row e = then-refused _ _ e
+
+    pub alts-refused : (ref : List ℕ)
+        → mergedRef (on .loaded .input .reference) (chosenLetters (on .loaded)) contig position (covering on position) ≡ accepted ref
+        → 15 < length (mergedAlts ref position (covering on position)) → here-record ≡ refused 13
+    unfolding intervalRecord recordOf
+    alts-refused ref e h = then _ _ e (not-required _ _ _ (lt-leb (suc (length (mergedAlts ref position (covering on position)))) 16 (omega arith)))
+
+  -- ---- the answers of record_at
+
+  pub none-covering : (n : ℕ) → n ≡ 0 → n ≡ length numbers → covering on position ≡ []
+  none-covering n z e = sym numbers-cover ∙ go numbers (sym e ∙ z)
+    where
+      go : (l : List ℕ) → length l ≡ 0 → map (siteAt s rows) l ≡ []
+      go [] h = refl
+      go (x ∷ l) h = absurd (omega arith)
+
+  module _ (sites : List ℕ) (here : sites ≡ numbers) where
+    -- REF by the numbers of the found sites is REF of the covering sites
+    pub as-merged : {c : Checked (List ℕ)}
+        → c ≡ mergedRef (onlyIf lent (on .loaded .segments)) (chosenLetters (on .loaded)) contig position (map (siteAt s rows) sites)
+        → mergedRef (on .loaded .input .reference) (chosenLetters (on .loaded)) contig position (covering on position) ≡ c
+    as-merged h = sym (h ∙ rw (here, numbers-cover, on .loaded .reference-is))
+
+    module _ (at : RefAt) (some-site : 0 < length sites)
+        (merged : mergedRef (on .loaded .input .reference) (chosenLetters (on .loaded)) contig position (covering on position)
+        ≡ accepted (refBytes s rows reference at)) where
+      pub found-sites-sound : SoundSites s rows sites (refBytes s rows reference at)
+      found-sites-sound = rw here (sites-sound (rw here at some-site) (refBytes s rows reference at) merged)
+
+      pub record-found : (alts : List ℕ) (r : RecordAt) → AltsFound s rows reference position at sites alts r
+          → RecordFound on position (λ _. sites) alts r
+      unfolding AltsFound RecordFound
+      record-found alts answer.NoSites h = absurd h
+      record-found alts (answer.Refused row) h =
+          λ last. rw (h .0) (alts-refused last (refBytes s rows reference at) merged (rw (← numbers-cover, ← here) (h .1)))
+      record-found alts (answer.Record m same len number) h =
+          let cover : map (siteAt s rows) sites ≡ covering on position = ap (map (siteAt s rows)) here ∙ numbers-cover in
+          rw (h .same-ref) (record {
+            sites = cover;
+            known = rw here numbers-known;
+            all = h .number;
+            some-site = omega (arith, h .number);
+            few = omega (arith, few-numbers, ap length here, h .number);
+            ref = merged;
+            text = rw (← cover) (h .written .text);
+            number = rw (← cover) (h .written .count);
+            few-alts = h .written .few;
+          })
+
+  -- the sites in the whole list
+  pub at-front : (after : List ℕ) (m : ℕ) → m ≡ length (take m after) → (alts : List ℕ) (r : RecordAt)
+      → RecordFound on position (λ _. take m after) alts r → RecordFound on position (λ k. take k after) alts r
+  unfolding RecordFound
+  at-front after m e alts answer.NoSites h = h
+  at-front after m e alts (answer.Refused row) h = h
+  at-front after m e alts (answer.Record n at len number) h =
+      let same : n ≡ m = h .all ∙ sym e in
+      subst (λ (k : ℕ). RecordTo on position (take k after) alts n at len number) (sym same) h
+
+-- an answer that is a site or a letter is REF
+pub site-answered : (s rows reference : List ℕ) (at : RefAt) (site : ℕ) → at ≡ ref.Site site
+    → refAnswer s rows reference at ≡ accepted (refBytes s rows reference at)
+unfolding refAnswer
+site-answered s rows reference at site e = rw e
+
+pub letter-answered : (s rows reference : List ℕ) (at : RefAt) (place : Place) → at ≡ ref.Letter place
+    → refAnswer s rows reference at ≡ accepted (refBytes s rows reference at)
+unfolding refAnswer
+letter-answered s rows reference at place e = rw e
+
+-- ---- the numbers at the front of the list that was filled
+
+module _ {s rows : List ℕ} {samples : ℕ} {lent : Bool} {reference contig : List ℕ}
+    (on : OnContig s rows samples lent reference contig) (position : ℕ) (found after : List ℕ) (n : ℕ) (room : samples ≤ length found)
+    (f : Found found (coveringNumbers on position) after n) where
+  pub fits-in : length after ≡ length found → n ≤ length after
+  fits-in same = omega (arith, f .count, few-numbers on position)
+
+  pub exactly : length after ≡ length found → n ≡ length (take n after)
+  exactly same = sym (length-take-le n after (fits-in same))
+
+  unfoldable pub over-them : (n ≡ 0 → ⊥) → Over s rows samples lent reference contig position (take n after)
+  over-them not-none = record {
+    on = on;
+    numbers = front on position found room f;
+    some-site = rw (front on position found room f) (omega (arith, f .count, not-none));
+  }
