@@ -1,0 +1,103 @@
+// Records of a contig one after the other: a block record is held back until the next one does not join it (the Rust's
+// `coalesce_homref_blocks`).
+ghost use mathlib.Core.List.{_++_};
+ghost use mathlib.Core.Path.{_≡_};
+ghost use Rattle.kv_write.specs.Laid.{Laid};
+ghost use Rattle.merged_ref.specs.Answers.{refBytes};
+ghost use Rattle.record_lines.specs.Head.{headOf};
+ghost use Rattle.record_lines.specs.Samples.{printedSamples};
+ghost use Rattle.coalescing.specs.Held.{PendingFits, joinsPending, pendingBytes};
+ghost use Rattle.coalescing.specs.Steps.{RecordFits};
+use bio_ids::GenomePosition;
+use merged_ref::RefAt;
+
+// A block record that is held back: its first and last position, REF, and how long its samples' lines are, which stand in a buffer.
+pub enum Pending {
+    Nothing,
+    Block(GenomePosition, GenomePosition, RefAt, usize),
+}
+
+// Lays the lines of the record that is held back, if there is one.
+fn put_pending<'a>(
+    s: &'a [u8],
+    rows: &[usize],
+    reference: &'a [u8],
+    contig: &[u8],
+    held: &[u8],
+    pending: Pending,
+    out: &mut [u8],
+    at: usize,
+) -> usize
+    requires { ⌜ PendingFits (now s) (now rows) (now reference) (now contig) (now held) pending at ⌝ }
+    ensures { λ r. ⌜ Laid (now (out .entry)) at
+        (pendingBytes (now (s .entry)) (now (rows .entry)) (now (reference .entry)) (now (contig .entry)) (now (held .entry)) pending)
+        (now (out .exit)) r ⌝ }
+{
+    match pending {
+        Pending::Nothing => at,
+        Pending::Block(first, last, place, len) => {
+            let allele = merged_ref::ref_bytes(s, rows, reference, place);
+            let next = record_lines::put_record_head(out, at, contig, first, last, allele, b"<NON_REF>");
+            let lines = tables::part(held, 0, len);
+            kv_write::put_bytes(out, next, lines)
+        }
+    }
+}
+
+// Whether a block at a position, with this REF and these lines of its samples, joins the record that is held back.
+fn joins<'a>(
+    s: &'a [u8],
+    rows: &[usize],
+    reference: &'a [u8],
+    held: &[u8],
+    pending: Pending,
+    position: GenomePosition,
+    place: RefAt,
+    fresh: &[u8],
+) -> bool
+    ensures { λ r. ⌜ r ≡ joinsPending (now (s .entry)) (now (rows .entry)) (now (reference .entry)) (now (held .entry)) pending (position .0) place (now (fresh .entry)) ⌝ }
+{
+    let Pending::Block(_, last, own, len) = pending else {
+        return false;
+    };
+    let first = position.get();
+    if first == 0 {
+        return false;
+    }
+    if first - 1 != last.get() {
+        return false;
+    }
+    let one = merged_ref::ref_bytes(s, rows, reference, own);
+    let other = merged_ref::ref_bytes(s, rows, reference, place);
+    if !kv_text::same_bytes(one, other) {
+        return false;
+    }
+    let lines = tables::part(held, 0, len);
+    kv_text::same_bytes(lines, fresh)
+}
+
+// Lays a record that is no block: contig, POS, REF, ALTs and the lines of its samples.
+fn put_record<'a>(
+    s: &'a [u8],
+    rows: &[usize],
+    samples: usize,
+    reference: &'a [u8],
+    contig: &[u8],
+    position: GenomePosition,
+    place: RefAt,
+    found: &[usize],
+    alts: &[u8],
+    out: &mut [u8],
+    at: usize,
+) -> usize
+    requires { ⌜ RecordFits (now s) (now rows) samples (now reference) (now contig) (position .0) place (now found) (now alts) at ⌝ }
+    ensures { λ r. ⌜ Laid (now (out .entry)) at
+        (headOf (now (contig .entry)) (position .0) (position .0) (refBytes (now (s .entry)) (now (rows .entry)) (now (reference .entry)) place) (now (alts .entry))
+        ++ printedSamples (now (s .entry)) (now (rows .entry)) samples (now (found .entry)) (position .0)
+        (refBytes (now (s .entry)) (now (rows .entry)) (now (reference .entry)) place) (now (alts .entry)))
+        (now (out .exit)) r ⌝ }
+{
+    let allele = merged_ref::ref_bytes(s, rows, reference, place);
+    let next = record_lines::put_record_head(out, at, contig, position, position, allele, alts);
+    record_lines::put_samples(s, rows, samples, found, position, allele, alts, out, next)
+}
