@@ -1,31 +1,31 @@
 -- What is found at a position, as the definitions have it: covering sites, REF, ALTs, and the record or the row that refuses it.
 use Prim.Native.Nat.{_<_, _≤_, suc, ℕ}
 use borrow.Author.Tests.{le-leb, lt-leb}
-use lib.Dec.{leb}
 use lib.ListN.{drop, length, length-map, take}
 use lib.Seq.{length-take-le, sets-eq, take-at}
 use mathlib.Core.Bool.{Bool, false, true}
 use mathlib.Core.List.{List, [], _∷_, map}
-use mathlib.Core.Option.{Option, none, some}
 use mathlib.Core.Path.{_∙_, _≡_, ap, refl, subst, sym}
 use native.Mathlib.Nat.{zero-add}
 use native.Mathlib.Omega.{arith}
 use Rattle.covering_sites.proofs.CoveringFound.{covering-found, found-few, member-found}
 use Rattle.covering_sites.specs.Covering.{Found}
-use Rattle.definitions.specs.Alleles.{RefAlts}
+use Rattle.definitions.specs.Alleles.{Allele, RefAlts}
 use Rattle.definitions.specs.Checked.{Checked, accepted, refused}
 use Rattle.definitions.specs.ClipAndReference.{ChoiceFrom}
 use Rattle.definitions.specs.CombinedList.{intervalRecord}
 use Rattle.definitions.specs.CoveringSites.{coveringSites}
-use Rattle.definitions.specs.Limits.{maxAlleles, maxSiteLetters}
-use Rattle.definitions.specs.Lists.{onlyIf}
+use Rattle.definitions.specs.Genotypes.{SampleData, dataOfSample}
+use Rattle.definitions.specs.Limits.{maxSiteLetters}
+use Rattle.definitions.specs.Lists.{numbersFrom, onlyIf}
 use Rattle.definitions.specs.MergedAlleles.{mergedAlts}
 use Rattle.definitions.specs.MergedRef.{mergedRef}
-use Rattle.definitions.specs.Records.{Record, recordOf}
-use Rattle.laws.proofs.Checked.{not-required, then, then-refused}
+use Rattle.definitions.specs.Records.{Record, endOf, recordOf}
+use Rattle.laws.proofs.Checked.{not-required, required, then, then-refused}
 use Rattle.laws.proofs.Every.{Every, IfThere, every-of}
 use Rattle.laws.proofs.MergedRefSound.{covering-sound, merged-ref-sound}
 use Rattle.laws.proofs.ReferenceLetter.{first-letter}
+use Rattle.laws.proofs.SoundInput.{SoundSite}
 use Rattle.laws.proofs.SoundValues.{Letters}
 use Rattle.merged_alleles.proofs.Sound.{found-sound}
 use Rattle.merged_alleles.specs.SoundSites.{SoundSites}
@@ -183,3 +183,48 @@ module _ {s rows : List ℕ} {samples : ℕ} {lent : Bool} {reference contig : L
     numbers = front on position found room f;
     some-site = rw (front on position found room f) (omega (arith, f .count, not-none));
   }
+
+-- ---- the record of an interval
+
+module _ {s rows : List ℕ} {samples : ℕ} {lent : Bool} {reference contig : List ℕ}
+    (on : OnContig s rows samples lent reference contig) (position : ℕ) {found alts : List ℕ} {n : ℕ} {at : RefAt} {len count : ℕ}
+    (to : RecordTo on position found alts n at len count) where
+  abbrev pub recordRef : List ℕ
+  recordRef = refBytes s rows reference at
+
+  abbrev pub recordAlts : List Allele
+  recordAlts = mergedAlts recordRef position (covering on position)
+
+  -- what it says of the samples
+  abbrev pub recordData : List SampleData
+  recordData = map (dataOfSample recordRef recordAlts position (covering on position)) (numbersFrom 0 samples)
+
+  abbrev pub recordAlleles : RefAlts
+  recordAlleles = record { ref = recordRef; alts = recordAlts }
+
+  pub record-is : (last : ℕ)
+      → intervalRecord (on .loaded .input) (chosenLetters (on .loaded)) contig (record { first = position; last = last })
+      ≡ accepted (record {
+        contig = contig;
+        pos = position;
+        end = endOf recordAlleles (record { first = position; last = last });
+        alleles = recordAlleles;
+        sampleData = recordData;
+      })
+  unfolding intervalRecord recordOf
+  record-is last =
+      let few : suc (length recordAlts) ≤ 16 = omega (arith, to .few-alts, to .number) in
+      then _ _ (to .ref) (required _ _ _ (le-leb (suc (length recordAlts)) 16 few) (rw (on .loaded .names)))
+
+  -- its sites and REF are sound
+  pub sites-are-sound : Every SoundSite (covering on position)
+  sites-are-sound = covering-sound (on .loaded .input .cohort) contig position (on .loaded .sound .cohort .sites)
+
+  pub found-are-sound : Every SoundSite (map (siteAt s rows) found)
+  found-are-sound = rw (to .sites) sites-are-sound
+
+  pub ref-is-letters : Letters maxSiteLetters recordRef
+  ref-is-letters =
+      merged-ref-sound (on .loaded .input .reference) (chosenLetters (on .loaded)) contig position (covering on position) recordRef
+      (rw (← to .sites) (rw (length-map found (siteAt s rows)) (omega (arith, to .all, to .some-site))))
+      sites-are-sound (on .loaded .sound .reference) (chosen-from on position) (to .ref) .letters

@@ -3,3 +3,4 @@ pub mod SamePrinted
 pub mod DerivedData
 pub mod Lengths
 pub mod Coalescing
+pub mod Walking

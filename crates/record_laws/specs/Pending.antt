@@ -1,10 +1,12 @@
 -- A block record that is held back while the next ones may coalesce with it.
 use Prim.Native.Nat.{ℕ}
 use lib.Dec.{ltb}
-use mathlib.Core.List.{List, [], _++_, _∷_}
+use mathlib.Core.List.{List, [], _++_, _∷_, map}
 use mathlib.Core.Option.{Option, none, some}
 use Rattle.definitions.specs.Alleles.{nonRef}
-use Rattle.definitions.specs.Checked.{Checked, _>>=_, accepted}
+use Rattle.definitions.specs.Checked.{Checked, _>>=_, accepted, inOrder}
+use Rattle.definitions.specs.ClipAndReference.{LetterChoice}
+use Rattle.definitions.specs.CombinedList.{Input, intervalRecord, recordIntervals}
 use Rattle.definitions.specs.Genotypes.{SampleData}
 use Rattle.definitions.specs.Lists.{onlyIf}
 use Rattle.definitions.specs.Records.{Record, coalesceBlocks, coalesceFrom}
@@ -21,6 +23,11 @@ finish done pending c = c >>= λ rs. accepted (done ++ coalescePending pending r
 -- a record and those to come, in order (`inOrder` of what is not empty)
 abbrev pub andLater : Checked Record → Checked (List Record) → Checked (List Record)
 andLater first c = first >>= λ r. c >>= λ rs. accepted (r ∷ rs)
+
+-- the records of a contig, behind row 10
+unfoldable pub mergedContig : Input → LetterChoice → List ℕ → Checked (List Record)
+mergedContig x choose contig =
+    inOrder (map (intervalRecord x choose contig) (recordIntervals x contig)) >>= λ records. accepted (coalesceBlocks records)
 
 -- a block record from a first to a last position; END only if it has more than one
 unfoldable pub blockRecord : List ℕ → ℕ → ℕ → List ℕ → List SampleData → Record

@@ -1,0 +1,72 @@
+-- The intervals of a contig one after the other: what is left of the contig's records from a breakpoint on.
+use Prim.Native.Nat.{_+_, _-_, _<_, _≤_, suc, zero, ℕ}
+use borrow.Author.Tests.{lt-ltb}
+use lib.Dec.{ltb}
+use lib.ListN.{drop, drop-of-length-le, getD, length, length-drop}
+use lib.Seq.{drop-cons}
+use mathlib.Core.Bool.{Bool, cond, false, true}
+use mathlib.Core.List.{List, [], _∷_, map}
+use mathlib.Core.Option.{none}
+use mathlib.Core.Path.{_∙_, _≡_, ap, refl, sym}
+use native.Mathlib.Numerals.{add-one}
+use native.Mathlib.Omega.{arith}
+use Rattle.definitions.specs.Checked.{Checked, _>>=_, accepted, inOrder}
+use Rattle.definitions.specs.ClipAndReference.{LetterChoice}
+use Rattle.definitions.specs.CombinedList.{Input, intervalRecord, recordIntervals}
+use Rattle.definitions.specs.CoveringSites.{coveringSites}
+use Rattle.definitions.specs.Intervals.{Interval, breakpoints, clippedIntervals, inClip, intervalsBetween}
+use Rattle.definitions.specs.Lists.{filterBy}
+use Rattle.definitions.specs.Records.{Record, coalesceBlocks}
+use Rattle.record_laws.proofs.Coalescing.{at-start, in-order-cons}
+use Rattle.record_laws.specs.Pending.{andLater, finish, mergedContig}
+
+module _ (x : Input) (choose : LetterChoice) (contig : List ℕ) where
+  covered : Interval → Bool
+  covered i = ltb 0 (length (coveringSites (x .cohort) contig (i .first)))
+
+  -- the records of these intervals
+  recordsOf : List Interval → Checked (List Record)
+  recordsOf l = inOrder (map (intervalRecord x choose contig) (filterBy covered (filterBy (inClip contig (x .clip)) l)))
+
+  -- those from a breakpoint on
+  pub recordsFrom : List ℕ → ℕ → Checked (List Record)
+  recordsFrom places k = recordsOf (intervalsBetween (drop k places))
+
+  pub walk-start : (places : List ℕ) → places ≡ breakpoints (x .cohort .sites) (x .clip) contig
+      → finish [] none (recordsFrom places 0) ≡ mergedContig x choose contig
+  unfolding mergedContig recordsFrom recordsOf covered recordIntervals clippedIntervals
+  walk-start places e = sym (at-start _) ∙ rw e
+
+  module _ (places : List ℕ) (k : ℕ) where
+    abbrev pub here : Interval
+    here = record { first = getD places k 0; last = getD places (k + 1) 0 - 1 }
+
+    pub walk-end : length places ≤ k + 1 → recordsFrom places k ≡ accepted []
+    unfolding recordsFrom recordsOf inOrder filterBy
+    walk-end h = ap recordsOf (go (drop k places) (omega (arith, length-drop k places)))
+      where
+        go : (l : List ℕ) → length l ≤ 1 → intervalsBetween l ≡ []
+        go [] b = unfold intervalsBetween in refl
+        go (a ∷ []) b = unfold intervalsBetween in refl
+        go (a ∷ c ∷ l) b = absurd (omega arith)
+
+    module _ (more : k + 1 < length places) where
+      first-interval : intervalsBetween (drop k places) ≡ here ∷ intervalsBetween (drop (k + 1) places)
+      unfolding intervalsBetween
+      first-interval =
+          rw (drop-cons places k 0 (omega arith), ← add-one k, drop-cons places (k + 1) 0 more)
+
+      pub walk-clipped : inClip contig (x .clip) here ≡ false → recordsFrom places k ≡ recordsFrom places (k + 1)
+      unfolding recordsFrom recordsOf filterBy
+      walk-clipped e = rw (first-interval, e)
+
+      module _ (in-clip : inClip contig (x .clip) here ≡ true) where
+        pub walk-bare : coveringSites (x .cohort) contig (getD places k 0) ≡ [] → recordsFrom places k ≡ recordsFrom places (k + 1)
+        unfolding recordsFrom recordsOf filterBy covered
+        walk-bare e = rw (first-interval, in-clip, e)
+
+        pub walk-record : 0 < length (coveringSites (x .cohort) contig (getD places k 0))
+            → recordsFrom places k ≡ andLater (intervalRecord x choose contig here) (recordsFrom places (k + 1))
+        unfolding recordsFrom recordsOf filterBy covered
+        walk-record e =
+            rw (first-interval, in-clip, lt-ltb 0 _ e) (in-order-cons (intervalRecord x choose contig here) _)
