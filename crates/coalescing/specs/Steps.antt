@@ -1,19 +1,59 @@
--- What laying a record that is no block asks.
+-- What laying records one after the other asks and leaves.
 use Prim.Native.Nat.{_*_, _+_, _<_, _^_, _≤_, ℕ}
 use lib.ListN.{length}
-use mathlib.Core.List.{List, map}
+use mathlib.Core.Bool.{false}
+use mathlib.Core.List.{List, _++_, flatMap, map}
+use mathlib.Core.Option.{Option}
+use mathlib.Core.Path.{_≡_}
+use Rattle.definitions.specs.Alleles.{isBlock}
 use Rattle.definitions.specs.Bytes.{comma, fieldsOf}
+use Rattle.definitions.specs.Checked.{Checked, accepted}
 use Rattle.definitions.specs.Numbers.{maxNumber}
+use Rattle.definitions.specs.Printed.{printedRecord}
+use Rattle.definitions.specs.Records.{Record}
 use Rattle.laws.proofs.Every.{Every}
 use Rattle.laws.proofs.SoundInput.{SoundSite}
+use Rattle.list_header.specs.Measured.{Counted, Measured}
 use Rattle.merged_ref.specs.Answers.{refBytes}
 use Rattle.merged_ref.specs.declared.RefAt.{RefAt}
 use Rattle.record_laws.proofs.Lengths.{mostData}
+use Rattle.record_laws.specs.Pending.{andLater, finish}
 use Rattle.record_lines.specs.Head.{headOf}
+use Rattle.record_lines.specs.Samples.{printedSamples}
 use Rattle.tables.specs.Tables.{siteAt}
+use Rattle.coalescing.specs.Held.{Holds, PendingFits}
+use Rattle.coalescing.specs.declared.Pending.{Pending}
+use Rattle.coalescing.specs.declared.Stepped.{Stepped}
 
+-- what laying a record that is no block asks
 pub record RecordFits (s rows : List ℕ) (samples : ℕ) (reference contig : List ℕ) (position : ℕ) (place : RefAt) (found alts : List ℕ) (at : ℕ) : Type 0 where
   pub in-range : position ≤ maxNumber
   pub sound : Every SoundSite (map (siteAt s rows) found)
   pub few : length (fieldsOf comma alts) ≤ 15
   pub fits : at + length (headOf contig position position (refBytes s rows reference place) alts) + mostData * samples < 2 ^ 64
+
+-- what the next block record asks: the one that is held back can be laid, and the new lines fit the buffer
+pub record BlockReady (s rows reference contig held fresh : List ℕ) (pending : Pending) (at : ℕ) : Type 0 where
+  pub fits : PendingFits s rows reference contig held pending at
+  pub room : length fresh ≤ length held
+
+-- a record that is no block, with these lines
+pub record OtherRecord (s rows : List ℕ) (samples : ℕ) (reference contig : List ℕ) (position : ℕ) (place : RefAt) (found alts : List ℕ) (r : Record) : Type 0 where
+  pub not-block : isBlock (r .alleles) ≡ false
+  pub printed : printedRecord r
+      ≡ headOf contig position position (refBytes s rows reference place) alts
+      ++ printedSamples s rows samples found position (refBytes s rows reference place) alts
+
+-- bytes were laid over a buffer from its beginning on, and are so many records; offset and count are held below their limits
+pub record Progress (d₀ bytes : List ℕ) (records : ℕ) (d : List ℕ) (at count : ℕ) : Type 0 where
+  pub measured : Measured d₀ bytes d at
+  pub counted : Counted records count
+
+-- the records that are laid now, and the one that waits: all goes on with them as it would have gone on with the new record
+pub record StepTo (s rows : List ℕ) (samples : ℕ) (reference contig held out : List ℕ) (waiting : Option Record) (new : Record) (d₀ bytes : List ℕ) (records : ℕ) (r : Stepped) : Type 0 where
+  pub laid : List Record
+  pub waits : Option Record
+  pub holds : Holds s rows samples reference contig held (r .pending) waits
+  pub progress : Progress d₀ (bytes ++ flatMap printedRecord laid) (records + length laid) out (r .at) (r .count)
+  pub turned : (done : List Record) (m : Checked Record) (c : Checked (List Record)) → m ≡ accepted new
+      → finish done waiting (andLater m c) ≡ finish (done ++ laid) waits c

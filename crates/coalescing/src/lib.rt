@@ -1,13 +1,17 @@
 // Records of a contig one after the other: a block record is held back until the next one does not join it (the Rust's
 // `coalesce_homref_blocks`).
-ghost use mathlib.Core.List.{_++_};
+ghost use Prim.Native.Nat.{ℕ};
+ghost use lib.ListN.{length};
+ghost use mathlib.Core.List.{List, _++_};
+ghost use mathlib.Core.Option.{Option};
 ghost use mathlib.Core.Path.{_≡_};
+ghost use Rattle.definitions.specs.Records.{Record};
 ghost use Rattle.kv_write.specs.Laid.{Laid};
 ghost use Rattle.merged_ref.specs.Answers.{refBytes};
 ghost use Rattle.record_lines.specs.Head.{headOf};
 ghost use Rattle.record_lines.specs.Samples.{printedSamples};
-ghost use Rattle.coalescing.specs.Held.{PendingFits, joinsPending, pendingBytes};
-ghost use Rattle.coalescing.specs.Steps.{RecordFits};
+ghost use Rattle.coalescing.specs.Held.{HeldBlock, Holds, PendingFits, joinsPending, pendingBytes};
+ghost use Rattle.coalescing.specs.Steps.{BlockReady, OtherRecord, Progress, RecordFits, StepTo};
 use bio_ids::GenomePosition;
 use merged_ref::RefAt;
 
@@ -100,4 +104,84 @@ fn put_record<'a>(
     let allele = merged_ref::ref_bytes(s, rows, reference, place);
     let next = record_lines::put_record_head(out, at, contig, position, position, allele, alts);
     record_lines::put_samples(s, rows, samples, found, position, allele, alts, out, next)
+}
+
+// What a record leaves: the block that is held back now, where the list goes on, and how many records it has so far.
+pub struct Stepped {
+    pub pending: Pending,
+    pub at: usize,
+    pub count: usize,
+}
+
+// The next record is a block, with these lines of its samples: it joins the one that is held back, or that one is laid and this one held.
+pub fn step_block<'a>(
+    s: &'a [u8],
+    rows: &[usize],
+    reference: &'a [u8],
+    contig: &[u8],
+    first: GenomePosition,
+    last: GenomePosition,
+    place: RefAt,
+    fresh: &[u8],
+    pending: Pending,
+    held: &mut [u8],
+    out: &mut [u8],
+    at: usize,
+    count: usize,
+) -> Stepped
+    requires { ⌜ BlockReady (now s) (now rows) (now reference) (now contig) (now held) (now fresh) pending at ⌝ }
+    ensures { λ r. ⌜ ((samples : ℕ) (waiting : Option Record) (new : Record) (d₀ bytes : List ℕ) (records : ℕ)
+        → Holds (now (s .entry)) (now (rows .entry)) samples (now (reference .entry)) (now (contig .entry)) (now (held .entry)) pending waiting
+        → HeldBlock (now (s .entry)) (now (rows .entry)) samples (now (reference .entry)) (now (contig .entry)) (now (fresh .entry)) (first .0) (last .0) place (length (now (fresh .entry))) new
+        → Progress d₀ bytes records (now (out .entry)) at count
+        → StepTo (now (s .entry)) (now (rows .entry)) samples (now (reference .entry)) (now (contig .entry)) (now (held .exit)) (now (out .exit)) waiting new d₀ bytes records r) ⌝ }
+{
+    if joins(s, rows, reference, held, pending, first, place, fresh) {
+        return Stepped {
+            pending: joined(pending, last),
+            at,
+            count,
+        };
+    }
+    let next = put_pending(s, rows, reference, contig, held, pending, out, at);
+    let len = kv_write::put_bytes(held, 0, fresh);
+    Stepped {
+        pending: Pending::Block(first, last, place, len),
+        at: list_header::cap(next),
+        count: count_pending(count, pending),
+    }
+}
+
+// The next record is no block: the one that is held back is laid, and this one behind it.
+pub fn step_record<'a>(
+    s: &'a [u8],
+    rows: &[usize],
+    samples: usize,
+    reference: &'a [u8],
+    contig: &[u8],
+    position: GenomePosition,
+    place: RefAt,
+    found: &[usize],
+    alts: &[u8],
+    pending: Pending,
+    held: &[u8],
+    out: &mut [u8],
+    at: usize,
+    count: usize,
+) -> Stepped
+    requires { ⌜ PendingFits (now s) (now rows) (now reference) (now contig) (now held) pending at
+        × RecordFits (now s) (now rows) samples (now reference) (now contig) (position .0) place (now found) (now alts) 9223372036854775808 ⌝ }
+    ensures { λ r. ⌜ ((waiting : Option Record) (new : Record) (d₀ bytes : List ℕ) (records : ℕ)
+        → Holds (now (s .entry)) (now (rows .entry)) samples (now (reference .entry)) (now (contig .entry)) (now (held .entry)) pending waiting
+        → OtherRecord (now (s .entry)) (now (rows .entry)) samples (now (reference .entry)) (now (contig .entry)) (position .0) place (now (found .entry)) (now (alts .entry)) new
+        → Progress d₀ bytes records (now (out .entry)) at count
+        → StepTo (now (s .entry)) (now (rows .entry)) samples (now (reference .entry)) (now (contig .entry)) (now (held .entry)) (now (out .exit)) waiting new d₀ bytes records r) ⌝ }
+{
+    let next = list_header::cap(put_pending(s, rows, reference, contig, held, pending, out, at));
+    let end = put_record(s, rows, samples, reference, contig, position, place, found, alts, out, next);
+    Stepped {
+        pending: Pending::Nothing,
+        at: list_header::cap(end),
+        count: list_header::count_more(count_pending(count, pending)),
+    }
 }

@@ -2,25 +2,21 @@
 use Prim.Native.Nat.{_+_, _≤_, min, ℕ}
 use lib.ListN.{length}
 use mathlib.Core.Bool.{Bool, true}
-use mathlib.Core.List.{List, _++_, flatMap, map}
+use mathlib.Core.List.{List, _++_, flatMap}
 use mathlib.Core.Path.{_≡_}
 use Rattle.clip_and_reference.proofs.Groups.{SpansFrom}
-use Rattle.definitions.specs.Checked.{Checked, _>>=_, accepted, inOrder, refused}
+use Rattle.definitions.specs.Checked.{accepted, refused}
 use Rattle.definitions.specs.ClipAndReference.{LetterChoice, Span}
-use Rattle.definitions.specs.CombinedList.{Input, intervalRecord, recordIntervals}
+use Rattle.definitions.specs.CombinedList.{Input}
 use Rattle.definitions.specs.Intervals.{breakpoints}
 use Rattle.definitions.specs.Lists.{onlyIf}
 use Rattle.definitions.specs.Printed.{printedRecord}
-use Rattle.definitions.specs.Records.{Record, coalesceBlocks}
+use Rattle.definitions.specs.Records.{Record}
 use Rattle.list_header.specs.Measured.{Measured}
 use Rattle.merged_records.specs.Loaded.{ContigRuns}
+use Rattle.record_laws.specs.Pending.{mergedContig}
 use Rattle.combine_gvcfs.specs.declared.Walked.{Walked}
 use Rattle.combine_gvcfs.specs.declared.Walked.the-variants as walked
-
--- the records of a contig, behind row 10
-unfoldable pub mergedContig : Input → LetterChoice → List ℕ → Checked (List Record)
-mergedContig x choose contig =
-    inOrder (map (intervalRecord x choose contig) (recordIntervals x contig)) >>= λ records. accepted (coalesceBlocks records)
 
 -- the clip text, if it is there, holds the input's clip
 pub record ClipGiven (lent : Bool) (clip : List ℕ) (x : Input) : Type 0 where
