@@ -1,0 +1,2 @@
+pub mod HeaderLines
+pub mod TwoPasses

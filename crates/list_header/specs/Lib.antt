@@ -1,0 +1,2 @@
+pub mod HeaderNames
+pub mod Measured
