@@ -1,0 +1,162 @@
+-- A sound site's values as arrays hold them: its map over a record's alleles, AD and PL stand at the fronts of the arrays.
+use Prim.Native.Nat.{_*_, _+_, _≤_, suc, ℕ}
+use lib.ListN.{length, length-map, take}
+use lib.Seq.{sets}
+use mathlib.Core.List.{List, [], _∷_, map}
+use mathlib.Core.Option.{Option, Option·getD, none, some}
+use mathlib.Core.Path.{_∙_, _≡_, ap, refl, sym}
+use native.Mathlib.Nat.{mul-le-mul}
+use native.Mathlib.Omega.{arith}
+use Rattle.definitions.specs.Alleles.{Allele, genotypeCount}
+use Rattle.definitions.specs.Bytes.{comma, fieldsOf}
+use Rattle.definitions.specs.Genotypes.{siteData}
+use Rattle.definitions.specs.Lists.{allSome, onlyIf}
+use Rattle.definitions.specs.MergedAlleles.{perSampleMap, remappedAlleles, sampleAlleleOf}
+use Rattle.definitions.specs.Numbers.{number, numberList}
+use Rattle.genotype_values.proofs.Best.{present-some}
+use Rattle.genotype_values.proofs.Filled.{filled-front, filled-length, filled-within}
+use Rattle.genotype_values.proofs.Said.{site-values}
+use Rattle.genotype_values.specs.Remapped.{Filled}
+use Rattle.genotype_values.specs.Values.{Printable, present, valuesOf}
+use Rattle.kv_text.proofs.Numbers.{all-fault, all-later-fault, all-number, allNumbers}
+use Rattle.kv_text.specs.Fields.{firstNumbers}
+use Rattle.laws.proofs.Every.{IfThere, if-there}
+use Rattle.laws.proofs.SoundInput.{SoundSite}
+use Rattle.laws.proofs.SoundValues.{Numbers, numbers-sound}
+use Rattle.sample_alleles.proofs.Readings.{few-alleles}
+use Rattle.sample_alleles.specs.Readings.{allelesIn}
+use Rattle.tables.specs.Tables.{alleleSpelled, codeOption, column, partAt, refAltsSpelled, siteAt}
+use Rattle.record_lines.specs.Samples.{SitePrintable}
+
+-- ---- numbers of a list
+
+-- the numbers of a list, none if it is missing
+abbrev pub numbersOf : List ℕ → List ℕ
+numbersOf list = Option·getD (numberList list) []
+
+-- they are the first numbers of its fields
+first-all : (fs : List (List ℕ)) → IfThere (λ ns. firstNumbers fs ≡ ns) (allNumbers fs)
+unfolding allSome firstNumbers
+first-all [] = refl
+first-all (f ∷ fs) = go (number f) refl (allNumbers fs) refl (first-all fs)
+  where
+    go : (o : Option ℕ) → number f ≡ o → (r : Option (List ℕ)) → allNumbers fs ≡ r → IfThere (λ ns. firstNumbers fs ≡ ns) r
+        → IfThere (λ ns. firstNumbers (f ∷ fs) ≡ ns) (allNumbers (f ∷ fs))
+    go none e r q h = rw (all-fault f fs e) tt
+    go (some n) e none q h = rw (all-later-fault f fs e q) tt
+    go (some n) e (some ns) q h = rw (all-number f fs e (q ∙ ap {B = Option (List ℕ)} some (sym h))) refl
+
+first-numbers : (list : List ℕ) → IfThere (λ ns. firstNumbers (fieldsOf comma list) ≡ ns) (numberList list)
+unfolding numberList
+first-numbers list = first-all (fieldsOf comma list)
+
+-- an empty slice stands for a missing list
+pub numbers-present : (list : List ℕ) → present (numbersOf list) ≡ numberList list
+unfolding onlyIf
+numbers-present list = go (numberList list) (numbers-sound list)
+  where
+    go : (o : Option (List ℕ)) → ((ns : List ℕ) → o ≡ some ns → Numbers ns) → present (Option·getD o []) ≡ o
+    go none h = refl
+    go (some ns) h = present-some ns (h ns refl .some-number)
+
+-- ---- the front of an array
+
+-- so many values stand at the front
+pub record Front (values after : List ℕ) (r : ℕ) : Type 0 where
+  pub front : take r after ≡ values
+  pub within : r ≤ length after
+  pub long : r ≡ length (take r after)
+
+filled : {values before after : List ℕ} {r : ℕ} → Filled values before after r → length values ≤ length before → Front values after r
+filled p room = record { front = filled-front p room; within = filled-within p room; long = filled-length p room }
+
+numbers-front : (list before : List ℕ) {after : List ℕ} {r : ℕ} → IfThere (λ ns. length ns ≤ length before) (numberList list)
+    → r ≡ length (numbersOf list) → after ≡ sets before 0 (firstNumbers (fieldsOf comma list)) → Front (numbersOf list) after r
+numbers-front list before {after} {r} room count laid = go (numberList list) (first-numbers list) room count
+  where
+    go : (o : Option (List ℕ)) → IfThere (λ ns. firstNumbers (fieldsOf comma list) ≡ ns) o → IfThere (λ ns. length ns ≤ length before) o
+        → r ≡ length (Option·getD o []) → Front (Option·getD o []) after r
+    go none e k n = rw n (record { front = refl; within = omega arith; long = refl })
+    go (some ns) e k n = filled (record { laid = rw e at laid; count = n }) k
+
+-- ---- a sound site
+
+map-length : (remapped : List (Option Allele)) (alts : List Allele) → length (perSampleMap remapped alts) ≡ suc (length alts)
+unfolding perSampleMap
+map-length remapped alts = ap suc (length-map alts (sampleAlleleOf remapped))
+
+count-few : (n : ℕ) → n ≤ 8 → genotypeCount n ≤ 36
+unfolding genotypeCount
+count-few n h = let square : n * suc n ≤ 8 * 9 = mul-le-mul {n₂ = 8} {m₂ = 9} h (omega arith) in omega arith
+
+module _ (s rows : List ℕ) (site : ℕ) where
+  -- the numbers of its alleles for those of a record
+  abbrev pub mapOf : ℕ → List ℕ → List ℕ → List ℕ
+  mapOf position ref alts = perSampleMap (remappedAlleles ref position (siteAt s rows site)) (allelesIn alts)
+
+  abbrev pub adOf : List ℕ
+  adOf = numbersOf (partAt 13 14 s rows site)
+
+  abbrev pub plOf : List ℕ
+  plOf = numbersOf (partAt 15 16 s rows site)
+
+  module _ (sound : SoundSite (siteAt s rows site)) where
+    alts-few : length (fieldsOf comma (partAt 11 12 s rows site)) ≤ 7
+    unfolding siteAt refAltsSpelled
+    alts-few = omega (arith, sound .alleles .at-most, length-map (fieldsOf comma (partAt 11 12 s rows site)) alleleSpelled)
+
+    ad-few : IfThere (λ ns. length ns ≤ 8) (numberList (partAt 13 14 s rows site))
+    unfolding siteAt refAltsSpelled
+    ad-few = if-there (numberList (partAt 13 14 s rows site)) (λ ns c. omega (arith, c .at-most, sound .alleles .at-most)) (sound .ad)
+
+    pl-few : IfThere (λ ns. length ns ≤ 36) (numberList (partAt 15 16 s rows site))
+    unfolding siteAt refAltsSpelled
+    pl-few = if-there (numberList (partAt 15 16 s rows site)) (λ ns c. omega (arith, c .how-many, count-few _ (sound .alleles .at-most))) (sound .pl)
+
+    module _ (before : List ℕ) {after : List ℕ} {r : ℕ} where
+      pub ad-front : length before ≡ 8 → r ≡ length adOf → after ≡ sets before 0 (firstNumbers (fieldsOf comma (partAt 13 14 s rows site)))
+          → Front adOf after r
+      ad-front long = numbers-front (partAt 13 14 s rows site) before (rw long ad-few)
+
+      pub pl-front : length before ≡ 36 → r ≡ length plOf → after ≡ sets before 0 (firstNumbers (fieldsOf comma (partAt 15 16 s rows site)))
+          → Front plOf after r
+      pl-front long = numbers-front (partAt 15 16 s rows site) before (rw long pl-few)
+
+      pub map-front : (position : ℕ) (ref alts : List ℕ) → length before ≡ 16 → length (fieldsOf comma alts) ≤ 15
+          → r ≡ 1 + length (fieldsOf comma alts)
+          → after ≡ sets before 0 (perSampleMap (take 256 (remappedAlleles ref position (siteAt s rows site))) (allelesIn alts))
+          → Front (mapOf position ref alts) after r
+      map-front position ref alts long few count laid =
+          let n = length-map (fieldsOf comma alts) alleleSpelled in
+          let m = map-length (remappedAlleles ref position (siteAt s rows site)) (allelesIn alts) in
+          filled
+          (record { laid = rw (few-alleles ref position s rows site (omega (arith, alts-few))) at laid; count = omega arith })
+          (omega arith)
+
+  by-row : (position : ℕ) (ref alts : List ℕ)
+      → siteData ref (allelesIn alts) position (siteAt s rows site)
+      ≡ valuesOf (mapOf position ref alts) (codeOption (column 5 rows site)) (codeOption (column 6 rows site))
+      (numberList (partAt 13 14 s rows site)) (numberList (partAt 15 16 s rows site))
+  unfolding siteAt
+  by-row position ref alts = site-values ref (allelesIn alts) position (siteAt s rows site)
+
+  -- what these values say of the sample is what the site says
+  pub values-said : (position : ℕ) (ref alts : List ℕ) {gq dp : Option ℕ} {m ad pl : List ℕ} → gq ≡ codeOption (column 5 rows site)
+      → dp ≡ codeOption (column 6 rows site) → m ≡ mapOf position ref alts → ad ≡ adOf → pl ≡ plOf
+      → valuesOf m gq dp (present ad) (present pl) ≡ siteData ref (allelesIn alts) position (siteAt s rows site)
+  values-said position ref alts g d m a p =
+      rw (g, d, m, a, p, numbers-present (partAt 13 14 s rows site), numbers-present (partAt 15 16 s rows site))
+      (sym (by-row position ref alts))
+
+  -- what `put_sample_data` asks
+  pub printable : (position : ℕ) (ref alts : List ℕ) {gq dp : Option ℕ} {m ad pl : List ℕ} {at : ℕ} → SitePrintable s rows site position ref alts at
+      → gq ≡ codeOption (column 5 rows site) → dp ≡ codeOption (column 6 rows site) → m ≡ mapOf position ref alts → ad ≡ adOf → pl ≡ plOf
+      → Printable m gq dp ad pl at
+  printable position ref alts pre g d m a p =
+      let n = length-map (fieldsOf comma alts) alleleSpelled in
+      let k = ap length m ∙ map-length (remappedAlleles ref position (siteAt s rows site)) (allelesIn alts) in
+      record {
+        alleles = omega arith;
+        atMost = omega (arith, pre .few);
+        fits = rw (values-said position ref alts g d m a p) (pre .fits);
+      }
