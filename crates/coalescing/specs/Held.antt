@@ -1,11 +1,12 @@
 -- The block record that is held back until it is known whether the next one joins it.
-use Prim.Native.Nat.{_+_, _<_, _^_, _≤_, suc, ℕ}
+use Prim.Native.Nat.{_+_, _<_, _^_, _≤_, min, suc, ℕ}
 use lib.Dec.{eqb}
 use lib.ListN.{length, take}
 use mathlib.Core.Bool.{Bool, _&&_, false}
-use mathlib.Core.List.{List, [], _++_, flatMap}
+use mathlib.Core.List.{List, [], _++_, _∷_, flatMap}
 use mathlib.Core.Option.{Option, none, some}
 use mathlib.Core.Path.{_≡_}
+use Rattle.bio_ids.specs.declared.GenomePosition.{GenomePosition}
 use Rattle.definitions.specs.Bytes.{sameBytes, text}
 use Rattle.definitions.specs.Genotypes.{SampleData}
 use Rattle.definitions.specs.Numbers.{maxNumber}
@@ -44,16 +45,31 @@ joinsPending s rows reference held (Block first last own len) position place fre
     && sameBytes (refBytes s rows reference own) (refBytes s rows reference place)
     && sameBytes (take len held) fresh
 
+-- it with another last position
+unfoldable pub joinedTo : Pending → GenomePosition → Pending
+joinedTo Nothing last = Nothing
+joinedTo (Block first own place len) last = Block first last place len
+
+-- how many records there are with it, held at the greatest u32
+unfoldable pub pendingCount : Pending → ℕ → ℕ
+pendingCount Nothing count = count
+pendingCount (Block first last place len) count = min 4294967295 (count + 1)
+
 -- the record that is held back
 pub record HeldBlock (s rows : List ℕ) (samples : ℕ) (reference contig held : List ℕ) (first last : ℕ) (place : RefAt) (len : ℕ) (p : Record) : Type 0 where
-  pub data : List SampleData
-  pub record-is : p ≡ blockRecord contig first last (refBytes s rows reference place) data
-  pub derived : Every (Derived 2) data
-  pub all-samples : length data ≡ samples
-  pub printed : take len held ≡ flatMap printedSampleData data
+  pub values : List SampleData
+  pub record-is : p ≡ blockRecord contig first last (refBytes s rows reference place) values
+  pub derived : Every (Derived 2) values
+  pub all-samples : length values ≡ samples
+  pub printed : take len held ≡ flatMap printedSampleData values
   pub one-letter : length (refBytes s rows reference place) ≡ 1
   pub ordered : first ≤ last
   pub in-range : last ≤ maxNumber
+
+-- it in a list, if there is one
+unfoldable pub ofOption : Option Record → List Record
+ofOption none = []
+ofOption (some p) = p ∷ []
 
 unfoldable pub Holds : List ℕ → List ℕ → ℕ → List ℕ → List ℕ → List ℕ → Pending → Option Record → Type 0
 Holds s rows samples reference contig held Nothing waiting = waiting ≡ none

@@ -10,7 +10,7 @@ ghost use Rattle.kv_write.specs.Laid.{Laid};
 ghost use Rattle.merged_ref.specs.Answers.{refBytes};
 ghost use Rattle.record_lines.specs.Head.{headOf};
 ghost use Rattle.record_lines.specs.Samples.{printedSamples};
-ghost use Rattle.coalescing.specs.Held.{HeldBlock, Holds, PendingFits, joinsPending, pendingBytes};
+ghost use Rattle.coalescing.specs.Held.{HeldBlock, Holds, PendingFits, joinedTo, joinsPending, pendingBytes, pendingCount};
 ghost use Rattle.coalescing.specs.Steps.{BlockReady, OtherRecord, Progress, RecordFits, StepTo};
 use bio_ids::GenomePosition;
 use merged_ref::RefAt;
@@ -41,7 +41,15 @@ fn put_pending<'a>(
         Pending::Nothing => at,
         Pending::Block(first, last, place, len) => {
             let allele = merged_ref::ref_bytes(s, rows, reference, place);
-            let next = record_lines::put_record_head(out, at, contig, first, last, allele, b"<NON_REF>");
+            let next = record_lines::put_record_head(
+                out,
+                at,
+                contig,
+                first,
+                last,
+                allele,
+                b"<NON_REF>",
+            );
             let lines = tables::part(held, 0, len);
             kv_write::put_bytes(out, next, lines)
         }
@@ -78,6 +86,29 @@ fn joins<'a>(
     }
     let lines = tables::part(held, 0, len);
     kv_text::same_bytes(lines, fresh)
+}
+
+// The record that is held back with another last position: that of a block that joins it.
+fn joined(pending: Pending, last: GenomePosition) -> Pending
+    ensures { λ r. ⌜ r ≡ joinedTo pending last ⌝ }
+{
+    match pending {
+        Pending::Nothing => Pending::Nothing,
+        Pending::Block(first, _, place, len) => Pending::Block(first, last, place, len),
+    }
+}
+
+// A count of records with the one that is held back, if there is one, held at the greatest u32.
+fn count_pending(count: usize, pending: Pending) -> usize
+    ensures { λ r. ⌜ r ≡ pendingCount pending count ⌝ }
+{
+    let Pending::Block(_, _, _, _) = pending else {
+        return count;
+    };
+    if count < 4294967295 {
+        return count + 1;
+    }
+    4294967295
 }
 
 // Lays a record that is no block: contig, POS, REF, ALTs and the lines of its samples.

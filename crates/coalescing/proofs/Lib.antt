@@ -1,0 +1,3 @@
+pub mod HeldBlocks
+pub mod Laying
+pub mod Touching
