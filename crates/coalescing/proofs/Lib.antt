@@ -1,3 +1,4 @@
 pub mod HeldBlocks
 pub mod Laying
 pub mod Touching
+pub mod StepLaws

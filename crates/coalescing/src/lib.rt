@@ -209,7 +209,19 @@ pub fn step_record<'a>(
         → StepTo (now (s .entry)) (now (rows .entry)) samples (now (reference .entry)) (now (contig .entry)) (now (held .entry)) (now (out .exit)) waiting new d₀ bytes records r) ⌝ }
 {
     let next = list_header::cap(put_pending(s, rows, reference, contig, held, pending, out, at));
-    let end = put_record(s, rows, samples, reference, contig, position, place, found, alts, out, next);
+    let end = put_record(
+        s,
+        rows,
+        samples,
+        reference,
+        contig,
+        position,
+        place,
+        found,
+        alts,
+        out,
+        next,
+    );
     Stepped {
         pending: Pending::Nothing,
         at: list_header::cap(end),

@@ -1,0 +1,165 @@
+-- A record comes behind the one that is held back: what is laid, what waits, and that all goes on as it would have gone on with it.
+use Prim.Native.Nat.{_+_, _≤_, min, ℕ}
+use lib.ListN.{drop, length, length-append, take}
+use lib.Seq.{take-at, take-length}
+use mathlib.Core.Bool.{false, true}
+use mathlib.Core.List.{List, [], _++_, _∷_, append-assoc, append-nil, flatMap}
+use mathlib.Core.Option.{Option, none, some}
+use mathlib.Core.Path.{_∙_, _≡_, ap, refl, sym}
+use native.Mathlib.Nat.{add-zero, zero-add}
+use native.Mathlib.Omega.{arith}
+use Rattle.bio_ids.specs.declared.GenomePosition.{GenomePosition}
+use Rattle.definitions.specs.Checked.{Checked, accepted}
+use Rattle.definitions.specs.Printed.{printedRecord, printedSampleData}
+use Rattle.definitions.specs.Records.{Record, coalesced, coalesces}
+use Rattle.kv_write.proofs.Laying.{sets-front}
+use Rattle.kv_write.specs.Laid.{Laid}
+use Rattle.laws.proofs.Members.{flatMap-append}
+use Rattle.laws.proofs.Tests.{clash}
+use Rattle.list_header.proofs.TwoPasses.{counted-more, measured-more}
+use Rattle.list_header.specs.Measured.{Counted, Measured, limit}
+use Rattle.merged_ref.specs.Answers.{refBytes}
+use Rattle.merged_ref.specs.declared.RefAt.{RefAt}
+use Rattle.record_laws.proofs.Coalescing.{turn-apart, turn-both-done, turn-done, turn-held, turn-joined}
+use Rattle.record_laws.specs.Pending.{andLater, blockRecord, finish}
+use Rattle.record_lines.specs.Head.{headOf}
+use Rattle.record_lines.specs.Samples.{printedSamples}
+use Rattle.coalescing.proofs.HeldBlocks.{held-joins, held-printed, holds-joined}
+use Rattle.coalescing.specs.Held.{HeldBlock, Holds, joinedTo, joinsPending, ofOption, pendingBytes, pendingCount}
+use Rattle.coalescing.specs.Steps.{OtherRecord, Progress, StepTo}
+use Rattle.coalescing.specs.declared.Pending.{Pending}
+use Rattle.coalescing.specs.declared.Pending.the-variants.{Block, Nothing}
+
+module _ (s rows : List ℕ) (samples : ℕ) (reference contig held : List ℕ) (d₀ bytes : List ℕ) (records : ℕ) where
+  -- the record that was held back is laid
+  count-laid : (pending : Pending) (waiting : Option Record) → Holds s rows samples reference contig held pending waiting → {count : ℕ}
+      → Counted records count → Counted (records + length (ofOption waiting)) (pendingCount pending count)
+  unfolding Holds ofOption pendingCount
+  count-laid Nothing waiting h c = rw (h, add-zero records) c
+  count-laid (Block first last place len) waiting (p, e, b) c = rw e (counted-more c)
+
+  laid-pending : (pending : Pending) (waiting : Option Record) → Holds s rows samples reference contig held pending waiting
+      → {out out′ : List ℕ} {at count r : ℕ} → Progress d₀ bytes records out at count
+      → Laid out at (pendingBytes s rows reference contig held pending) out′ r
+      → Progress d₀ (bytes ++ flatMap printedRecord (ofOption waiting)) (records + length (ofOption waiting)) out′ (min limit r) (pendingCount pending count)
+  laid-pending pending waiting h p l = record {
+    measured = rw (← held-printed s rows samples reference contig held pending waiting h) (measured-more (p .measured) l);
+    counted = count-laid pending waiting h (p .counted);
+  }
+
+  -- ---- a block
+
+  module _ (first last : GenomePosition) (place : RefAt) (fresh : List ℕ) (new : Record)
+      (b : HeldBlock s rows samples reference contig fresh (first .0) (last .0) place (length fresh) new) where
+    lines : flatMap printedSampleData (b .values) ≡ fresh
+    lines = sym (b .printed) ∙ take-length fresh
+
+    same-joins : (f l : GenomePosition) (own : RefAt) (len : ℕ) (p : Record) → HeldBlock s rows samples reference contig held (f .0) (l .0) own len p
+        → joinsPending s rows reference held (Block f l own len) (first .0) place fresh ≡ coalesces p new
+    same-joins f l own len p h =
+        held-joins s rows samples reference contig held f l own len p h (first .0) (last .0) (refBytes s rows reference place) (b .values) place fresh
+        refl (b .one-letter) (b .derived) lines
+        ∙ ap (coalesces p) (sym (b .record-is))
+
+    pub step-joined : (pending : Pending) (waiting : Option Record) → Holds s rows samples reference contig held pending waiting
+        → joinsPending s rows reference held pending (first .0) place fresh ≡ true
+        → (out : List ℕ) (at count : ℕ) → Progress d₀ bytes records out at count
+        → StepTo s rows samples reference contig held out waiting new d₀ bytes records (record { pending = joinedTo pending last; at = at; count = count })
+    unfolding Holds joinsPending flatMap
+    step-joined Nothing waiting h j out at count p = clash j refl
+    step-joined (Block f l own len) waiting (q, e, h) j out at count p =
+        let c : coalesces q new ≡ true = sym (same-joins f l own len q h) ∙ j in
+        record {
+          laid = [];
+          waits = some (coalesced q new);
+          holds = rw (b .record-is) (holds-joined s rows samples reference contig held f l own len q h (first .0) last (refBytes s rows reference place) (b .values)
+              (b .one-letter) (b .ordered) (b .in-range) (rw (← b .record-is) c));
+          progress = rw (append-nil bytes, add-zero records) p;
+          turned = λ done m later k. rw (e, append-nil done) (turn-joined done m later q k c);
+        }
+
+    -- the new block is held back
+    held-new : (after : List ℕ) (len : ℕ) → length fresh ≤ length held → Laid held 0 fresh after len
+        → HeldBlock s rows samples reference contig after (first .0) (last .0) place len new
+    held-new after len room l =
+        let same : len ≡ length fresh = l .next ∙ zero-add (length fresh) in
+        record {
+          values = b .values;
+          record-is = b .record-is;
+          derived = b .derived;
+          all-samples = b .all-samples;
+          printed =
+              rw (same, l .laid, sets-front held fresh room) (take-at fresh (drop (length fresh) held) (length fresh) refl ∙ sym lines);
+          one-letter = b .one-letter;
+          ordered = b .ordered;
+          in-range = b .in-range;
+        }
+
+    apart-turned : (pending : Pending) (waiting : Option Record) → Holds s rows samples reference contig held pending waiting
+        → joinsPending s rows reference held pending (first .0) place fresh ≡ false
+        → (done : List Record) (m : Checked Record) (c : Checked (List Record)) → m ≡ accepted new
+        → finish done waiting (andLater m c) ≡ finish (done ++ ofOption waiting) (some new) c
+    unfolding Holds ofOption
+    apart-turned Nothing waiting h j done m c k = rw (h, append-nil done) (turn-held done m c k)
+    apart-turned (Block f l own len) waiting (q, e, h) j done m c k =
+        rw e (turn-apart done m c q k (sym (same-joins f l own len q h) ∙ j))
+
+    pub step-apart : (pending : Pending) (waiting : Option Record) → Holds s rows samples reference contig held pending waiting
+        → joinsPending s rows reference held pending (first .0) place fresh ≡ false
+        → (after : List ℕ) (len : ℕ) → length fresh ≤ length held → Laid held 0 fresh after len
+        → (out out′ : List ℕ) (at count r : ℕ) → Progress d₀ bytes records out at count
+        → Laid out at (pendingBytes s rows reference contig held pending) out′ r
+        → StepTo s rows samples reference contig after out′ waiting new d₀ bytes records
+        (record { pending = Block first last place len; at = min limit r; count = pendingCount pending count })
+    unfolding Holds
+    step-apart pending waiting h j after len room l out out′ at count r p laid = record {
+      laid = ofOption waiting;
+      waits = some new;
+      holds = (new, refl, held-new after len room l);
+      progress = laid-pending pending waiting h p laid;
+      turned = apart-turned pending waiting h j;
+    }
+
+  -- ---- another record
+
+  module _ (position : ℕ) (place : RefAt) (found alts : List ℕ) (new : Record)
+      (o : OtherRecord s rows samples reference contig position place found alts new) where
+    done-turned : (pending : Pending) (waiting : Option Record) → Holds s rows samples reference contig held pending waiting
+        → (done : List Record) (m : Checked Record) (c : Checked (List Record)) → m ≡ accepted new
+        → finish done waiting (andLater m c) ≡ finish (done ++ (ofOption waiting ++ (new ∷ []))) none c
+    unfolding Holds ofOption
+    done-turned Nothing waiting h done m c k = rw h (turn-done done m c k (o .not-block))
+    done-turned (Block f l own len) waiting (q, e, h) done m c k = rw e (turn-both-done done m c q k (o .not-block))
+
+    pub step-other : (pending : Pending) (waiting : Option Record) → Holds s rows samples reference contig held pending waiting
+        → (out middle out′ : List ℕ) (at count r end : ℕ) → Progress d₀ bytes records out at count
+        → Laid out at (pendingBytes s rows reference contig held pending) middle r
+        → Laid middle (min limit r)
+        (headOf contig position position (refBytes s rows reference place) alts ++ printedSamples s rows samples found position (refBytes s rows reference place) alts)
+        out′ end
+        → StepTo s rows samples reference contig held out′ waiting new d₀ bytes records
+        (record { pending = Nothing; at = min limit end; count = min 4294967295 (pendingCount pending count + 1) })
+    unfolding Holds
+    step-other pending waiting h out middle out′ at count r end p laid laid-new =
+        let q = laid-pending pending waiting h p laid in
+        record {
+          laid = ofOption waiting ++ (new ∷ []);
+          waits = none;
+          holds = refl;
+          progress = record {
+            measured = rw bytes-are (measured-more (q .measured) (rw (← o .printed) at laid-new));
+            counted = rw one-more (counted-more (q .counted));
+          };
+          turned = done-turned pending waiting h;
+        }
+      where
+        bytes-are : bytes ++ flatMap printedRecord (ofOption waiting ++ (new ∷ [])) ≡ bytes ++ flatMap printedRecord (ofOption waiting) ++ printedRecord new
+        bytes-are =
+            ap (λ (l : List ℕ). bytes ++ l) (flatMap-append printedRecord (ofOption waiting) (new ∷ []) ∙ ap (λ (l : List ℕ). flatMap printedRecord (ofOption waiting) ++ l) alone)
+            ∙ sym (append-assoc bytes (flatMap printedRecord (ofOption waiting)) (printedRecord new))
+          where
+            alone : flatMap printedRecord (new ∷ []) ≡ printedRecord new
+            alone = unfold flatMap in append-nil (printedRecord new)
+
+        one-more : records + length (ofOption waiting ++ (new ∷ [])) ≡ records + length (ofOption waiting) + 1
+        one-more = omega (arith, length-append (ofOption waiting) (new ∷ []))

@@ -1,0 +1,45 @@
+-- The one that is held back, then this one.
+use borrow.Author.Needs.{needs}
+use native.Mathlib.Omega.{arith}
+use Rattle.coalescing.proofs.StepLaws.{step-other}
+use Rattle.coalescing.proofs.step_record.Statement.{statement}
+use Rattle.coalescing.proofs.step_record.Tie as tie
+
+put-pending-requires : tie.Need-put-pending-requires
+put-pending-requires c κs = (c .before .before .before .before .before .before .before .before .before .pre .0)
+
+cap-requires : tie.Need-cap-requires
+cap-requires c κs = search needs
+
+put-record-requires : tie.Need-put-record-requires
+put-record-requires c κs = let f = (c .before .before .before .before .before .before .before .before .before .before .before .before .before .before .pre .1) in
+    record { in-range = f .in-range; sound = f .sound; few = f .few; fits = omega (arith, f .fits, (c .before .cap .ensures)) }
+
+cap-requires-2 : tie.Need-cap-requires-2
+cap-requires-2 c κs = search needs
+
+count-pending-requires : tie.Need-count-pending-requires
+count-pending-requires c κs = search needs
+
+count-more-requires : tie.Need-count-more-requires
+count-more-requires c κs = search needs
+
+same-length : tie.Need-same-length
+same-length c = search needs
+
+returns : tie.Need-returns
+returns c = λ waiting new d₀ bytes records h o p.
+    rw ((c .before .before .cap2 .ensures), (c .count-more .ensures), (c .before .count-pending .ensures)) (step-other _ _ _ _ _ _ d₀ bytes records _ _ _ _ new o _ waiting h _ _ _ _ _ _ _ p ((c .before .before .before .before .before .before .before .before .before .before .put-pending .ensures)) (rw ((c .before .before .before .before .before .before .before .cap .ensures)) at ((c .before .before .before .before .before .put-record .ensures))))
+
+pub step-record-spec : {M : Type 1} → statement M
+step-record-spec =
+    tie.close
+    (tie.spec
+    put-pending-requires
+    cap-requires
+    put-record-requires
+    cap-requires-2
+    count-pending-requires
+    count-more-requires
+    same-length
+    returns)
