@@ -1,25 +1,16 @@
--- What laying the record of an interval asks, and what a turn of the walk leaves.
-use Prim.Native.Nat.{_+_, _≤_, ℕ}
+-- What laying the record of an interval asks, and the record.
+use Prim.Native.Nat.{_≤_, ℕ}
 use lib.ListN.{length}
 use mathlib.Core.Bool.{Bool}
-use mathlib.Core.List.{List, [], _++_, _∷_, flatMap}
-use mathlib.Core.Option.{Option}
-use mathlib.Core.Path.{_≡_}
-use Rattle.coalescing.specs.Held.{Holds, PendingFits}
-use Rattle.coalescing.specs.Steps.{Progress, StepTo}
+use mathlib.Core.List.{List}
+use Rattle.coalescing.specs.Held.{PendingFits}
 use Rattle.coalescing.specs.declared.Pending.{Pending}
-use Rattle.coalescing.specs.declared.Stepped.{Stepped}
-use Rattle.definitions.specs.Checked.{Checked, refused}
-use Rattle.definitions.specs.CombinedList.{intervalRecord}
-use Rattle.definitions.specs.Intervals.{Interval}
 use Rattle.definitions.specs.Numbers.{maxNumber}
-use Rattle.definitions.specs.Printed.{printedRecord}
 use Rattle.definitions.specs.Records.{Record, endOf}
 use Rattle.merged_records.proofs.Records.{recordAlleles, recordData}
 use Rattle.merged_records.specs.Found.{RecordTo}
-use Rattle.merged_records.specs.Loaded.{OnContig, chosenLetters}
+use Rattle.merged_records.specs.Loaded.{OnContig}
 use Rattle.merged_ref.specs.declared.RefAt.{RefAt}
-use Rattle.record_laws.specs.Pending.{finish}
 
 -- the record was found, its interval is sound, and what is held back can be laid
 pub record LayReady (s rows : List ℕ) (samples : ℕ) (reference contig : List ℕ) (first last : ℕ) (place : RefAt) (number : ℕ) (found alts : List ℕ)

@@ -1,4 +1,4 @@
-// The intervals of a contig one after the other: their records, coalesced and laid.
+// The record of an interval: laid behind the one that is held back, joined to it, or held itself; and whether the interval lies in the clip.
 ghost use Prim.Native.Nat.{ℕ};
 ghost use mathlib.Core.List.{List};
 ghost use mathlib.Core.Option.{Option};
@@ -11,17 +11,11 @@ ghost use Rattle.definitions.specs.Intervals.{inClip};
 ghost use Rattle.definitions.specs.Records.{Record};
 ghost use mathlib.Core.Bool.{true};
 ghost use Rattle.contig_walk.specs.Laying.{LayReady, laidRecord};
-ghost use Rattle.contig_walk.specs.Walk.{ClipGiven};
+ghost use Rattle.contig_walk.specs.Clip.{ClipGiven};
 use bio_ids::GenomePosition;
 use coalescing::Pending;
 use coalescing::Stepped;
 use merged_ref::RefAt;
-
-// Where the list goes on and how many records it has so far; or the row that refuses it.
-pub enum Walked {
-    To(usize, usize),
-    Refused(usize),
-}
 
 // The next record is a block: its samples' lines are laid aside, and it joins the one that is held back or is held itself.
 fn lay_block<'a>(
@@ -51,12 +45,36 @@ fn lay_block<'a>(
 {
     let mut fresh = [0u8; 8192];
     let allele = merged_ref::ref_bytes(s, rows, reference, place);
-    let len = record_lines::put_samples(s, rows, samples, found, first, allele, alts, &mut fresh, 0);
-    coalescing::step_block(s, rows, reference, contig, first, last, place, &fresh[..len], pending, held, out, at, count)
+    let len = record_lines::put_samples(
+        s,
+        rows,
+        samples,
+        found,
+        first,
+        allele,
+        alts,
+        &mut fresh,
+        0,
+    );
+    coalescing::step_block(
+        s,
+        rows,
+        reference,
+        contig,
+        first,
+        last,
+        place,
+        &fresh[..len],
+        pending,
+        held,
+        out,
+        at,
+        count,
+    )
 }
 
 // Lays the record of an interval behind the one that is held back, or joins it to that one, or holds it.
-fn lay_record<'a>(
+pub fn lay_record<'a>(
     s: &'a [u8],
     rows: &[usize],
     samples: usize,
@@ -82,17 +100,70 @@ fn lay_record<'a>(
         → StepTo (now (s .entry)) (now (rows .entry)) samples (now (reference .entry)) (now (contig .entry)) (now (held .exit)) (now (out .exit)) waiting (laidRecord ready) d₀ bytes records r) ⌝ }
 {
     if number != 1 {
-        return coalescing::step_record(s, rows, samples, reference, contig, first, place, found, alts, pending, held, out, at, count);
+        return coalescing::step_record(
+            s,
+            rows,
+            samples,
+            reference,
+            contig,
+            first,
+            place,
+            found,
+            alts,
+            pending,
+            held,
+            out,
+            at,
+            count,
+        );
     }
     let allele = merged_ref::ref_bytes(s, rows, reference, place);
     if allele.len() != 1 {
-        return coalescing::step_record(s, rows, samples, reference, contig, first, place, found, alts, pending, held, out, at, count);
+        return coalescing::step_record(
+            s,
+            rows,
+            samples,
+            reference,
+            contig,
+            first,
+            place,
+            found,
+            alts,
+            pending,
+            held,
+            out,
+            at,
+            count,
+        );
     }
-    lay_block(s, rows, samples, reference, contig, first, last, place, number, found, alts, pending, held, out, at, count)
+    lay_block(
+        s,
+        rows,
+        samples,
+        reference,
+        contig,
+        first,
+        last,
+        place,
+        number,
+        found,
+        alts,
+        pending,
+        held,
+        out,
+        at,
+        count,
+    )
 }
 
 // Whether an interval lies in the clip, where there is one.
-fn kept(clipped: bool, clip: &[u8], contig: &[u8], first: GenomePosition, last: GenomePosition) -> bool
+pub fn kept(
+    clipped: bool,
+    clip: &[u8],
+    contig: &[u8],
+    first: GenomePosition,
+    last: GenomePosition,
+) -> bool
     ensures { λ r. ⌜ ((x : Input) → ClipGiven clipped (now (clip .entry)) x → r ≡ inClip (now (contig .entry)) (x .clip) (record { first = first .0; last = last .0 })) ⌝ }
 {
     if !clipped {
