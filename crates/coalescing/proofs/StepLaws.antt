@@ -38,7 +38,7 @@ module _ (s rows : List ℕ) (samples : ℕ) (reference contig held : List ℕ) 
   count-laid Nothing waiting h c = rw (h, add-zero records) c
   count-laid (Block first last place len) waiting (p, e, b) c = rw e (counted-more c)
 
-  laid-pending : (pending : Pending) (waiting : Option Record) → Holds s rows samples reference contig held pending waiting
+  pub laid-pending : (pending : Pending) (waiting : Option Record) → Holds s rows samples reference contig held pending waiting
       → {out out′ : List ℕ} {at count r : ℕ} → Progress d₀ bytes records out at count
       → Laid out at (pendingBytes s rows reference contig held pending) out′ r
       → Progress d₀ (bytes ++ flatMap printedRecord (ofOption waiting)) (records + length (ofOption waiting)) out′ (min limit r) (pendingCount pending count)

@@ -1,1 +1,3 @@
 pub mod LaidRecords
+pub mod Turns
+pub mod Walking

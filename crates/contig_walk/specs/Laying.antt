@@ -1,16 +1,32 @@
--- What laying the record of an interval asks, and the record.
-use Prim.Native.Nat.{_≤_, ℕ}
+-- What laying the record of an interval asks, and what a turn of the walk leaves.
+use Prim.Native.Nat.{_+_, _<_, _≤_, ℕ}
 use lib.ListN.{length}
-use mathlib.Core.Bool.{Bool}
-use mathlib.Core.List.{List}
-use Rattle.coalescing.specs.Held.{PendingFits}
+use mathlib.Core.Bool.{Bool, true}
+use mathlib.Core.List.{List, _++_, flatMap}
+use mathlib.Core.Option.{Option}
+use mathlib.Core.Path.{_≡_}
+use Rattle.coalescing.specs.Held.{Holds, PendingFits}
+use Rattle.coalescing.specs.Steps.{Progress}
 use Rattle.coalescing.specs.declared.Pending.{Pending}
+use Rattle.coalescing.specs.declared.Stepped.{Stepped}
+use Rattle.definitions.specs.Checked.{Checked, refused}
+use Rattle.definitions.specs.ClipAndReference.{LetterChoice}
+use Rattle.definitions.specs.CombinedList.{Input}
+use Rattle.definitions.specs.CoveringSites.{coveringSites}
+use Rattle.definitions.specs.Intervals.{inClip}
 use Rattle.definitions.specs.Numbers.{maxNumber}
+use Rattle.definitions.specs.Printed.{printedRecord}
 use Rattle.definitions.specs.Records.{Record, endOf}
 use Rattle.merged_records.proofs.Records.{recordAlleles, recordData}
 use Rattle.merged_records.specs.Found.{RecordTo}
-use Rattle.merged_records.specs.Loaded.{OnContig}
+use Rattle.laws.proofs.IntervalsSound.{SoundInterval}
+use Rattle.merged_records.specs.Loaded.{ContigRuns, OnContig}
 use Rattle.merged_ref.specs.declared.RefAt.{RefAt}
+use Rattle.record_laws.proofs.Walking.{withInterval}
+use Rattle.record_laws.specs.Pending.{finish}
+use Rattle.contig_walk.specs.Walk.{ClipGiven}
+use Rattle.contig_walk.specs.declared.Turned.{Turned}
+use Rattle.contig_walk.specs.declared.Turned.the-variants as turned
 
 -- the record was found, its interval is sound, and what is held back can be laid
 pub record LayReady (s rows : List ℕ) (samples : ℕ) (reference contig : List ℕ) (first last : ℕ) (place : RefAt) (number : ℕ) (found alts : List ℕ)
@@ -35,3 +51,30 @@ module _ {s rows : List ℕ} {samples : ℕ} {reference contig : List ℕ} {firs
     alleles = recordAlleles (r .on) first (r .to);
     sampleData = recordData (r .on) first (r .to);
   }
+
+-- what a turn of the walk is lent: the contig, the clip, an interval that is sound if it has a record, and what is held back
+pub record TurnReady (s rows : List ℕ) (samples : ℕ) (clipped : Bool) (clip : List ℕ) (lent : Bool) (reference contig chosen bounds : List ℕ)
+    (first last : ℕ) (pending : Pending) (held : List ℕ) (at : ℕ) : Type 0 where
+  pub runs : ContigRuns s rows samples lent reference contig chosen bounds
+  pub clip-given : ClipGiven clipped clip (runs .on .loaded .input)
+  pub sound : inClip contig (runs .on .loaded .input .clip) (record { first = first; last = last }) ≡ true
+      → 0 < length (coveringSites (runs .on .loaded .input .cohort) contig first) → SoundInterval (record { first = first; last = last })
+  pub fits : PendingFits s rows reference contig held pending at
+  pub room : 8192 ≤ length held
+
+-- the records that are laid now, and the one that waits: all goes on with them as it would have gone on with the interval
+pub record TurnTo (x : Input) (choose : LetterChoice) (s rows : List ℕ) (samples : ℕ) (reference contig held out : List ℕ) (first last : ℕ)
+    (waiting : Option Record) (d₀ bytes : List ℕ) (records : ℕ) (r : Stepped) : Type 0 where
+  pub laid : List Record
+  pub waits : Option Record
+  pub holds : Holds s rows samples reference contig held (r .pending) waits
+  pub progress : Progress d₀ (bytes ++ flatMap printedRecord laid) (records + length laid) out (r .at) (r .count)
+  pub turned : (done : List Record) (later : Checked (List Record))
+      → finish done waiting (withInterval x choose contig (record { first = first; last = last }) later) ≡ finish (done ++ laid) waits later
+
+unfoldable pub Turns : Input → LetterChoice → List ℕ → List ℕ → ℕ → List ℕ → List ℕ → List ℕ → List ℕ → ℕ → ℕ → Option Record → List ℕ → List ℕ → ℕ → Turned → Type 0
+Turns x choose s rows samples reference contig held out first last waiting d₀ bytes records (turned.To step) =
+    TurnTo x choose s rows samples reference contig held out first last waiting d₀ bytes records step
+Turns x choose s rows samples reference contig held out first last waiting d₀ bytes records (turned.Refused row) =
+    (done : List Record) (later : Checked (List Record))
+    → finish done waiting (withInterval x choose contig (record { first = first; last = last }) later) ≡ refused row

@@ -1,2 +1,2 @@
-pub mod Clip
+pub mod Walk
 pub mod Laying

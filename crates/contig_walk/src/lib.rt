@@ -1,4 +1,4 @@
-// The record of an interval: laid behind the one that is held back, joined to it, or held itself; and whether the interval lies in the clip.
+// The intervals of a contig one after the other: their records, coalesced and laid.
 ghost use Prim.Native.Nat.{ℕ};
 ghost use mathlib.Core.List.{List};
 ghost use mathlib.Core.Option.{Option};
@@ -10,12 +10,20 @@ ghost use Rattle.definitions.specs.CombinedList.{Input};
 ghost use Rattle.definitions.specs.Intervals.{inClip};
 ghost use Rattle.definitions.specs.Records.{Record};
 ghost use mathlib.Core.Bool.{true};
-ghost use Rattle.contig_walk.specs.Laying.{LayReady, laidRecord};
-ghost use Rattle.contig_walk.specs.Clip.{ClipGiven};
+ghost use Rattle.merged_records.specs.Loaded.{chosenLetters};
+ghost use Rattle.contig_walk.specs.Laying.{LayReady, TurnReady, Turns, laidRecord};
+ghost use Rattle.contig_walk.specs.Walk.{Begun, ClipGiven, ContigWalked, WalkReady};
 use bio_ids::GenomePosition;
 use coalescing::Pending;
 use coalescing::Stepped;
+use merged_records::RecordAt;
 use merged_ref::RefAt;
+
+// Where the list goes on and how many records it has so far; or the row that refuses it.
+pub enum Walked {
+    To(usize, usize),
+    Refused(usize),
+}
 
 // The next record is a block: its samples' lines are laid aside, and it joins the one that is held back or is held itself.
 fn lay_block<'a>(
@@ -45,36 +53,12 @@ fn lay_block<'a>(
 {
     let mut fresh = [0u8; 8192];
     let allele = merged_ref::ref_bytes(s, rows, reference, place);
-    let len = record_lines::put_samples(
-        s,
-        rows,
-        samples,
-        found,
-        first,
-        allele,
-        alts,
-        &mut fresh,
-        0,
-    );
-    coalescing::step_block(
-        s,
-        rows,
-        reference,
-        contig,
-        first,
-        last,
-        place,
-        &fresh[..len],
-        pending,
-        held,
-        out,
-        at,
-        count,
-    )
+    let len = record_lines::put_samples(s, rows, samples, found, first, allele, alts, &mut fresh, 0);
+    coalescing::step_block(s, rows, reference, contig, first, last, place, &fresh[..len], pending, held, out, at, count)
 }
 
 // Lays the record of an interval behind the one that is held back, or joins it to that one, or holds it.
-pub fn lay_record<'a>(
+fn lay_record<'a>(
     s: &'a [u8],
     rows: &[usize],
     samples: usize,
@@ -100,74 +84,122 @@ pub fn lay_record<'a>(
         → StepTo (now (s .entry)) (now (rows .entry)) samples (now (reference .entry)) (now (contig .entry)) (now (held .exit)) (now (out .exit)) waiting (laidRecord ready) d₀ bytes records r) ⌝ }
 {
     if number != 1 {
-        return coalescing::step_record(
-            s,
-            rows,
-            samples,
-            reference,
-            contig,
-            first,
-            place,
-            found,
-            alts,
-            pending,
-            held,
-            out,
-            at,
-            count,
-        );
+        return coalescing::step_record(s, rows, samples, reference, contig, first, place, found, alts, pending, held, out, at, count);
     }
     let allele = merged_ref::ref_bytes(s, rows, reference, place);
     if allele.len() != 1 {
-        return coalescing::step_record(
-            s,
-            rows,
-            samples,
-            reference,
-            contig,
-            first,
-            place,
-            found,
-            alts,
-            pending,
-            held,
-            out,
-            at,
-            count,
-        );
+        return coalescing::step_record(s, rows, samples, reference, contig, first, place, found, alts, pending, held, out, at, count);
     }
-    lay_block(
-        s,
-        rows,
-        samples,
-        reference,
-        contig,
-        first,
-        last,
-        place,
-        number,
-        found,
-        alts,
-        pending,
-        held,
-        out,
-        at,
-        count,
-    )
+    lay_block(s, rows, samples, reference, contig, first, last, place, number, found, alts, pending, held, out, at, count)
 }
 
 // Whether an interval lies in the clip, where there is one.
-pub fn kept(
-    clipped: bool,
-    clip: &[u8],
-    contig: &[u8],
-    first: GenomePosition,
-    last: GenomePosition,
-) -> bool
+fn kept(clipped: bool, clip: &[u8], contig: &[u8], first: GenomePosition, last: GenomePosition) -> bool
     ensures { λ r. ⌜ ((x : Input) → ClipGiven clipped (now (clip .entry)) x → r ≡ inClip (now (contig .entry)) (x .clip) (record { first = first .0; last = last .0 })) ⌝ }
 {
     if !clipped {
         return true;
     }
     intervals::in_clip(clip, contig, first.get(), last.get())
+}
+
+// What a turn of the walk leaves; or the row that refuses the interval's record.
+enum Turned {
+    To(Stepped),
+    Refused(usize),
+}
+
+// Lays the record of an interval, if it lies in the clip and sites cover it.
+fn walk_interval<'a>(
+    s: &'a [u8],
+    rows: &[usize],
+    samples: usize,
+    clipped: bool,
+    clip: &[u8],
+    lent: bool,
+    reference: &'a [u8],
+    contig: &[u8],
+    chosen: &[usize],
+    bounds: &[usize],
+    first: GenomePosition,
+    last: GenomePosition,
+    pending: Pending,
+    held: &mut [u8],
+    out: &mut [u8],
+    at: usize,
+    count: usize,
+) -> Turned
+    requires { ⌜ TurnReady (now s) (now rows) samples clipped (now clip) lent (now reference) (now contig) (now chosen) (now bounds) (first .0) (last .0) pending (now held) at ⌝ }
+    ensures { λ r. ⌜ ((ready : TurnReady (now (s .entry)) (now (rows .entry)) samples clipped (now (clip .entry)) lent (now (reference .entry)) (now (contig .entry)) (now (chosen .entry)) (now (bounds .entry)) (first .0) (last .0) pending (now (held .entry)) at)
+        (waiting : Option Record) (d₀ bytes : List ℕ) (records : ℕ)
+        → Holds (now (s .entry)) (now (rows .entry)) samples (now (reference .entry)) (now (contig .entry)) (now (held .entry)) pending waiting
+        → Progress d₀ bytes records (now (out .entry)) at count
+        → Turns (ready .runs .on .loaded .input) (chosenLetters (ready .runs .on .loaded)) (now (s .entry)) (now (rows .entry)) samples (now (reference .entry)) (now (contig .entry)) (now (held .exit)) (now (out .exit)) (first .0) (last .0) waiting d₀ bytes records r) ⌝ }
+{
+    let same = Stepped { pending, at, count };
+    if !kept(clipped, clip, contig, first, last) {
+        return Turned::To(same);
+    }
+    let mut found = [0usize; 64];
+    let mut alts = [0u8; 4096];
+    let here = merged_records::record_at(s, rows, samples, lent, reference, contig, chosen, bounds, first, &mut found, &mut alts);
+    match here {
+        RecordAt::NoSites => Turned::To(same),
+        RecordAt::Refused(row) => Turned::Refused(row),
+        RecordAt::Record(n, place, len, number) => {
+            let text = tables::part(&alts, 0, len);
+            let step = lay_record(s, rows, samples, reference, contig, first, last, place, number, &found[..n], text, pending, held, out, at, count);
+            Turned::To(step)
+        }
+    }
+}
+
+// Lays the records of a contig behind those before it, as far as they fit: rows 11 to 13.
+pub fn walk_contig<'a>(
+    s: &'a [u8],
+    rows: &[usize],
+    samples: usize,
+    clipped: bool,
+    clip: &[u8],
+    lent: bool,
+    reference: &'a [u8],
+    contig: &[u8],
+    chosen: &[usize],
+    bounds: &[usize],
+    places: &[u64],
+    out: &mut [u8],
+    at: usize,
+    count: usize,
+) -> Walked
+    requires { ⌜ WalkReady (now s) (now rows) samples clipped (now clip) lent (now reference) (now contig) (now chosen) (now bounds) (now places) × Begun (now out) at count ⌝ }
+    ensures { λ r. ⌜ ((ready : WalkReady (now (s .entry)) (now (rows .entry)) samples clipped (now (clip .entry)) lent (now (reference .entry)) (now (contig .entry)) (now (chosen .entry)) (now (bounds .entry)) (now (places .entry)))
+        (d₀ bytes : List ℕ) (records : ℕ) → Progress d₀ bytes records (now (out .entry)) at count
+        → ContigWalked (ready .runs .on .loaded .input) (chosenLetters (ready .runs .on .loaded)) (now (contig .entry)) d₀ bytes records (now (out .exit)) r) ⌝ }
+{
+    let mut held = [0u8; 8192];
+    let mut state = Stepped {
+        pending: Pending::Nothing,
+        at,
+        count,
+    };
+    let mut k = 0;
+    while k + 1 < places.len() {
+        let first = GenomePosition::new_1based(places[k]);
+        let last = GenomePosition::new_1based(places[k + 1] - 1);
+        let pending = state.pending;
+        let turn = walk_interval(s, rows, samples, clipped, clip, lent, reference, contig, chosen, bounds, first, last, pending, &mut held, out, state.at, state.count);
+        match turn {
+            Turned::Refused(row) => {
+                return Walked::Refused(row);
+            }
+            Turned::To(step) => {
+                state = step;
+                k += 1;
+            }
+        }
+    }
+    let pending = state.pending;
+    let end = coalescing::put_pending(s, rows, reference, contig, &held, pending, out, state.at);
+    let total = coalescing::count_pending(state.count, pending);
+    Walked::To(list_header::cap(end), total)
 }

@@ -105,6 +105,9 @@ module _ {s rows : List ℕ} {samples : ℕ} {lent : Bool} {reference contig : L
 
   -- ---- the answers of record_at
 
+  pub covering-some : (sites : List ℕ) → sites ≡ numbers → 0 < length sites → 0 < length (covering on position)
+  covering-some sites e h = rw (← numbers-cover, ← e) (rw (length-map sites (siteAt s rows)) h)
+
   pub none-covering : (n : ℕ) → n ≡ 0 → n ≡ length numbers → covering on position ≡ []
   none-covering n z e = sym numbers-cover ∙ go numbers (sym e ∙ z)
     where
@@ -130,7 +133,7 @@ module _ {s rows : List ℕ} {samples : ℕ} {lent : Bool} {reference contig : L
       unfolding AltsFound RecordFound
       record-found alts answer.NoSites h = absurd h
       record-found alts (answer.Refused row) h =
-          λ last. rw (h .0) (alts-refused last (refBytes s rows reference at) merged (rw (← numbers-cover, ← here) (h .1)))
+          (covering-some sites here some-site, λ last. rw (h .0) (alts-refused last (refBytes s rows reference at) merged (rw (← numbers-cover, ← here) (h .1))))
       record-found alts (answer.Record m same len number) h =
           let cover : map (siteAt s rows) sites ≡ covering on position = ap (map (siteAt s rows)) here ∙ numbers-cover in
           rw (h .same-ref) (record {

@@ -38,11 +38,12 @@ module _ {s rows : List ℕ} {samples : ℕ} {lent : Bool} {reference contig : L
     pub number : count ≡ length (mergedAlts (refBytes s rows reference at) position covering)
     pub few-alts : count ≤ 15
 
-  -- no site covers the position; or the record is refused, however far its interval goes; or it is as found, with n sites in a list
+  -- no site covers the position; or some do and the record is refused, however far its interval goes; or it is as found, with n sites in a list
   unfoldable pub RecordFound : (ℕ → List ℕ) → List ℕ → RecordAt → Type 0
   RecordFound found alts answer.NoSites = covering ≡ []
   RecordFound found alts (answer.Refused row) =
-      (last : ℕ) → intervalRecord (on .loaded .input) (chosenLetters (on .loaded)) contig (record { first = position; last = last }) ≡ refused row
+      (0 < length covering)
+      × ((last : ℕ) → intervalRecord (on .loaded .input) (chosenLetters (on .loaded)) contig (record { first = position; last = last }) ≡ refused row)
   RecordFound found alts (answer.Record n at len count) = RecordTo (found n) alts n at len count
 
 -- the ALTs over these sites with this REF are too many (row 13), or are laid

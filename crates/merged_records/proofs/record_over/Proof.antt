@@ -1,7 +1,7 @@
 -- REF, then the ALTs.
 use borrow.Author.Needs.{needs}
 use mathlib.Core.Path.{_∙_}
-use Rattle.merged_records.proofs.Records.{as-merged, found-sites-sound, letter-answered, record-found, ref-refused, site-answered}
+use Rattle.merged_records.proofs.Records.{as-merged, covering-some, found-sites-sound, letter-answered, record-found, ref-refused, site-answered}
 use Rattle.merged_records.specs.Found.{RecordFound}
 use Rattle.merged_ref.specs.Answers.{refAnswer}
 use Rattle.merged_records.proofs.record_over.Statement.{statement}
@@ -32,7 +32,7 @@ alts-at-requires-2 c κs = let over = (c .before .before .before .before .before
 returns : tie.Need-returns
 unfolding RecordFound refAnswer
 returns c = λ over. let m = as-merged (over .on) _ _ (over .numbers) ((c .before .before .before .determine-reference-allele .ensures) (over .on .loaded .segments) (over .on .loaded .segments-from)) in
-    λ last. ref-refused (over .on) _ last _ (m ∙ rw ((c .before .at .given .1)))
+    (covering-some (over .on) _ _ (over .numbers) (over .some-site), λ last. ref-refused (over .on) _ last _ (m ∙ rw ((c .before .at .given .1))))
 
 same-length : tie.Need-same-length
 same-length c = search needs

@@ -1,0 +1,143 @@
+-- The turns of the walk: an interval without a record, one whose record is refused, and one whose record is laid.
+use Prim.Native.Nat.{_+_, _<_, _≤_, ℕ}
+use borrow.Author.Tests.{lt-ltb}
+use lib.ListN.{length, length-map, length-take, take}
+use lib.Seq.{length-take-le, take-length, take-take}
+use mathlib.Core.Bool.{Bool, false, true}
+use mathlib.Core.List.{List, [], append-nil, flatMap}
+use mathlib.Core.Option.{Option}
+use mathlib.Core.Path.{_∙_, _≡_, ap, refl, subst, sym}
+use native.Mathlib.Nat.{add-zero, sub-zero}
+use native.Mathlib.Omega.{arith}
+use Rattle.coalescing.specs.Held.{Holds, PendingFits}
+use Rattle.coalescing.specs.Steps.{Progress, StepTo}
+use Rattle.coalescing.specs.declared.Pending.{Pending}
+use Rattle.coalescing.specs.declared.Stepped.{Stepped}
+use Rattle.definitions.specs.Checked.{Checked, refused}
+use Rattle.definitions.specs.CombinedList.{intervalRecord}
+use Rattle.definitions.specs.CoveringSites.{coveringSites}
+use Rattle.definitions.specs.Intervals.{inClip}
+use Rattle.definitions.specs.Records.{Record}
+use Rattle.kv_text.specs.Fields.{between}
+use Rattle.merged_records.proofs.Records.{record-is}
+use Rattle.merged_records.specs.Found.{RecordTo, covering}
+use Rattle.merged_records.specs.Loaded.{OnContig, chosenLetters}
+use Rattle.merged_ref.specs.declared.RefAt.{RefAt}
+use Rattle.record_laws.proofs.Coalescing.{turn-refused}
+use Rattle.record_laws.proofs.Walking.{withInterval}
+use Rattle.record_laws.specs.Pending.{andLater, finish}
+use Rattle.tables.specs.Tables.{siteAt}
+use Rattle.contig_walk.specs.Laying.{LayReady, TurnReady, TurnTo, Turns, laidRecord}
+use Rattle.contig_walk.specs.declared.Turned.the-variants as turned
+
+-- as many as were found are there
+pub front-within : {n : ℕ} (l : List ℕ) → n ≡ length (take n l) → n ≤ length l
+front-within {n} l e = omega (arith, length-take n l)
+
+-- a part from the beginning on
+text-front : (t alts : List ℕ) (len : ℕ) → t ≡ between alts 0 len → t ≡ take len alts
+text-front t alts len e = e ∙ rw (sub-zero len)
+
+module _ {s rows : List ℕ} {samples : ℕ} {clipped : Bool} {clip : List ℕ} {lent : Bool} {reference contig chosen bounds : List ℕ}
+    {first last : ℕ} {pending : Pending} {held : List ℕ} {at : ℕ}
+    (ready : TurnReady s rows samples clipped clip lent reference contig chosen bounds first last pending held at) where
+  abbrev on : OnContig s rows samples lent reference contig
+  on = ready .runs .on
+
+  module _ (in-clip : inClip contig (on .loaded .input .clip) (record { first = first; last = last }) ≡ true) where
+    -- the covering sites are some, so the interval has a record
+    has-record : 0 < length (covering on first) → (later : Checked (List Record))
+        → withInterval (on .loaded .input) (chosenLetters (on .loaded)) contig (record { first = first; last = last }) later
+        ≡ andLater (intervalRecord (on .loaded .input) (chosenLetters (on .loaded)) contig (record { first = first; last = last })) later
+    unfolding withInterval
+    has-record some-site later = rw (in-clip, lt-ltb 0 (length (coveringSites (on .loaded .input .cohort) contig first)) some-site)
+
+    module _ (found alts : List ℕ) (n : ℕ) (place : RefAt) (len number : ℕ) (to : RecordTo on first (take n found) alts n place len number) where
+      pub some-covering : 0 < length (covering on first)
+      some-covering = rw (← to .sites) (rw (length-map (take n found) (siteAt s rows)) (omega (arith, to .all, to .some-site)))
+
+      -- the ALTs by themselves
+      pub exact : (text : List ℕ) → text ≡ between alts 0 len → RecordTo on first (take n found) text n place (length text) number
+      exact text e = record {
+        sites = to .sites;
+        known = to .known;
+        all = to .all;
+        some-site = to .some-site;
+        few = to .few;
+        ref = to .ref;
+        text = take-length text ∙ text-front text alts len e ∙ to .text;
+        number = to .number;
+        few-alts = to .few-alts;
+      }
+
+      unfoldable pub lay-ready : (text : List ℕ) → text ≡ between alts 0 len
+          → LayReady s rows samples reference contig first last place number (take n found) text pending held at
+      lay-ready text e =
+          let i = ready .sound in-clip some-covering in
+          record {
+            lent = lent;
+            on = on;
+            sites = n;
+            to = exact text e;
+            ordered = i .ordered;
+            in-range = i .in-range;
+            fits = ready .fits;
+            room = ready .room;
+          }
+
+module _ {s rows : List ℕ} {samples : ℕ} {clipped : Bool} {clip : List ℕ} {lent : Bool} {reference contig chosen bounds : List ℕ}
+    {first last : ℕ} {pending : Pending} {held : List ℕ} {at : ℕ}
+    (ready : TurnReady s rows samples clipped clip lent reference contig chosen bounds first last pending held at)
+    (waiting : Option Record) (d₀ bytes : List ℕ) (records : ℕ)
+    (h : Holds s rows samples reference contig held pending waiting) where
+  abbrev on′ : OnContig s rows samples lent reference contig
+  on′ = ready .runs .on
+
+  -- nothing changes
+  unchanged : (out : List ℕ) (count : ℕ) → Progress d₀ bytes records out at count
+      → ((later : Checked (List Record)) → withInterval (on′ .loaded .input) (chosenLetters (on′ .loaded)) contig (record { first = first; last = last }) later ≡ later)
+      → Turns (on′ .loaded .input) (chosenLetters (on′ .loaded)) s rows samples reference contig held out first last waiting d₀ bytes records
+      (turned.To (record { pending = pending; at = at; count = count }))
+  unfolding Turns flatMap
+  unchanged out count p same = record {
+    laid = [];
+    waits = waiting;
+    holds = h;
+    progress = rw (append-nil bytes, add-zero records) p;
+    turned = λ done later. rw (same later, append-nil done);
+  }
+
+  pub turn-clipped : inClip contig (on′ .loaded .input .clip) (record { first = first; last = last }) ≡ false
+      → (out : List ℕ) (count : ℕ) → Progress d₀ bytes records out at count
+      → Turns (on′ .loaded .input) (chosenLetters (on′ .loaded)) s rows samples reference contig held out first last waiting d₀ bytes records
+      (turned.To (record { pending = pending; at = at; count = count }))
+  unfolding withInterval
+  turn-clipped e out count p = unchanged out count p (λ later. rw e)
+
+  module _ (in-clip : inClip contig (on′ .loaded .input .clip) (record { first = first; last = last }) ≡ true) where
+    pub turn-bare : covering on′ first ≡ [] → (out : List ℕ) (count : ℕ) → Progress d₀ bytes records out at count
+        → Turns (on′ .loaded .input) (chosenLetters (on′ .loaded)) s rows samples reference contig held out first last waiting d₀ bytes records
+        (turned.To (record { pending = pending; at = at; count = count }))
+    unfolding withInterval
+    turn-bare e out count p = unchanged out count p (λ later. rw (in-clip, e))
+
+    -- a position without sites has no record to refuse
+    pub turn-none : (row : ℕ) → 0 < length (covering on′ first)
+        → ((last : ℕ) → intervalRecord (on′ .loaded .input) (chosenLetters (on′ .loaded)) contig (record { first = first; last = last }) ≡ refused row)
+        → (out : List ℕ)
+        → Turns (on′ .loaded .input) (chosenLetters (on′ .loaded)) s rows samples reference contig held out first last waiting d₀ bytes records (turned.Refused row)
+    unfolding Turns
+    turn-none row some-site e out done later = rw (has-record ready in-clip some-site later) (turn-refused done _ later waiting row (e last))
+
+    module _ (found alts : List ℕ) (n : ℕ) (place : RefAt) (len number : ℕ) (to : RecordTo on′ first (take n found) alts n place len number) where
+      pub turn-laid : (text : List ℕ) (e : text ≡ between alts 0 len) (held′ out : List ℕ) (step : Stepped)
+          → StepTo s rows samples reference contig held′ out waiting (laidRecord (lay-ready ready in-clip found alts n place len number to text e)) d₀ bytes records step
+          → Turns (on′ .loaded .input) (chosenLetters (on′ .loaded)) s rows samples reference contig held′ out first last waiting d₀ bytes records (turned.To step)
+      unfolding Turns lay-ready
+      turn-laid text e held′ out step t = record {
+        laid = t .laid;
+        waits = t .waits;
+        holds = t .holds;
+        progress = t .progress;
+        turned = λ done later. rw (has-record ready in-clip (some-covering ready in-clip found alts n place len number to) later) (t .turned done _ later (record-is on′ first (exact ready in-clip found alts n place len number to text e) last));
+      }

@@ -1,0 +1,134 @@
+-- Interval by interval; then what is held back is laid.
+use Prim.Native.Nat.{_-_, _≤_, ℕ}
+use borrow.Author.Needs.{needs}
+use lib.ListN.{length}
+use mathlib.Core.List.{List}
+use mathlib.Core.Path.{_∙_, _≡_, refl, sym}
+use native.Mathlib.Omega.{arith}
+use Rattle.coalescing.specs.Steps.{Progress}
+use Rattle.contig_walk.proofs.Walking.{Walking, end-fits, next-place, refused-here, turn-ready, walking-end, walking-next, walking-start}
+use Rattle.contig_walk.specs.Walk.{WalkReady}
+use Rattle.contig_walk.proofs.walk_contig.Statement.{statement}
+use Rattle.contig_walk.proofs.walk_contig.Tie as tie
+
+abbrev Inv-loop : tie.InvT-loop
+Inv-loop s rows samples clipped clip lent reference contig chosen bounds places out₀ at count held₀ state₀ k₀ out held state k =
+    (length held ≡ 8192) × (length out ≡ length out₀) × (k ≤ length places)
+    × ((ready : WalkReady s rows samples clipped clip lent reference contig chosen bounds places) (d₀ bytes : List ℕ) (records : ℕ)
+    → Progress d₀ bytes records out₀ at count → Walking ready d₀ bytes records out held state k)
+
+abbrev μ-loop : tie.MeasureT-loop
+μ-loop s rows samples clipped clip lent reference contig chosen bounds places out₀ at count held₀ state₀ k₀ out held state k = length places - k
+
+loop-holds : tie.Need-loop-holds Inv-loop μ-loop
+loop-holds c = (refl, refl, omega arith, λ ready d₀ bytes records p. walking-start ready d₀ bytes records _ _ _ _ p)
+
+add-loop : tie.Need-add-loop Inv-loop μ-loop
+add-loop c = omega (arith, (c .loop .inv .2), (c .before .before .before .before .before .before .before .before .before .before .good))
+
+mul-new-1based : tie.Need-mul-new-1based Inv-loop μ-loop
+mul-new-1based c = search needs
+
+shared-slice-read-new-1based : tie.Need-shared-slice-read-new-1based Inv-loop μ-loop
+shared-slice-read-new-1based c = search needs
+
+new-1based-requires : tie.Need-new-1based-requires Inv-loop μ-loop
+new-1based-requires c κs = search needs
+
+add-new-1based : tie.Need-add-new-1based Inv-loop μ-loop
+add-new-1based c = search needs
+
+mul-new-1based-2 : tie.Need-mul-new-1based-2 Inv-loop μ-loop
+mul-new-1based-2 c = search needs
+
+shared-slice-read-new-1based-2 : tie.Need-shared-slice-read-new-1based-2 Inv-loop μ-loop
+shared-slice-read-new-1based-2 c = search needs
+
+sub-new-1based : tie.Need-sub-new-1based Inv-loop μ-loop
+sub-new-1based c = next-place ((c .before .before .before .before .before .before .before .before .before .before .before .before .before .before .pre .0)) _ (c .before .before .before .loop-test .taken)
+
+new-1based-requires-2 : tie.Need-new-1based-requires-2 Inv-loop μ-loop
+new-1based-requires-2 c κs = search needs
+
+slice-aggregate-walk-interval : tie.Need-slice-aggregate-walk-interval Inv-loop μ-loop
+slice-aggregate-walk-interval c = search needs
+
+walk-interval-requires : tie.Need-walk-interval-requires Inv-loop μ-loop
+walk-interval-requires c κs = let w = (c .before .before .before .before .before .before .before .loop .inv .3) ((c .before .before .before .before .before .before .before .before .before .before .before .before .before .before .before .before .before .pre .0)) ((c .before .before .before .before .before .before .before .before .before .before .before .before .before .before .before .before .before .pre .1 .d₀)) ((c .before .before .before .before .before .before .before .before .before .before .before .before .before .before .before .before .before .pre .1 .bytes)) ((c .before .before .before .before .before .before .before .before .before .before .before .before .before .before .before .before .before .pre .1 .records)) ((c .before .before .before .before .before .before .before .before .before .before .before .before .before .before .before .before .before .pre .1 .progress)) in
+    turn-ready ((c .before .before .before .before .before .before .before .before .before .before .before .before .before .before .before .before .before .pre .0)) ((c .before .before .before .before .before .before .before .before .before .before .before .before .before .before .before .before .before .pre .1 .d₀)) ((c .before .before .before .before .before .before .before .before .before .before .before .before .before .before .before .before .before .pre .1 .bytes)) ((c .before .before .before .before .before .before .before .before .before .before .before .before .before .before .before .before .before .pre .1 .records)) _ _ _ _ w _ _ (c .before .before .before .before .before .before .loop-test .taken) ((c .before .before .before .before .new-1based .ensures)) ((c .before .before .new-1based2 .ensures)) (omega (arith, (c .before .before .before .before .before .before .before .loop .inv .0)))
+
+enum-known-turn : tie.Need-enum-known-turn Inv-loop μ-loop
+enum-known-turn c = search needs
+
+same-length : tie.Need-same-length Inv-loop μ-loop
+same-length c = (c .before .before .before .before .before .before .walk-interval .kept .1 .1 .1 .1 .1 .1 .1 .1 .1 .1 .1 .1 .1 .1 .0) ∙ (c .before .before .before .before .before .before .before .before .before .before .before .before .before .before .loop .inv .1)
+
+returns : tie.Need-returns Inv-loop μ-loop
+unfolding turn-ready
+returns c = λ ready d₀ bytes records p. let w = (c .before .before .before .before .before .before .before .before .before .before .before .before .before .before .loop .inv .3) ready d₀ bytes records p in
+    refused-here ready d₀ bytes records _ _ _ _ w _ _ _ _ _ (c .before .before .before .before .before .before .before .before .before .before .before .before .before .loop-test .taken) ((c .before .before .before .before .before .before .before .before .before .before .before .new-1based .ensures)) ((c .before .before .before .before .before .before .before .before .before .new-1based2 .ensures)) (rw ((c .before .turn .given .1)) at ((c .before .before .before .before .before .before .walk-interval .ensures) (turn-ready ready d₀ bytes records _ _ _ _ w _ _ (c .before .before .before .before .before .before .before .before .before .before .before .before .before .loop-test .taken) ((c .before .before .before .before .before .before .before .before .before .before .before .new-1based .ensures)) ((c .before .before .before .before .before .before .before .before .before .new-1based2 .ensures)) (omega (arith, (c .before .before .before .before .before .before .before .before .before .before .before .before .before .before .loop .inv .0)))) (w .waiting) _ _ _ (w .holds) (w .progress)))
+
+enum-known-turn-2 : tie.Need-enum-known-turn-2 Inv-loop μ-loop
+enum-known-turn-2 c = search needs
+
+add-k : tie.Need-add-k Inv-loop μ-loop
+add-k c = omega (arith, (c .before .before .before .before .before .before .before .before .before .before .before .before .before .loop-test .taken), (c .before .before .before .before .before .before .before .before .before .before .before .before .before .before .before .before .before .before .before .before .before .before .before .before .good))
+
+loop-less : tie.Need-loop-less Inv-loop μ-loop
+loop-less c = omega (arith, (c .before .before .before .before .before .before .before .before .before .before .before .before .before .loop-test .taken))
+
+loop-again : tie.Need-loop-again Inv-loop μ-loop
+unfolding turn-ready
+loop-again c = ((c .before .before .before .before .before .before .walk-interval .kept .1 .1 .1 .1 .1 .1 .1 .1 .1 .1 .1 .1 .1 .0) ∙ (c .before .before .before .before .before .before .before .before .before .before .before .before .before .before .loop .inv .0), (c .before .before .before .before .before .before .walk-interval .kept .1 .1 .1 .1 .1 .1 .1 .1 .1 .1 .1 .1 .1 .1 .0) ∙ (c .before .before .before .before .before .before .before .before .before .before .before .before .before .before .loop .inv .1), omega (arith, (c .before .before .before .before .before .before .before .before .before .before .before .before .before .loop-test .taken)), λ ready d₀ bytes records p. let w = (c .before .before .before .before .before .before .before .before .before .before .before .before .before .before .loop .inv .3) ready d₀ bytes records p in
+    walking-next ready d₀ bytes records _ _ _ _ w _ _ _ _ _ (c .before .before .before .before .before .before .before .before .before .before .before .before .before .loop-test .taken) ((c .before .before .before .before .before .before .before .before .before .before .before .new-1based .ensures)) ((c .before .before .before .before .before .before .before .before .before .new-1based2 .ensures)) (rw ((c .before .turn2 .given .1)) at ((c .before .before .before .before .before .before .walk-interval .ensures) (turn-ready ready d₀ bytes records _ _ _ _ w _ _ (c .before .before .before .before .before .before .before .before .before .before .before .before .before .loop-test .taken) ((c .before .before .before .before .before .before .before .before .before .before .before .new-1based .ensures)) ((c .before .before .before .before .before .before .before .before .before .new-1based2 .ensures)) (omega (arith, (c .before .before .before .before .before .before .before .before .before .before .before .before .before .before .loop .inv .0)))) (w .waiting) _ _ _ (w .holds) (w .progress))))
+
+slice-aggregate-put-pending : tie.Need-slice-aggregate-put-pending Inv-loop μ-loop
+slice-aggregate-put-pending c = search needs
+
+put-pending-requires : tie.Need-put-pending-requires Inv-loop μ-loop
+put-pending-requires c κs = let w = (c .before .before .before .loop .inv .3) ((c .before .before .before .before .before .before .before .before .before .before .before .before .before .pre .0)) ((c .before .before .before .before .before .before .before .before .before .before .before .before .before .pre .1 .d₀)) ((c .before .before .before .before .before .before .before .before .before .before .before .before .before .pre .1 .bytes)) ((c .before .before .before .before .before .before .before .before .before .before .before .before .before .pre .1 .records)) ((c .before .before .before .before .before .before .before .before .before .before .before .before .before .pre .1 .progress)) in end-fits ((c .before .before .before .before .before .before .before .before .before .before .before .before .before .pre .0)) ((c .before .before .before .before .before .before .before .before .before .before .before .before .before .pre .1 .d₀)) ((c .before .before .before .before .before .before .before .before .before .before .before .before .before .pre .1 .bytes)) ((c .before .before .before .before .before .before .before .before .before .before .before .before .before .pre .1 .records)) _ _ _ _ w
+
+count-pending-requires : tie.Need-count-pending-requires Inv-loop μ-loop
+count-pending-requires c κs = search needs
+
+cap-requires : tie.Need-cap-requires Inv-loop μ-loop
+cap-requires c κs = search needs
+
+same-length-2 : tie.Need-same-length-2 Inv-loop μ-loop
+same-length-2 c = (c .before .before .before .before .put-pending .kept .1 .1 .1 .1 .1 .1 .0) ∙ (c .before .before .before .before .before .before .before .before .loop .inv .1)
+
+returns-2 : tie.Need-returns-2 Inv-loop μ-loop
+returns-2 c = λ ready d₀ bytes records p. let w = (c .before .before .before .before .before .before .before .before .loop .inv .3) ready d₀ bytes records p in
+    rw ((c .cap .ensures), (c .before .count-pending .ensures)) (walking-end ready d₀ bytes records _ _ _ _ w (c .before .before .before .before .before .before .before .loop-test .left) _ _ ((c .before .before .before .before .put-pending .ensures)))
+
+pub walk-contig-spec : {M : Type 1} → statement M
+walk-contig-spec =
+    tie.close
+    (tie.spec
+    Inv-loop
+    μ-loop
+    loop-holds
+    add-loop
+    mul-new-1based
+    shared-slice-read-new-1based
+    new-1based-requires
+    add-new-1based
+    mul-new-1based-2
+    shared-slice-read-new-1based-2
+    sub-new-1based
+    new-1based-requires-2
+    slice-aggregate-walk-interval
+    walk-interval-requires
+    enum-known-turn
+    same-length
+    returns
+    enum-known-turn-2
+    add-k
+    loop-less
+    loop-again
+    slice-aggregate-put-pending
+    put-pending-requires
+    count-pending-requires
+    cap-requires
+    same-length-2
+    returns-2)

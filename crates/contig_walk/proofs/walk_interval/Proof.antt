@@ -1,0 +1,96 @@
+-- By the clip, then by what is found at the interval's first position.
+use borrow.Author.Needs.{needs}
+use borrow.Author.Tests.{not-false, not-true}
+use mathlib.Core.Path.{_∙_, sym}
+use native.Mathlib.Omega.{arith}
+use Rattle.contig_walk.proofs.Turns.{front-within, lay-ready, turn-bare, turn-clipped, turn-laid, turn-none}
+use Rattle.merged_records.specs.Found.{RecordFound}
+use Rattle.contig_walk.proofs.walk_interval.Statement.{statement}
+use Rattle.contig_walk.proofs.walk_interval.Tie as tie
+
+kept-requires : tie.Need-kept-requires
+kept-requires c κs = search needs
+
+returns : tie.Need-returns
+returns c = λ ready waiting d₀ bytes records h p. turn-clipped ready waiting d₀ bytes records h (sym ((c .before .kept .ensures) _ (ready .clip-given)) ∙ not-true _ (c .if1 .taken)) _ _ p
+
+slice-aggregate-record-at : tie.Need-slice-aggregate-record-at
+slice-aggregate-record-at c = search needs
+
+slice-aggregate-record-at-2 : tie.Need-slice-aggregate-record-at-2
+slice-aggregate-record-at-2 c = search needs
+
+record-at-requires : tie.Need-record-at-requires
+record-at-requires c κs = ((c .before .before .before .before .before .before .before .before .before .before .before .before .before .pre .runs), record { for-sites = omega (arith, (c .before .before .before .before .before .before .before .before .before .before .before .before .before .pre .runs .on .loaded .few)); for-alts = omega arith })
+
+enum-told : tie.Need-enum-told
+enum-told c = search needs
+
+enum-known-here : tie.Need-enum-known-here
+enum-known-here c = search needs
+
+enum-known-here-2 : tie.Need-enum-known-here-2
+enum-known-here-2 c = search needs
+
+slice-aggregate-part : tie.Need-slice-aggregate-part
+slice-aggregate-part c = search needs
+
+part-requires : tie.Need-part-requires
+part-requires c κs = search needs
+
+array-share-prefix-found : tie.Need-array-share-prefix-found
+unfolding RecordFound
+array-share-prefix-found c = let f = rw ((c .before .before .before .here2 .given .1)) at ((c .before .before .before .before .before .before .before .record-at .ensures) ((c .before .before .before .before .before .before .before .before .before .before .before .before .before .before .before .before .before .before .before .before .before .pre .runs))) in front-within _ (f .all)
+
+slice-aggregate-lay-record : tie.Need-slice-aggregate-lay-record
+unfolding RecordFound
+slice-aggregate-lay-record c = let f = rw ((c .before .before .before .before .here2 .given .1)) at ((c .before .before .before .before .before .before .before .before .record-at .ensures) ((c .before .before .before .before .before .before .before .before .before .before .before .before .before .before .before .before .before .before .before .before .before .before .pre .runs))) in f .all
+
+lay-record-requires : tie.Need-lay-record-requires
+unfolding RecordFound
+lay-record-requires c κs = let f = rw ((c .before .before .before .before .before .before .here2 .given .1)) at ((c .before .before .before .before .before .before .before .before .before .before .record-at .ensures) ((c .before .before .before .before .before .before .before .before .before .before .before .before .before .before .before .before .before .before .before .before .before .before .before .before .pre .runs))) in
+    lay-ready (c .before .before .before .before .before .before .before .before .before .before .before .before .before .before .before .before .before .before .before .before .before .before .before .before .pre) (sym ((c .before .before .before .before .before .before .before .before .before .before .before .before .before .before .kept .ensures) _ ((c .before .before .before .before .before .before .before .before .before .before .before .before .before .before .before .before .before .before .before .before .before .before .before .before .pre .clip-given))) ∙ not-false _ (c .before .before .before .before .before .before .before .before .before .before .before .before .before .if1 .left)) _ _ _ _ _ _ f _ ((c .before .before .before .part .ensures))
+
+returns-2 : tie.Need-returns-2
+unfolding RecordFound
+returns-2 c = λ ready waiting d₀ bytes records h p. turn-bare ready waiting d₀ bytes records h (sym ((c .before .before .before .before .before .before .before .before .kept .ensures) _ (ready .clip-given)) ∙ not-false _ (c .before .before .before .before .before .before .before .if1 .left)) (rw ((c .enum-told .given .1)) at ((c .before .before .before .before .record-at .ensures) (ready .runs))) _ _ p
+
+returns-3 : tie.Need-returns-3
+unfolding RecordFound
+returns-3 c = λ ready waiting d₀ bytes records h p. let f = rw ((c .before .here .given .1)) at ((c .before .before .before .before .before .record-at .ensures) (ready .runs)) in
+    turn-none ready waiting d₀ bytes records h (sym ((c .before .before .before .before .before .before .before .before .before .kept .ensures) _ (ready .clip-given)) ∙ not-false _ (c .before .before .before .before .before .before .before .before .if1 .left)) _ (f .0) (f .1) _
+
+same-length : tie.Need-same-length
+same-length c = search needs
+
+same-length-2 : tie.Need-same-length-2
+same-length-2 c = search needs
+
+returns-4 : tie.Need-returns-4
+unfolding RecordFound
+returns-4 c = λ ready waiting d₀ bytes records h p. let f = rw ((c .before .before .before .before .before .before .before .before .before .before .before .here2 .given .1)) at ((c .before .before .before .before .before .before .before .before .before .before .before .before .before .before .before .record-at .ensures) (ready .runs)) in
+    let inside = sym ((c .before .before .before .before .before .before .before .before .before .before .before .before .before .before .before .before .before .before .before .kept .ensures) _ (ready .clip-given)) ∙ not-false _ (c .before .before .before .before .before .before .before .before .before .before .before .before .before .before .before .before .before .before .if1 .left) in
+    turn-laid ready waiting d₀ bytes records h inside _ _ _ _ _ _ f _ ((c .before .before .before .before .before .before .before .before .part .ensures)) _ _ _ ((c .before .before .before .before .lay-record .ensures) (lay-ready ready inside _ _ _ _ _ _ f _ ((c .before .before .before .before .before .before .before .before .part .ensures))) waiting d₀ bytes records h p)
+
+pub walk-interval-spec : {M : Type 1} → statement M
+walk-interval-spec =
+    tie.close
+    (tie.spec
+    kept-requires
+    returns
+    slice-aggregate-record-at
+    slice-aggregate-record-at-2
+    record-at-requires
+    enum-told
+    enum-known-here
+    enum-known-here-2
+    slice-aggregate-part
+    part-requires
+    array-share-prefix-found
+    slice-aggregate-lay-record
+    lay-record-requires
+    returns-2
+    returns-3
+    same-length
+    same-length-2
+    returns-4)
