@@ -1,0 +1,275 @@
+-- From the texts of a call to its tables, and from the tables to the sites by sample and the contigs in order.
+use Prim.Native.Nat.{_*_, _≤_, ℕ}
+use lib.ListN.{drop, length, length-append, length-map, take}
+use lib.Seq.{take-append-seam}
+use mathlib.Core.Bool.{Bool, _&&_, false, true}
+use mathlib.Core.List.{List, [], _++_, _∷_, map}
+use mathlib.Core.Logic.{⊎-elim}
+use mathlib.Core.Option.{Option, none, some}
+use mathlib.Core.Path.{_∙_, _≡_, ap, refl, subst, sym}
+use native.Mathlib.Omega.{arith}
+use Rattle.clip_and_reference.proofs.Groups.{GroupsFrom, in-order, not-in-order}
+use Rattle.cohort.specs.Cohort.{CohortTo, CohortUnread, fittingCohort, sitesIn}
+use Rattle.contigs.specs.Contigs.{ContigOrder}
+use Rattle.covering_sites.specs.Covering.{sampleSites}
+use Rattle.covering_sites.specs.Runs.{Runs}
+use Rattle.definitions.specs.Answers.{scratchAfter}
+use Rattle.definitions.specs.Bytes.{compareBytes}
+use Rattle.definitions.specs.Checked.{Checked, accepted, isAccepted, refused}
+use Rattle.definitions.specs.ClipAndReference.{ChoiceFrom, LetterChoice, ReferenceSegment, optionalGroups, segmentOf, spanOf}
+use Rattle.definitions.specs.Cohort.{Site, cohortOf}
+use Rattle.definitions.specs.CombinedList.{ChoiceFor, Input, Texts, combinedList, fits, inputOf}
+use Rattle.definitions.specs.Intervals.{contigsOf}
+use Rattle.definitions.specs.Limits.{maxSamples, maxSites}
+use Rattle.definitions.specs.Lines.{Line}
+use Rattle.definitions.specs.Lists.{missingOr, numbersFrom, onlyIf}
+use Rattle.kv_write.proofs.Laying.{sets-front}
+use Rattle.laws.proofs.Checked.{accepted-same, after-required, not-required, required, then, then-refused}
+use Rattle.laws.proofs.Every.{every-map, every-of-each}
+use Rattle.laws.proofs.Members.{length-numbers}
+use Rattle.laws.proofs.Orders.{ascending-few}
+use Rattle.laws.proofs.ReferenceLetter.{first-letter, firstLetter}
+use Rattle.laws.proofs.SoundInput.{input-sound}
+use Rattle.laws.proofs.SoundRecords.{NameAfter}
+use Rattle.laws.proofs.Tests.{all-three, clash}
+use Rattle.tables.specs.Tables.{nameAt, namesIn, rowLength, siteAt}
+use Rattle.combine_gvcfs.proofs.WrittenList.{answered-refused}
+use Rattle.combine_gvcfs.specs.Combined.{Answered, CallLoaded, CohortHeld, Combined, ListReady, TextsAnswered, TextsFit, listWithin, textsOf}
+use Rattle.combine_gvcfs.specs.declared.Outcome.the-variants as outcome
+use Rattle.combine_gvcfs.specs.declared.Outcome.{Outcome}
+
+-- ---- the sites by sample, and the contigs in order
+
+pub equal-few : {a b : ℕ} → a ≡ b → a ≤ b
+equal-few e = omega arith
+
+module _ {s names rows : List ℕ} {samples sites : ℕ} {clipped : Bool} {clip : List ℕ} {lent : Bool} {reference : List ℕ}
+    (call : CallLoaded s names rows samples sites clipped clip lent reference) where
+  -- sites are few
+  pub sites-few : sites ≤ maxSites
+  sites-few = omega (arith, call .all-sites, call .loaded .sound .cohort .few-sites)
+
+  module _ {zeros firsts : List ℕ} {n : ℕ} (long : length zeros ≡ maxSites)
+      (o : ContigOrder s rows (call .loaded .input .cohort .sites) zeros firsts n) where
+    contigs-few : length (o .firsts) ≤ length zeros
+    unfolding contigsOf
+    contigs-few =
+        let many : length (o .firsts) ≡ length (contigsOf (call .loaded .input .cohort .sites)) = sym (length-map (o .firsts) _) ∙ ap length (o .names) in
+        let few = ascending-few compareBytes (map (λ (x : Site). x .contig) (call .loaded .input .cohort .sites)) in
+        omega (arith, many, few, length-map (call .loaded .input .cohort .sites) (λ (x : Site). x .contig), call .loaded .sound .cohort .few-sites)
+
+    all-stored : firsts ≡ o .firsts ++ drop (length (o .firsts)) zeros
+    all-stored = o .stored ∙ sets-front zeros (o .firsts) contigs-few
+
+    pub firsts-within : n ≤ length firsts
+    firsts-within = omega (arith, o .counted, ap length all-stored ∙ length-append (o .firsts) (drop (length (o .firsts)) zeros))
+
+    firsts-are : take n firsts ≡ o .firsts
+    firsts-are = rw (o .counted, all-stored) (take-append-seam (o .firsts) _)
+
+    module _ {order runs : List ℕ} (few : length order ≤ maxSites) (g : Runs order runs samples (sampleSites rows sites)) where
+      pub list-ready : ListReady s names rows samples clipped clip lent reference (take n firsts) order runs
+      list-ready = record {
+        tables = record { loaded = call .loaded; clip-given = call .clip-given; grouped = rw (← call .all-sites) g; few = few };
+        in-order = rw firsts-are (o .names);
+        firsts = rw firsts-are (every-map (λ i h. record { known = h .0; own = h .1 }) (o .each));
+        header = call .header;
+        names-are = call .names-are;
+      }
+
+      pub loaded-answered : (scratch : ℕ) {out out′ : List ℕ} {r : Outcome}
+          → ((ready : ListReady s names rows samples clipped clip lent reference (take n firsts) order runs)
+          → Answered (listWithin (ready .tables .loaded) scratch (length out)) out out′ r)
+          → Answered (listWithin (call .loaded) scratch (length out)) out out′ r
+      unfolding list-ready
+      loaded-answered scratch says = says list-ready
+
+-- ---- a text that may be left out
+
+module _ {A : Type 0} (read : List Line → Checked A) (s : List ℕ) where
+  -- its groups, if it is there
+  pub record Optional (lent : Bool) : Type 0 where
+    pub groups : List A
+    pub all : optionalGroups read (onlyIf lent s) ≡ accepted (onlyIf lent groups)
+    pub from : lent ≡ true → GroupsFrom read s 0 groups
+
+  pub optional-in-order : (lent : Bool) → isAccepted (optionalGroups read (onlyIf lent s)) ≡ true → Optional lent
+  unfolding onlyIf optionalGroups
+  optional-in-order true h = let (groups, e, from) = in-order read s h in record { groups = groups; all = e; from = λ _. from }
+  optional-in-order false h = record { groups = []; all = refl; from = λ e. clash e refl }
+
+  pub optional-refused : (lent : Bool) → isAccepted (optionalGroups read (onlyIf lent s)) ≡ false
+      → optionalGroups read (onlyIf lent s) ≡ refused 9
+  unfolding onlyIf optionalGroups isAccepted
+  optional-refused true h = not-in-order read s h
+  optional-refused false h = clash {b = true} refl h
+
+-- ---- refusals
+
+-- the letters of a reference, if there is one in order
+lettersOf : Checked (Option (List ReferenceSegment)) → LetterChoice
+lettersOf (refused n) = firstLetter []
+lettersOf (accepted none) = firstLetter []
+lettersOf (accepted (some segments)) = firstLetter segments
+
+pub texts-refused : {t : Texts} {scratch row : ℕ} {out out′ : List ℕ} → inputOf t ≡ refused row → out′ ≡ out
+    → TextsAnswered t scratch out out′ (outcome.Refused row)
+unfolding combinedList ChoiceFor lettersOf
+texts-refused {t} e same = record {
+  choose = lettersOf (optionalGroups segmentOf (t .reference));
+  choice = λ reference p. rw p (first-letter reference);
+  answered = answered-refused (then-refused _ _ e) same;
+}
+
+module _ (cohort : List ℕ) (clipped : Bool) (clip : List ℕ) (lent : Bool) (reference : List ℕ) where
+  -- a text is too long
+  too-long : (fits cohort && missingOr fits (onlyIf clipped clip) && missingOr fits (onlyIf lent reference)) ≡ false
+      → inputOf (textsOf cohort clipped clip lent reference) ≡ refused 2
+  unfolding inputOf
+  too-long e = not-required 2 _ _ e
+
+  pub cohort-long : missingOr fits (onlyIf true cohort) ≡ false → inputOf (textsOf cohort clipped clip lent reference) ≡ refused 2
+  unfolding missingOr onlyIf
+  cohort-long e = too-long (rw e)
+
+  pub clip-long : missingOr fits (onlyIf clipped clip) ≡ false → inputOf (textsOf cohort clipped clip lent reference) ≡ refused 2
+  clip-long e = too-long (rw e (go (fits cohort)))
+    where
+      go : (b : Bool) → (b && false && missingOr fits (onlyIf lent reference)) ≡ false
+      go true = refl
+      go false = refl
+
+  pub reference-long : missingOr fits (onlyIf lent reference) ≡ false → inputOf (textsOf cohort clipped clip lent reference) ≡ refused 2
+  reference-long e = too-long (rw e (go (fits cohort) (missingOr fits (onlyIf clipped clip))))
+    where
+      go : (b d : Bool) → (b && d && false) ≡ false
+      go true true = refl
+      go true false = refl
+      go false d = refl
+
+  pub none-long : missingOr fits (onlyIf true cohort) ≡ true → missingOr fits (onlyIf clipped clip) ≡ true
+      → missingOr fits (onlyIf lent reference) ≡ true → TextsFit cohort clipped clip lent reference
+  unfolding missingOr onlyIf
+  none-long e f g = rw (e, f, g)
+
+  module _ (fit : TextsFit cohort clipped clip lent reference) where
+    -- the cohort is refused
+    pub cohort-refused : {row : ℕ} → fittingCohort cohort ≡ refused row → inputOf (textsOf cohort clipped clip lent reference) ≡ refused row
+    unfolding inputOf fittingCohort
+    cohort-refused e =
+        let (short, _, _) = all-three (fits cohort) (missingOr fits (onlyIf clipped clip)) (missingOr fits (onlyIf lent reference)) fit in
+        required 2 _ _ fit (then-refused _ _ (sym (required 2 _ (cohortOf cohort) short refl) ∙ e))
+
+    pub cohort-held : {names₀ names rows₀ rows : List ℕ} {samples sites : ℕ} → 2 * maxSamples ≤ length names
+        → CohortTo cohort names₀ names rows₀ rows samples sites → CohortHeld cohort names rows samples sites clipped clip lent reference
+    unfolding fittingCohort
+    cohort-held room c = after-required _ _ _ (c .value) λ short e.
+        record { all-fit = fit; value = e; table = c .table; few = c .few-samples; in-table = omega (arith, c .few-samples) }
+
+-- ---- texts in order
+
+module _ {s names rows : List ℕ} {samples sites : ℕ} {clipped : Bool} {clip : List ℕ} {lent : Bool} {reference : List ℕ}
+    (held : CohortHeld s names rows samples sites clipped clip lent reference) where
+  texts : Texts
+  texts = textsOf s clipped clip lent reference
+
+  pub clip-refused : isAccepted (optionalGroups spanOf (onlyIf clipped clip)) ≡ false → inputOf (textsOf s clipped clip lent reference) ≡ refused 9
+  unfolding inputOf
+  clip-refused e = required 2 _ _ (held .all-fit) (then _ _ (held .value) (then-refused _ _ (optional-refused spanOf clip clipped e)))
+
+  module _ (c : Optional spanOf clip clipped) where
+    pub reference-refused : isAccepted (optionalGroups segmentOf (onlyIf lent reference)) ≡ false
+        → inputOf (textsOf s clipped clip lent reference) ≡ refused 9
+    unfolding inputOf
+    reference-refused e =
+        required 2 _ _ (held .all-fit)
+        (then _ _ (held .value) (then _ _ (c .all) (then-refused _ _ (optional-refused segmentOf reference lent e))))
+
+    module _ (r : Optional segmentOf reference lent) where
+      input : Input
+      input = record {
+        cohort = record { names = namesIn s names samples; sites = sitesIn s rows sites };
+        clip = onlyIf clipped (c .groups);
+        reference = onlyIf lent (r .groups);
+      }
+
+      input-read : inputOf texts ≡ accepted input
+      unfolding inputOf texts input
+      input-read = required 2 _ _ (held .all-fit) (then _ _ (held .value) (then _ _ (c .all) (then _ _ (r .all) refl)))
+
+      names-length : samples ≡ length (namesIn s names samples)
+      unfolding namesIn
+      names-length = sym (length-map (numbersFrom 0 samples) (nameAt s names) ∙ length-numbers 0 samples)
+
+      sites-length : sites ≡ length (sitesIn s rows sites)
+      unfolding sitesIn
+      sites-length = sym (length-map (numbersFrom 0 sites) (siteAt s rows) ∙ length-numbers 0 sites)
+
+      pub call-loaded : CallLoaded s names rows samples sites clipped clip lent reference
+      unfolding input
+      call-loaded =
+          let sound = input-sound texts input input-read .sound in
+          record {
+            loaded = record {
+              input = input;
+              table = held .table;
+              names = names-length;
+              few = held .few;
+              segments = r .groups;
+              segments-from = r .from;
+              reference-is = refl;
+              sound = sound;
+            };
+            clip-given = record { spans = c .groups; spans-from = c .from; clip-is = refl };
+            header = record {
+              in-table = held .in-table;
+              few = held .few;
+              named = every-of-each (λ before n (h : NameAfter before n). h .name) (sound .cohort .names .sound);
+            };
+            names-are = refl;
+            all-sites = sites-length;
+          }
+
+      choice-for : ChoiceFor texts (firstLetter (r .groups))
+      unfolding ChoiceFor texts onlyIf
+      choice-for segments e = go lent (accepted-same (sym (r .all) ∙ e))
+        where
+          go : (b : Bool) → onlyIf b (r .groups) ≡ some segments → ChoiceFrom segments (firstLetter (r .groups))
+          go true e = let same : r .groups ≡ segments = cc in rw (← same) (first-letter (r .groups))
+          go false e = let z : _≡_ {A = ℕ} 0 1 = cc in absurd (omega arith)
+
+      pub texts-answered : (scratch : ℕ) {out out′ : List ℕ} {o : Outcome}
+          → ((call : CallLoaded s names rows samples sites clipped clip lent reference)
+          → Answered (listWithin (call .loaded) scratch (length out)) out out′ o)
+          → TextsAnswered (textsOf s clipped clip lent reference) scratch out out′ o
+      unfolding call-loaded texts combinedList
+      texts-answered scratch {out = out} {out′ = out′} {o = o} says = record {
+        choose = firstLetter (r .groups);
+        choice = choice-for;
+        answered = subst (λ (list : Checked (List ℕ)). Answered list out out′ o) (sym (then _ _ input-read refl)) (says call-loaded);
+      }
+
+-- ---- tables that are long enough
+
+pub no-room-never : {R : Type 0} {names₀ names rows₀ rows : List ℕ} → length names₀ ≡ 2 * maxSamples → length rows₀ ≡ maxSites * rowLength
+    → CohortUnread names₀ names rows₀ rows → R
+no-room-never e f u = ⊎-elim (λ h. absurd (omega arith)) (λ h. absurd (omega arith)) (u .no-room)
+
+-- ---- scratch
+
+pub cleared-same : (a b : List ℕ) → length a ≡ length b → scratchAfter a ≡ scratchAfter b
+unfolding scratchAfter
+cleared-same [] [] e = refl
+cleared-same [] (y ∷ b) e = absurd (omega arith)
+cleared-same (x ∷ a) [] e = absurd (omega arith)
+cleared-same (x ∷ a) (y ∷ b) e = ap (λ (l : List ℕ). 0 ∷ l) (cleared-same a b (omega arith))
+
+pub combined : {t : Texts} {scratch : List ℕ} (scratch₁ : List ℕ) {scratch′ out out′ : List ℕ} {r : Outcome} → TextsAnswered t (length scratch) out out′ r
+    → length scratch₁ ≡ length scratch → scratch′ ≡ scratchAfter scratch₁ → Combined t scratch scratch′ out out′ r
+combined {scratch = scratch} scratch₁ a same cleared = record {
+  choose = a .choose;
+  choice = a .choice;
+  answer = a .answered .answer;
+  output = a .answered .output;
+  cleared = cleared ∙ cleared-same scratch₁ scratch same;
+}

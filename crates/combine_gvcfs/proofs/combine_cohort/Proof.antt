@@ -1,0 +1,50 @@
+-- Clip and reference are in order or refused with 9; then the list is that of the input.
+use borrow.Author.Needs.{needs}
+use borrow.Author.Tests.{not-false, not-true}
+use mathlib.Core.Path.{_∙_, refl, sym}
+use Rattle.combine_gvcfs.proofs.Loading.{call-loaded, clip-refused, optional-in-order, reference-refused, texts-answered, texts-refused}
+use Rattle.definitions.specs.ClipAndReference.{segmentOf, spanOf}
+use Rattle.combine_gvcfs.proofs.combine_cohort.Statement.{statement}
+use Rattle.combine_gvcfs.proofs.combine_cohort.Tie as tie
+
+clip-in-order-requires : tie.Need-clip-in-order-requires
+clip-in-order-requires c κs = search needs
+
+returns : tie.Need-returns
+returns c = texts-refused (clip-refused ((c .before .before .before .before .before .before .before .before .before .pre)) (sym ((c .before .clip-in-order .ensures)) ∙ not-true _ ((c .if1 .taken)))) refl
+
+reference-in-order-requires : tie.Need-reference-in-order-requires
+reference-in-order-requires c κs = search needs
+
+returns-2 : tie.Need-returns-2
+returns-2 c = let spans = optional-in-order spanOf _ _ (sym ((c .before .before .before .clip-in-order .ensures)) ∙ not-false _ ((c .before .before .if1 .left))) in
+    texts-refused (reference-refused ((c .before .before .before .before .before .before .before .before .before .before .before .pre)) spans (sym ((c .before .reference-in-order .ensures)) ∙ not-true _ ((c .if2 .taken)))) refl
+
+combine-loaded-requires : tie.Need-combine-loaded-requires
+combine-loaded-requires c κs = let spans = optional-in-order spanOf _ _ (sym ((c .before .before .before .before .before .clip-in-order .ensures)) ∙ not-false _ ((c .before .before .before .before .if1 .left))) in
+    let segments = optional-in-order segmentOf _ _ (sym ((c .before .before .before .reference-in-order .ensures)) ∙ not-false _ ((c .before .before .if2 .left))) in
+    call-loaded ((c .before .before .before .before .before .before .before .before .before .before .before .before .before .pre)) spans segments
+
+same-length : tie.Need-same-length
+same-length c = search needs
+
+same-length-2 : tie.Need-same-length-2
+same-length-2 c = search needs
+
+returns-3 : tie.Need-returns-3
+returns-3 c = let spans = optional-in-order spanOf _ _ (sym ((c .before .before .before .before .before .before .before .before .before .before .clip-in-order .ensures)) ∙ not-false _ ((c .before .before .before .before .before .before .before .before .before .if1 .left))) in
+    let segments = optional-in-order segmentOf _ _ (sym ((c .before .before .before .before .before .before .before .before .reference-in-order .ensures)) ∙ not-false _ ((c .before .before .before .before .before .before .before .if2 .left))) in
+    texts-answered ((c .before .before .before .before .before .before .before .before .before .before .before .before .before .before .before .before .before .before .pre)) spans segments _ ((c .before .before .before .before .combine-loaded .ensures))
+
+pub combine-cohort-spec : {M : Type 1} → statement M
+combine-cohort-spec =
+    tie.close
+    (tie.spec
+    clip-in-order-requires
+    returns
+    reference-in-order-requires
+    returns-2
+    combine-loaded-requires
+    same-length
+    same-length-2
+    returns-3)

@@ -1,0 +1,108 @@
+-- What a call answers, and what its buffers hold at the end.
+use Prim.Native.Nat.{_*_, _≤_, ℕ}
+use lib.ListN.{length}
+use mathlib.Core.Bool.{Bool, _&&_, true}
+use mathlib.Core.List.{List, flatMap, map}
+use mathlib.Core.Path.{_≡_}
+use Rattle.cohort.specs.Cohort.{sitesIn}
+use Rattle.definitions.specs.Answers.{Answer, answerOf, outputAfter, scratchAfter}
+use Rattle.definitions.specs.Checked.{Checked, _>>=_, accepted, within}
+use Rattle.definitions.specs.ClipAndReference.{LetterChoice}
+use Rattle.definitions.specs.Cohort.{cohortOf}
+use Rattle.definitions.specs.CombinedList.{ChoiceFor, Texts, combinedList, fits, listOf}
+use Rattle.definitions.specs.Intervals.{contigsOf}
+use Rattle.definitions.specs.Limits.{maxSamples}
+use Rattle.definitions.specs.Lists.{missingOr, onlyIf}
+use Rattle.definitions.specs.Printed.{printedList, printedRecord}
+use Rattle.definitions.specs.Records.{Record}
+use Rattle.laws.proofs.Every.{Every}
+use Rattle.list_header.specs.HeaderNames.{HeaderNames}
+use Rattle.merged_records.specs.Loaded.{Loaded, chosenLetters}
+use Rattle.tables.specs.Tables.{SiteRows, namesIn, partAt}
+use Rattle.combine_gvcfs.specs.Contigs.{Grouped, IsFirst, allRecords}
+use Rattle.contig_walk.specs.Walk.{ClipGiven}
+use Rattle.combine_gvcfs.specs.declared.Outcome.{Outcome}
+use Rattle.combine_gvcfs.specs.declared.Outcome.the-variants as outcome
+
+-- ---- the answer
+
+abbrev pub outcomeAnswer : Outcome → Answer
+outcomeAnswer (outcome.Written n) = record { number = 0; written = n }
+outcomeAnswer (outcome.Refused row) = record { number = row; written = 0 }
+
+-- the answer is that of this list, and so is what the output holds at the end
+pub record Answered (list : Checked (List ℕ)) (out out′ : List ℕ) (r : Outcome) : Type 0 where
+  pub answer : outcomeAnswer r ≡ answerOf list
+  pub output : out′ ≡ outputAfter list out
+
+-- the texts of a call
+abbrev pub textsOf : List ℕ → Bool → List ℕ → Bool → List ℕ → Texts
+textsOf cohort clipped clip lent reference =
+    record { cohort = cohort; clip = onlyIf clipped clip; reference = onlyIf lent reference }
+
+-- the answer for these texts, with some choice of reference letters
+pub record TextsAnswered (texts : Texts) (scratch : ℕ) (out out′ : List ℕ) (r : Outcome) : Type 0 where
+  pub choose : LetterChoice
+  pub choice : ChoiceFor texts choose
+  pub answered : Answered (combinedList texts scratch (length out) choose) out out′ r
+
+-- what a call promises
+pub record Combined (texts : Texts) (scratch scratch′ out out′ : List ℕ) (r : Outcome) : Type 0 where
+  pub choose : LetterChoice
+  pub choice : ChoiceFor texts choose
+  pub answer : outcomeAnswer r ≡ answerOf (combinedList texts (length scratch) (length out) choose)
+  pub output : out′ ≡ outputAfter (combinedList texts (length scratch) (length out) choose) out
+  pub cleared : scratch′ ≡ scratchAfter scratch
+
+-- ---- texts
+
+-- no text is too long
+abbrev pub TextsFit : List ℕ → Bool → List ℕ → Bool → List ℕ → Type 0
+TextsFit cohort clipped clip lent reference =
+    (fits cohort && missingOr fits (onlyIf clipped clip) && missingOr fits (onlyIf lent reference)) ≡ true
+
+-- and the tables hold the cohort
+pub record CohortHeld (s names rows : List ℕ) (samples sites : ℕ) (clipped : Bool) (clip : List ℕ) (lent : Bool) (reference : List ℕ) : Type 0 where
+  pub all-fit : TextsFit s clipped clip lent reference
+  pub value : cohortOf s ≡ accepted (record { names = namesIn s names samples; sites = sitesIn s rows sites })
+  pub table : SiteRows s rows (sitesIn s rows sites)
+  pub few : samples ≤ maxSamples
+  pub in-table : 2 * samples ≤ length names
+
+-- ---- texts in order
+
+-- the tables hold the cohort, and clip and reference are in order
+pub record CallLoaded (s names rows : List ℕ) (samples sites : ℕ) (clipped : Bool) (clip : List ℕ) (lent : Bool) (reference : List ℕ) : Type 0 where
+  pub loaded : Loaded s rows samples lent reference
+  pub clip-given : ClipGiven clipped clip (loaded .input)
+  pub header : HeaderNames s names samples
+  pub names-are : loaded .input .cohort .names ≡ namesIn s names samples
+  pub all-sites : sites ≡ length (loaded .input .cohort .sites)
+
+-- the list of an input, if there is so much room
+abbrev pub listWithin : {s rows : List ℕ} {samples : ℕ} {lent : Bool} {reference : List ℕ}
+    → Loaded s rows samples lent reference → ℕ → ℕ → Checked (List ℕ)
+listWithin l scratch room = listOf (l .input) (chosenLetters l) scratch >>= within room
+
+-- the same with the sites grouped by sample, and the contigs by their first sites, in byte order of name
+pub record ListReady (s names rows : List ℕ) (samples : ℕ) (clipped : Bool) (clip : List ℕ) (lent : Bool) (reference contigs order bounds : List ℕ) : Type 0 where
+  pub tables : Grouped s rows samples clipped clip lent reference order bounds
+  pub in-order : map (partAt 7 8 s rows) contigs ≡ contigsOf (tables .loaded .input .cohort .sites)
+  pub firsts : Every (IsFirst tables) contigs
+  pub header : HeaderNames s names samples
+  pub names-are : tables .loaded .input .cohort .names ≡ namesIn s names samples
+
+-- and with all records, which were measured
+pub record Measurement (s names rows : List ℕ) (samples : ℕ) (clipped : Bool) (clip : List ℕ) (lent : Bool) (reference contigs order bounds : List ℕ)
+    (scratch len count : ℕ) : Type 0 where
+  pub ready : ListReady s names rows samples clipped clip lent reference contigs order bounds
+  pub records : List Record
+  pub merged : allRecords (ready .tables) scratch ≡ accepted records
+  pub len-is : len ≡ length (flatMap printedRecord records)
+  pub count-is : count ≡ length records
+
+-- the list of those records
+abbrev pub listTo : {s names rows : List ℕ} {samples : ℕ} {clipped : Bool} {clip : List ℕ} {lent : Bool}
+    {reference contigs order bounds : List ℕ} {scratch len count : ℕ}
+    → Measurement s names rows samples clipped clip lent reference contigs order bounds scratch len count → List ℕ
+listTo m = printedList (m .ready .tables .loaded .input .cohort .names) (m .records)

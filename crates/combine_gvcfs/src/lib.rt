@@ -1,0 +1,465 @@
+// The combined list: breakpoint by breakpoint, contig by contig, and the library's entry.
+ghost use Prim.Native.Nat.{_≤_, ℕ};
+ghost use lib.ListN.{length};
+ghost use mathlib.Core.List.{List};
+ghost use mathlib.Core.Path.{_≡_};
+ghost use Rattle.definitions.specs.Checked.{isAccepted, within};
+ghost use Rattle.definitions.specs.ClipAndReference.{optionalGroups, segmentOf, spanOf};
+ghost use Rattle.definitions.specs.CombinedList.{fits};
+ghost use Rattle.definitions.specs.Lists.{missingOr, onlyIf};
+ghost use Rattle.list_header.specs.Measured.{limit};
+ghost use Rattle.merged_records.specs.Loaded.{chosenLetters};
+ghost use Rattle.combine_gvcfs.specs.Combined.{Answered, CallLoaded, Combined, CohortHeld, ListReady, Measurement, TextsAnswered, TextsFit, listTo, listWithin, textsOf};
+ghost use Rattle.combine_gvcfs.specs.Contigs.{AllReady, OneReady, RecordsWalked, allRecords, givenClip, recordsOn};
+use cohort::CohortRead;
+use contig_walk::Walked;
+use intervals::Breakpoints;
+
+// The clip text, or an empty part of it if there is no clip.
+fn given_clip<'a>(clipped: bool, clip: &'a [u8]) -> &'a [u8]
+    ensures { λ r. ⌜ now r ≡ givenClip clipped (now (clip .entry)) ⌝ }
+{
+    if clipped {
+        return clip;
+    }
+    &clip[..0]
+}
+
+// Lays the records of a contig, which is named by the number of its first site: rows 10 to 13.
+fn walk_one<'a>(
+    s: &'a [u8],
+    rows: &[usize],
+    samples: usize,
+    clipped: bool,
+    clip: &[u8],
+    lent: bool,
+    reference: &'a [u8],
+    first: usize,
+    order: &[usize],
+    runs: &[usize],
+    scratch: &mut [u64],
+    out: &mut [u8],
+    at: usize,
+    count: usize,
+) -> Walked
+    requires { ⌜ OneReady (now s) (now rows) samples clipped (now clip) lent (now reference) first (now order) (now runs) (now out) at count ⌝ }
+    ensures { λ r. ⌜ ((ready : OneReady (now (s .entry)) (now (rows .entry)) samples clipped (now (clip .entry)) lent (now (reference .entry)) first (now (order .entry)) (now (runs .entry)) (now (out .entry)) at count)
+        → RecordsWalked (recordsOn (ready .tables) (length (now (scratch .entry))) first) (ready .d₀) (ready .bytes) (ready .records) (now (out .exit)) r) ⌝ }
+{
+    let mut chosen = [0usize; 4096];
+    let mut bounds = [0usize; 65];
+    covering_sites::select_contig(rows, order, runs, samples, first, &mut chosen, &mut bounds);
+    let end = bounds[samples];
+    let contig = tables::contig_name(s, rows, first);
+    let spans = given_clip(clipped, clip);
+    let found = intervals::collect_breakpoints(rows, &chosen[..end], spans, contig, scratch);
+    match found {
+        Breakpoints::NoRoom => Walked::Refused(10),
+        Breakpoints::Count(n) => contig_walk::walk_contig(
+            s,
+            rows,
+            samples,
+            clipped,
+            clip,
+            lent,
+            reference,
+            contig,
+            &chosen,
+            &bounds,
+            &scratch[..n],
+            out,
+            at,
+            count,
+        ),
+    }
+}
+
+// Lays the records of all contigs, which are named by the numbers of their first sites, in byte order: rows 10 to 13.
+fn walk_contigs<'a>(
+    s: &'a [u8],
+    rows: &[usize],
+    samples: usize,
+    clipped: bool,
+    clip: &[u8],
+    lent: bool,
+    reference: &'a [u8],
+    contigs: &[usize],
+    order: &[usize],
+    runs: &[usize],
+    scratch: &mut [u64],
+    out: &mut [u8],
+    at: usize,
+) -> Walked
+    requires { ⌜ AllReady (now s) (now rows) samples clipped (now clip) lent (now reference) (now contigs) (now order) (now runs) (now out) at ⌝ }
+    ensures { λ r. ⌜ ((ready : AllReady (now (s .entry)) (now (rows .entry)) samples clipped (now (clip .entry)) lent (now (reference .entry)) (now (contigs .entry)) (now (order .entry)) (now (runs .entry)) (now (out .entry)) at)
+        → RecordsWalked (allRecords (ready .tables) (length (now (scratch .entry)))) (ready .d₀) (ready .bytes) 0 (now (out .exit)) r) ⌝ }
+{
+    let mut next = at;
+    let mut count = 0;
+    for c in 0..contigs.len() {
+        let first = contigs[c];
+        let walked = walk_one(
+            s,
+            rows,
+            samples,
+            clipped,
+            clip,
+            lent,
+            reference,
+            first,
+            order,
+            runs,
+            scratch,
+            out,
+            next,
+            count,
+        );
+        match walked {
+            Walked::Refused(row) => {
+                return Walked::Refused(row);
+            }
+            Walked::To(after, more) => {
+                next = after;
+                count = more;
+            }
+        }
+    }
+    Walked::To(next, count)
+}
+
+// Writes the list that was measured, of so many bytes and records, over a buffer that has room for it and no more.
+fn write_list<'a>(
+    s: &'a [u8],
+    names: &[usize],
+    rows: &[usize],
+    samples: usize,
+    clipped: bool,
+    clip: &[u8],
+    lent: bool,
+    reference: &'a [u8],
+    contigs: &[usize],
+    order: &[usize],
+    runs: &[usize],
+    scratch: &mut [u64],
+    out: &mut [u8],
+    len: usize,
+    count: usize,
+)
+    requires { ⌜ Measurement (now s) (now names) (now rows) samples clipped (now clip) lent (now reference) (now contigs) (now order) (now runs) (length (now scratch)) len count × (length (now out) ≤ limit) ⌝ }
+    ensures { λ _. ⌜ ((m : Measurement (now (s .entry)) (now (names .entry)) (now (rows .entry)) samples clipped (now (clip .entry)) lent (now (reference .entry)) (now (contigs .entry)) (now (order .entry)) (now (runs .entry)) (length (now (scratch .entry))) len count)
+        → length (now (out .entry)) ≡ length (listTo m) → now (out .exit) ≡ listTo m) ⌝ }
+{
+    let at = list_header::put_header(s, names, samples, count as u32, out);
+    walk_contigs(
+        s,
+        rows,
+        samples,
+        clipped,
+        clip,
+        lent,
+        reference,
+        contigs,
+        order,
+        runs,
+        scratch,
+        out,
+        at,
+    );
+}
+
+// The number of bytes of a list, or the row that refuses it.
+pub enum Outcome {
+    Written(usize),
+    Refused(usize),
+}
+
+// Writes the list whose records were measured: row 14 if it has more bytes than there is room for.
+fn write_measured<'a>(
+    s: &'a [u8],
+    names: &[usize],
+    rows: &[usize],
+    samples: usize,
+    clipped: bool,
+    clip: &[u8],
+    lent: bool,
+    reference: &'a [u8],
+    contigs: &[usize],
+    order: &[usize],
+    runs: &[usize],
+    scratch: &mut [u64],
+    out: &mut [u8],
+    len: usize,
+    count: usize,
+) -> Outcome
+    requires { ⌜ Measurement (now s) (now names) (now rows) samples clipped (now clip) lent (now reference) (now contigs) (now order) (now runs) (length (now scratch)) len count ⌝ }
+    ensures { λ r. ⌜ ((m : Measurement (now (s .entry)) (now (names .entry)) (now (rows .entry)) samples clipped (now (clip .entry)) lent (now (reference .entry)) (now (contigs .entry)) (now (order .entry)) (now (runs .entry)) (length (now (scratch .entry))) len count)
+        → Answered (within (length (now (out .entry))) (listTo m)) (now (out .entry)) (now (out .exit)) r) ⌝ }
+{
+    let header = list_header::put_header(s, names, samples, count as u32, &mut out[..0]);
+    let end = header + len;
+    if out.len() < end {
+        return Outcome::Refused(14);
+    }
+    write_list(
+        s,
+        names,
+        rows,
+        samples,
+        clipped,
+        clip,
+        lent,
+        reference,
+        contigs,
+        order,
+        runs,
+        scratch,
+        &mut out[..end],
+        len,
+        count,
+    );
+    Outcome::Written(end)
+}
+
+// Writes the list of an input in order, from its contigs and its grouped sites: rows 10 to 14. The records are measured before
+// anything is written.
+fn combine_contigs<'a>(
+    s: &'a [u8],
+    names: &[usize],
+    rows: &[usize],
+    samples: usize,
+    clipped: bool,
+    clip: &[u8],
+    lent: bool,
+    reference: &'a [u8],
+    contigs: &[usize],
+    order: &[usize],
+    runs: &[usize],
+    scratch: &mut [u64],
+    out: &mut [u8],
+) -> Outcome
+    requires { ⌜ ListReady (now s) (now names) (now rows) samples clipped (now clip) lent (now reference) (now contigs) (now order) (now runs) ⌝ }
+    ensures { λ r. ⌜ ((ready : ListReady (now (s .entry)) (now (names .entry)) (now (rows .entry)) samples clipped (now (clip .entry)) lent (now (reference .entry)) (now (contigs .entry)) (now (order .entry)) (now (runs .entry)))
+        → Answered (listWithin (ready .tables .loaded) (length (now (scratch .entry))) (length (now (out .entry)))) (now (out .entry)) (now (out .exit)) r) ⌝ }
+{
+    let measured = walk_contigs(
+        s,
+        rows,
+        samples,
+        clipped,
+        clip,
+        lent,
+        reference,
+        contigs,
+        order,
+        runs,
+        scratch,
+        &mut out[..0],
+        0,
+    );
+    match measured {
+        Walked::Refused(row) => Outcome::Refused(row),
+        Walked::To(len, count) => write_measured(
+            s,
+            names,
+            rows,
+            samples,
+            clipped,
+            clip,
+            lent,
+            reference,
+            contigs,
+            order,
+            runs,
+            scratch,
+            out,
+            len,
+            count,
+        ),
+    }
+}
+
+// Writes the list of an input in order, from its tables: rows 10 to 14.
+fn combine_loaded<'a>(
+    s: &'a [u8],
+    names: &[usize],
+    rows: &[usize],
+    samples: usize,
+    sites: usize,
+    clipped: bool,
+    clip: &[u8],
+    lent: bool,
+    reference: &'a [u8],
+    scratch: &mut [u64],
+    out: &mut [u8],
+) -> Outcome
+    requires { ⌜ CallLoaded (now s) (now names) (now rows) samples sites clipped (now clip) lent (now reference) ⌝ }
+    ensures { λ r. ⌜ ((call : CallLoaded (now (s .entry)) (now (names .entry)) (now (rows .entry)) samples sites clipped (now (clip .entry)) lent (now (reference .entry)))
+        → Answered (listWithin (call .loaded) (length (now (scratch .entry))) (length (now (out .entry)))) (now (out .entry)) (now (out .exit)) r) ⌝ }
+{
+    let mut order = [0usize; 4096];
+    let mut runs = [0usize; 65];
+    covering_sites::group_by_sample(rows, sites, samples, &mut order, &mut runs);
+    let mut firsts = [0usize; 4096];
+    let count = contigs::order_contigs(s, rows, sites, &mut firsts);
+    combine_contigs(
+        s,
+        names,
+        rows,
+        samples,
+        clipped,
+        clip,
+        lent,
+        reference,
+        &firsts[..count],
+        &order,
+        &runs,
+        scratch,
+        out,
+    )
+}
+
+// Whether a text, if it is lent, is short enough.
+fn is_short(lent: bool, text: &[u8]) -> bool
+    ensures { λ r. ⌜ r ≡ missingOr fits (onlyIf lent (now (text .entry))) ⌝ }
+{
+    if lent {
+        return text.len() <= 16777216;
+    }
+    true
+}
+
+// Whether the clip, if it is lent, is in order.
+fn clip_in_order(clipped: bool, clip: &[u8]) -> bool
+    ensures { λ r. ⌜ r ≡ isAccepted (optionalGroups spanOf (onlyIf clipped (now (clip .entry)))) ⌝ }
+{
+    if clipped {
+        return clip_and_reference::check_clip(clip);
+    }
+    true
+}
+
+// Whether the reference, if it is lent, is in order.
+fn reference_in_order(lent: bool, reference: &[u8]) -> bool
+    ensures { λ r. ⌜ r ≡ isAccepted (optionalGroups segmentOf (onlyIf lent (now (reference .entry)))) ⌝ }
+{
+    if lent {
+        return clip_and_reference::check_reference(reference);
+    }
+    true
+}
+
+// Writes the list of texts that are short enough, from the tables of the cohort: rows 9 to 14.
+fn combine_cohort<'a>(
+    s: &'a [u8],
+    names: &[usize],
+    rows: &[usize],
+    samples: usize,
+    sites: usize,
+    clipped: bool,
+    clip: &[u8],
+    lent: bool,
+    reference: &'a [u8],
+    scratch: &mut [u64],
+    out: &mut [u8],
+) -> Outcome
+    requires { ⌜ CohortHeld (now s) (now names) (now rows) samples sites clipped (now clip) lent (now reference) ⌝ }
+    ensures { λ r. ⌜ TextsAnswered (textsOf (now (s .entry)) clipped (now (clip .entry)) lent (now (reference .entry))) (length (now (scratch .entry))) (now (out .entry)) (now (out .exit)) r ⌝ }
+{
+    if !clip_in_order(clipped, clip) {
+        return Outcome::Refused(9);
+    }
+    if !reference_in_order(lent, reference) {
+        return Outcome::Refused(9);
+    }
+    combine_loaded(
+        s,
+        names,
+        rows,
+        samples,
+        sites,
+        clipped,
+        clip,
+        lent,
+        reference,
+        scratch,
+        out,
+    )
+}
+
+// Writes the list of texts that are short enough: rows 1 to 14.
+fn combine_fitting<'a>(
+    cohort: &'a [u8],
+    clipped: bool,
+    clip: &[u8],
+    lent: bool,
+    reference: &'a [u8],
+    scratch: &mut [u64],
+    out: &mut [u8],
+) -> Outcome
+    requires { ⌜ TextsFit (now cohort) clipped (now clip) lent (now reference) ⌝ }
+    ensures { λ r. ⌜ TextsAnswered (textsOf (now (cohort .entry)) clipped (now (clip .entry)) lent (now (reference .entry))) (length (now (scratch .entry))) (now (out .entry)) (now (out .exit)) r ⌝ }
+{
+    let mut names = [0usize; 128];
+    let mut rows = [0usize; 69632];
+    let read = cohort::read_cohort(cohort, &mut names, &mut rows);
+    match read {
+        CohortRead::NoRoom => Outcome::Refused(2),
+        CohortRead::Refused(row) => Outcome::Refused(row),
+        CohortRead::Cohort(samples, sites) => combine_cohort(
+            cohort,
+            &names,
+            &rows,
+            samples,
+            sites,
+            clipped,
+            clip,
+            lent,
+            reference,
+            scratch,
+            out,
+        ),
+    }
+}
+
+// Writes the combined list of the texts: rows 1 to 14.
+fn combine_texts<'a>(
+    cohort: &'a [u8],
+    clipped: bool,
+    clip: &[u8],
+    lent: bool,
+    reference: &'a [u8],
+    scratch: &mut [u64],
+    out: &mut [u8],
+) -> Outcome
+    ensures { λ r. ⌜ TextsAnswered (textsOf (now (cohort .entry)) clipped (now (clip .entry)) lent (now (reference .entry))) (length (now (scratch .entry))) (now (out .entry)) (now (out .exit)) r ⌝ }
+{
+    if !is_short(true, cohort) {
+        return Outcome::Refused(2);
+    }
+    if !is_short(clipped, clip) {
+        return Outcome::Refused(2);
+    }
+    if !is_short(lent, reference) {
+        return Outcome::Refused(2);
+    }
+    combine_fitting(cohort, clipped, clip, lent, reference, scratch, out)
+}
+
+// The library's entry: writes the combined list of cohort.kv, of clip.kv if it is lent, and of reference.kv if it is lent. A text that
+// is not lent is not looked at. The answer is the list's length, or the row that refuses it, and then `out` is as it was. Scratch,
+// which takes the breakpoints of a contig, is zero at the end.
+pub fn combine<'a>(
+    cohort: &'a [u8],
+    clipped: bool,
+    clip: &[u8],
+    lent: bool,
+    reference: &'a [u8],
+    scratch: &mut [u64],
+    out: &mut [u8],
+) -> Outcome
+    ensures { λ r. ⌜ Combined (textsOf (now (cohort .entry)) clipped (now (clip .entry)) lent (now (reference .entry))) (now (scratch .entry)) (now (scratch .exit)) (now (out .entry)) (now (out .exit)) r ⌝ }
+{
+    let outcome = combine_texts(cohort, clipped, clip, lent, reference, scratch, out);
+    list_header::clear_places(scratch);
+    outcome
+}
