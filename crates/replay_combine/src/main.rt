@@ -1,0 +1,157 @@
+// Runs `combine_gvcfs::combine` over the cases on standard input, and prints what each gave.
+//
+// A case is a line `cohort clip reference lent places room name`, and behind its LF the three texts, with as many bytes as the first three fields
+// say. `lent` is 1 if the clip is lent, 2 if the reference, 3 if both. The call is lent so many places of scratch and so many bytes of output, at
+// most 8,192 and 65,536. The input ends at 524,288 bytes.
+//
+// For each case a line: the name, and `refused=1` or `written=40`, and the list behind it. Before the call all of scratch and output is set. A line
+// tells if scratch isn't zero afterwards, or if the output behind the list, all of it after a refusal, isn't as it was.
+// tools/make_replay_cases.py writes the input, and what is to be printed, from recorded/ and document 01's rules.
+ghost use Prim.Native.Nat.{_≤_, _<_};
+ghost use lib.ListN.{length};
+use combine_gvcfs::Outcome;
+use test_cases::case_at;
+use test_cases::field;
+use test_cases::line_at;
+use test_cases::number_field;
+use test_cases::print;
+use test_cases::print_number;
+use test_cases::print_refused;
+
+// ---- what is lent
+
+// The number in a field, or the most that there is.
+fn count_field(line: &[u8], number: usize, most: usize) -> usize
+    ensures { λ r. ⌜ r ≤ most ⌝ }
+{
+    let n = number_field(line, number);
+    if most < n {
+        return most;
+    }
+    n
+}
+
+// Sets every place to a number that no call leaves there.
+fn set_places(scratch: &mut [u64]) {
+    for i in 0..scratch.len() {
+        scratch[i] = 18446744073709551615;
+    }
+}
+
+// Sets every byte to one that no list has.
+fn set_bytes(out: &mut [u8]) {
+    for i in 0..out.len() {
+        out[i] = 255;
+    }
+}
+
+fn is_zero(scratch: &[u64]) -> bool {
+    for i in 0..scratch.len() {
+        if scratch[i] != 0 {
+            return false;
+        }
+    }
+    true
+}
+
+// Whether every byte is as it was set.
+fn is_set(bytes: &[u8]) -> bool {
+    for i in 0..bytes.len() {
+        if bytes[i] != 255 {
+            return false;
+        }
+    }
+    true
+}
+
+// ---- the answer
+
+// Prints the answer behind the case's name. The answer is how many bytes the list has.
+fn print_outcome(outcome: Outcome, out: &[u8]) -> usize {
+    match outcome {
+        Outcome::Written(count) => {
+            print(b" written=");
+            print_number(count);
+            print(b"\n");
+            print(tables::part(out, 0, count));
+            count
+        }
+        Outcome::Refused(row) => {
+            print_refused(row);
+            0
+        }
+    }
+}
+
+// Prints what is not as it must be behind a list of so many bytes.
+fn print_faults(scratch: &[u64], out: &[u8], count: usize) {
+    if !is_zero(scratch) {
+        print(b"scratch is not zero\n");
+    }
+    if !is_set(tables::part(out, count, out.len())) {
+        print(b"the output has changed behind the list\n");
+    }
+}
+
+// ---- the cases
+
+// The call of a case on what it is lent.
+fn run<'a>(
+    line: &[u8],
+    cohort: &'a [u8],
+    clip: &[u8],
+    reference: &'a [u8],
+    scratch: &mut [u64],
+    out: &mut [u8],
+) {
+    set_places(scratch);
+    set_bytes(out);
+    let lent = number_field(line, 3);
+    let outcome = combine_gvcfs::combine(
+        cohort,
+        lent % 2 == 1,
+        clip,
+        2 <= lent,
+        reference,
+        scratch,
+        out,
+    );
+    let count = print_outcome(outcome, out);
+    print_faults(scratch, out, count);
+}
+
+// The case at an offset; the answer is where the next one begins.
+fn run_case(input: &[u8], at: usize, scratch: &mut [u64], out: &mut [u8]) -> usize
+    requires { ⌜ at < length (now input) ⌝ }
+    ensures { λ r. ⌜ at < r ⌝ }
+{
+    let case = case_at(input, at);
+    let line = line_at(input, at);
+    let places = count_field(line, 4, scratch.len());
+    let room = count_field(line, 5, out.len());
+    print(field(line, 6));
+    run(
+        line,
+        tables::part(input, case.first, case.second),
+        tables::part(input, case.second, case.third),
+        tables::part(input, case.third, case.next),
+        &mut scratch[..places],
+        &mut out[..room],
+    );
+    case.next
+}
+
+fn run_cases(input: &[u8], scratch: &mut [u64], out: &mut [u8]) {
+    let mut at = 0;
+    while at < input.len() {
+        at = run_case(input, at, scratch, out);
+    }
+}
+
+fn main() {
+    let mut input = [0u8; 524288];
+    let mut scratch = [0u64; 8192];
+    let mut out = [0u8; 65536];
+    let count = io::read_full(0, &mut input);
+    run_cases(tables::part(&input, 0, count), &mut scratch, &mut out);
+}

@@ -1,0 +1,361 @@
+"""Writes crates/replay_combine/stdin, calls of the entry, and stdout, what each must give.
+
+Run it in the repository's folder. The calls are of three sorts:
+- recorded: all cases of recorded/combine that are by hand, and the first six of every other sort. The list is the Rust's, as recorded.
+- tight: each recorded case by hand again, with just the scratch and the output that it needs, with a place less (10) and with a byte less (14).
+- by hand, below: refusals, each with its number beside it from reading document 01, and a few calls just inside the rules.
+`judged` is a second reading of the rules, in code: the texts by make_cohort_cases.py, the list by differential/model.py. Every call goes through it,
+and where the two differ the tool stops and names the case. The lists of accepted cases by hand are the model's.
+The tool also stops if the cases no longer cover what COVERED names.
+"""
+import re
+import sys
+from collections import namedtuple
+from pathlib import Path
+
+sys.dont_write_bytecode = True
+import make_cohort_cases as rules
+from make_cohort_cases import BLOCK, ONE, SMALL, SNP, TWO, Refused, check, header, model, pl, site
+
+PLACES, ROOM, INPUT_ROOM = 8192, 65536, 524288  # what the program has room for
+COVERED = {f"refused {n}" for n in range(1, 15)} | {
+    "joined", "clip cuts a block", "deletion over a later position", "*", "REF grows", "missing value", "several contigs", "64 samples",
+    "16 alleles", "letter from the reference", "letter from a sample", "clip keeps nothing", "no records", "a site hides another",
+}
+CLIP, REFERENCE = ("contig", "start", "end"), ("contig", "first", "bases")
+Case = namedtuple("Case", "name cohort clip reference lent places room")
+CASES = []  # each with its answer: a number, a list, or None for a list that the model makes
+
+
+# ---- the rules
+
+
+def span_of(contig, start, end):
+    check(9, 1 <= rules.number(start) <= rules.number(end))
+    return {"contig": rules.name(contig).decode(), "start": int(start), "end": int(end)}
+
+
+def segment_of(contig, first, bases):
+    check(9, 1 <= rules.number(first) and re.fullmatch(rb"[ACGTN]+", bases) and int(first) + len(bases) - 1 <= rules.MOST)
+    return {"contig": rules.name(contig).decode(), "first": int(first), "bases": bases.decode()}
+
+
+def groups(text, keys, group_of):
+    """The groups of a clip or a reference; any fault is 9."""
+    found, lines = [], rules.Lines(text)
+    try:
+        while lines.at < len(text):
+            found.append(group_of(*[lines.value(key)[0] for key in keys]))
+    except Refused:
+        raise Refused(9)
+    return found
+
+
+def taken_at(sites, position):
+    taken = {}
+    for s in sites:
+        if s.start <= position <= s.end:
+            taken.setdefault(s.sample, s)
+    return taken
+
+
+def check_interval(sites, reference, start):
+    """Rows 11 to 13 of an interval, and what it shows. Nothing if no site covers it."""
+    taken = taken_at(sites, start)
+    refs = [s.alleles[0] for s in taken.values() if s.start == start]
+    if taken and not refs and reference is not None:
+        check(11, any(0 <= start - g["first"] < len(g["bases"]) for g in reference))
+    longest = max(refs, key=len, default="")
+    check(12, all(longest.startswith(r) for r in refs))
+    if not taken:
+        return set()
+    ref = model.ref_of(taken, start, reference)
+    alleles = model.merged_alleles(taken, {i: s.read_at(start, ref) for i, s in taken.items()}, start, ref)
+    check(13, len(alleles) <= 16)
+    shown = {
+        "*": "*" in alleles,
+        "16 alleles": len(alleles) == 16,
+        "REF grows": len(set(refs)) > 1,
+        "deletion over a later position": any(s.start < start and min(map(len, s.alleles)) < len(s.alleles[0]) for s in taken.values()),
+        "letter from the reference": not refs and reference is not None,
+        "letter from a sample": not refs and reference is None,
+        "a site hides another": sum(s.start <= start <= s.end for s in sites) > len(taken),
+        "taken": True,
+    }
+    return {what for what, is_so in shown.items() if is_so}
+
+
+def check_contig(sites, clip, reference, places):
+    """Rows 10 to 13 of a contig, what it shows, and how many breakpoints it has."""
+    points = model.breakpoints(sites, clip)
+    check(10, len(points) <= places)
+    shown, covered = set(), 0
+    for start, after in zip(points, points[1:]):
+        if model.kept(clip, start, after - 1):
+            here = check_interval(sites, reference, start)
+            covered += "taken" in here
+            shown |= here - {"taken"}
+    if clip is not None and covered == 0:
+        shown.add("clip keeps nothing")
+    for s in sites:
+        if s.block and any(s.start < c["start"] <= s.end or s.start <= c["end"] < s.end for c in clip or []):
+            shown.add("clip cuts a block")
+    return shown, covered, len(points)
+
+
+def texts_of(case):
+    """The names, sites, clip and reference of a case: rows 1 to 9."""
+    lent = [case.clip if case.lent % 2 else None, case.reference if case.lent >= 2 else None]
+    check(2, all(len(t) <= 16777216 for t in [case.cohort] + [t for t in lent if t is not None]))
+    count, _ = rules.read(case.cohort)
+    clip = None if lent[0] is None else groups(lent[0], CLIP, span_of)
+    reference = None if lent[1] is None else groups(lent[1], REFERENCE, segment_of)
+    pairs = [line.split("=", 1) for line in case.cohort.decode().split("\n")[:-1]]
+    sites = [model.Site(g) for g in model.groups(pairs[1 + count :], 10)]
+    return [name for _, name in pairs[1 : 1 + count]], sites, clip, reference
+
+
+def judged(case):
+    """The list of a call, what it shows, and the most breakpoints of a contig."""
+    names, sites, clip, reference = texts_of(case)
+    contigs = sorted({s.contig for s in sites}, key=str.encode)
+    found, shown, covered, most = [], set(), 0, 0
+    for contig in contigs:
+        here = lambda gs: None if gs is None else [g for g in gs if g["contig"] == contig]
+        parts = [s for s in sites if s.contig == contig], here(clip), here(reference)
+        of_contig, intervals, points = check_contig(*parts, case.places)
+        found += [record.text(contig) for record in model.contig_records(*parts, len(names))]
+        shown, covered, most = shown | of_contig, covered + intervals, max(most, points)
+    text = (model.header(names, len(found)) + "".join(found)).encode()
+    check(14, len(text) <= case.room)
+    whole = {
+        "joined": len(found) < covered,
+        "missing value": any(s.gq == "." or s.pl is None or s.ad is None for s in sites),
+        "several contigs": len(contigs) > 1,
+        "64 samples": len(names) == 64 and sites,
+        "no records": not found,
+    }
+    return text, shown | {what for what, is_so in whole.items() if is_so}, most
+
+
+# ---- recorded and tight cases
+
+
+def texts_in(folder):
+    read = lambda name: (folder / name).read_bytes() if (folder / name).exists() else None
+    clip, reference = read("clip.kv"), read("reference.kv")
+    lent = (clip is not None) + 2 * (reference is not None)
+    return read("cohort.kv"), clip or b"", reference or b"", lent
+
+
+def tight(number, texts, combined):
+    _, _, most = judged(Case("", *texts, PLACES, ROOM))
+    CASES.append((Case(f"tight-{number}", *texts, most, len(combined)), combined))
+    CASES.append((Case(f"tight-{number}-a-byte-less", *texts, most, len(combined) - 1), 14))
+    if most > 0:
+        CASES.append((Case(f"tight-{number}-a-place-less", *texts, most - 1, len(combined)), 10))
+
+
+def recorded_cases():
+    chosen = {}
+    for line in Path("recorded/combine/INDEX.txt").read_text().splitlines():
+        number, sort, *_ = line.split()
+        chosen.setdefault(sort, []).append(number)
+    for sort, numbers in chosen.items():
+        for number in numbers if sort == "by" else numbers[:6]:
+            folder = Path("recorded/combine") / number
+            texts, combined = texts_in(folder), (folder / "combined.kv").read_bytes()
+            CASES.append((Case(f"recorded-{number}", *texts, PLACES, ROOM), combined))
+            if sort == "by":
+                tight(number, texts, combined)
+
+
+# ---- cases by hand
+
+
+def case(title, answer, cohort, clip=None, reference=None, places=PLACES, room=ROOM, lent=None):
+    lent = (clip is not None) + 2 * (reference is not None) if lent is None else lent
+    texts = [(text or "").encode("latin-1") for text in (cohort, clip, reference)]
+    CASES.append((Case(title, *texts, lent, places, room), answer))
+
+
+def lines(keys, *values):
+    return "".join(f"{key}={value}\n" for key, value in zip(keys, values))
+
+
+def span(contig, start, end):
+    return lines(CLIP, contig, start, end)
+
+
+def segment(contig, first, bases):
+    return lines(REFERENCE, contig, first, bases)
+
+
+def one(base=BLOCK, **changes):
+    """A cohort of two samples with one site."""
+    return TWO + site(base, **changes)
+
+
+def at(place, *alleles, contig="c", start=10):
+    """A site that is no block, without values."""
+    return site(SMALL, site=place, contig=contig, start=start, end=start + len(alleles[0]) - 1, ref=alleles[0], alt=",".join(alleles[1:] + ("<NON_REF>",)))
+
+
+def cohort_cases():
+    case("1-empty-text", 1, "")
+    case("1-start-010", 1, one(start="010"))
+    case("1-end-2147483648", 1, one(end=rules.MOST + 1))
+    case("1-last-line-without-lf", 1, one()[:-1])
+    case("1-lines-swapped", 1, one().replace("gq=30\ndp=9\n", "dp=9\ngq=30\n"))
+    case("1-name-with-comma", 1, header("a,b"))
+    case("2-no-samples", 2, "samples=0\n")
+    case("2-sixty-five-samples", 2, header(*range(65)))
+    case("2-2147483647-samples", 2, "samples=2147483647\n")
+    case("3-name-twice", 3, header("S0", "S0"))
+    case("3-site-2-of-two", 3, one(site=2))
+    case("4-end-before-start", 4, one(end=9))
+    case("4-position-0", 4, one(start=0))
+    case("5-alt-twice", 5, one(SNP, alt="G,G"))
+    case("5-small-letter", 5, one(ref="a"))
+    case("5-nine-alleles", 5, one(SNP, alt="C,G,T,N,AA,AC,*,<NON_REF>", ad=".", pl="."))
+    case("5-129-letters", 5, one(SNP, ref="A" * 129, end=138))
+    case("6-no-non-ref", 6, one(SNP, alt="G", pl=pl(3)))
+    case("6-no-non-ref-where-the-clip-lets-nothing-through", 6, one(SNP, alt="G", pl=pl(3)), "")
+    case("7-snp-10-to-12", 7, one(SNP, end=12))
+    case("7-block-of-two-letters", 7, one(ref="AC"))
+    case("8-two-pl", 8, one(pl="0,30"))
+    case("8-three-ad", 8, one(ad="1,2,3"))
+    case("8-in-the-second-site", 8, TWO + site() + site(pl="0,30"))
+    case("cohort-8-then-1", 8, TWO + site(pl="0") + site(gq=""))
+    case("cohort-3-and-4-in-one-group", 3, one(site=2, end=9))
+
+
+def clip_and_reference_cases():
+    good = one(SNP)
+    for title, clip in (
+        ("start-0", span("c", 0, 5)), ("end-before-start", span("c", 10, 9)), ("leading-zero", span("c", "01", 9)),
+        ("2147483648", span("c", 1, rules.MOST + 1)), ("no-lf", span("c", 1, 9)[:-1]), ("name-with-space", span("c c", 1, 9)),
+        ("name-of-33-bytes", span("c" * 33, 1, 9)), ("line-missing", span("c", 1, 9)[: -len("end=9\n")]), ("empty-line", "\n"),
+        ("lines-swapped", lines(("contig", "end", "start"), "c", 9, 1)), ("second-group", span("c", 1, 9) + span("d", 1, "x")),
+    ):
+        case(f"9-clip-{title}", 9, good, clip)
+    for title, reference in (
+        ("other-letter", segment("c", 1, "AX")), ("small-letter", segment("c", 1, "a")), ("no-letters", segment("c", 1, "")),
+        ("first-0", segment("c", 0, "A")), ("past-the-end", segment("c", rules.MOST, "AC")), ("no-lf", segment("c", 1, "A")[:-1]),
+        ("key-misspelled", segment("c", 1, "A").replace("bases", "base")), ("second-group", segment("c", 1, "A") + segment("", 1, "A")),
+        ("contig-of-no-site", segment("x", 1, "*")),
+    ):
+        case(f"9-reference-{title}", 9, good, None, reference)
+    case("9-clip-and-reference", 9, good, "clip\n", "reference\n")
+    case("9-clip-where-there-are-no-sites", 9, TWO, "\n")
+    case("cohort-8-then-9", 8, one(pl="0"), "\n")
+    case("9-then-10", 9, good, None, "\n", places=0)
+    case("9-then-14", 9, good, "\n", room=0)
+    case("not-lent-and-faulty", None, good, "clip\n", "reference\n", lent=0)
+    case("to-the-last-position", None, one(start=rules.MOST, end=rules.MOST), span("c", 1, rules.MOST), segment("c", rules.MOST, "G"))
+
+
+def place_cases():
+    long = one(end=19)
+    case("10-one-place", 10, long, places=1)
+    case("10-no-places", 10, long, places=0)
+    case("two-places", None, long, places=2)
+    case("no-sites-no-places", None, TWO, places=0)
+    case("10-by-the-clip", 10, long, span("c", 12, 13), places=3)
+    case("four-places-with-the-clip", None, long, span("c", 12, 13), places=4)
+    case("10-where-the-clip-lets-nothing-through", 10, long, "", places=1)
+    case("two-places-clip-of-another-contig", None, long, span("d", 12, 13), places=2)
+    case("10-by-a-long-ref", 10, TWO + at(0, "ACGT", "A"), places=4)
+    case("five-places-for-a-long-ref", None, TWO + at(0, "ACGT", "A"), places=5)
+    case("10-in-the-second-contig", 10, TWO + site() + at(1, "AC", "A", contig="d"), places=2)
+    case("10-then-14", 10, long, places=1, room=0)
+
+
+def letter_cases():
+    block, cut = one(start=10, end=20), span("c", 13, 14)
+    case("11-need-13", 11, block, cut, segment("c", 1, "AC"))
+    case("11-no-groups", 11, block, cut, "")
+    case("11-another-contig", 11, block, cut, segment("d", 1, "A" * 30))
+    case("11-one-before", 11, block, cut, segment("c", 1, "A" * 12))
+    case("11-one-behind", 11, block, cut, segment("c", 14, "A" * 9))
+    case("letter-at-13", None, block, cut, segment("c", 13, "G"))
+    case("letter-at-13-of-the-second-group", None, block, cut, segment("c", 1, "ACGT") + segment("c", 12, "TT"))
+    case("11-behind-a-snp", 11, TWO + site(BLOCK, end=12) + site(SNP), None, segment("c", 10, "A"))
+    case("no-letter-needed", None, one(SNP), None, segment("d", 1, "A"))
+    case("11-then-14", 11, block, cut, "", room=0)
+
+
+def merge_cases():
+    three = header("S0", "S1", "S2")
+    for refs in (("A", "C", "AT"), ("AT", "A", "C"), ("C", "AT", "A"), ("AT", "AT", "AG")):
+        case("12-" + "-".join(refs), 12, three + "".join(at(i, r, "G" * 3) for i, r in enumerate(refs)))
+    case("12-at-and-c", 12, TWO + at(0, "AT", "A") + at(1, "C", "G"))
+    case("12-blocks", 12, TWO + site(BLOCK) + site(BLOCK, site=1, ref="C"))
+    case("refs-differ-where-the-clip-does-not-go", None, TWO + at(0, "AT", "A") + at(1, "C", "G"), span("c", 11, 11))
+    case("refs-differ-in-one-sample", None, TWO + at(0, "AT", "A") + at(0, "C", "G"))
+    new = [[letter + "T" * k for k in range(6)] for letter in "CGT"]
+    many = lambda *counts: three + "".join(at(i, "A", *new[i][:n]) for i, n in enumerate(counts))
+    case("13-six-new-alts-each", 13, many(6, 6, 6))
+    case("13-fifteen-alts", 13, many(5, 5, 5))
+    case("fourteen-alts", None, many(5, 5, 4))
+    case("13-by-a-star", 13, many(5, 5) + at(2, "A", *new[2][:4], "*"))
+    case("13-then-14", 13, many(6, 6, 6), room=0)
+    case("12-and-13-in-one-interval", 12, header("S0", "S1", "S2", "S3") + many(6, 6, 6)[len(three) :] + at(3, "C", "G"))
+    wrong, crowd = at(0, "AT", "A", start=30) + at(1, "C", "G", start=30), many(6, 6, 6)[len(three) :]
+    case("13-then-12", 13, three + wrong + crowd)
+    case("12-then-13", 12, three + crowd + wrong.replace("start=30", "start=5").replace("end=30", "end=5").replace("end=31", "end=6"))
+    case("12-in-the-first-contig-then-10", 12, three + at(0, "ACGT", "A", contig="d") + wrong, places=3)
+    case("10-in-the-first-contig-then-12", 10, three + at(0, "ACGT", "A", contig="b") + wrong, places=3)
+    case("11-then-12", 11, three + wrong + site(BLOCK, site=2, end=12), span("c", 11, 40), segment("c", 30, "AT"))
+    case("contigs-in-byte-order", 13, three + wrong.replace("contig=c", "contig=a") + crowd.replace("contig=c", "contig=Z"))
+    case("14-no-room", 14, one(), room=0)
+    case("14-no-room-no-sites", 14, TWO, room=0)
+
+
+# ---- the files
+
+
+def answer_of(case):
+    try:
+        text, shown, _ = judged(case)
+        return text, shown
+    except Refused as refusal:
+        return refusal.args[0], {f"refused {refusal.args[0]}"}
+
+
+def checked(case, answer):
+    """The answer of a case, and what it shows. The tool stops if it is not what was expected."""
+    found, shown = answer_of(case)
+    if found != answer and not (answer is None and isinstance(found, bytes)):
+        sys.exit(f"{case.name}: {answer} was expected, the rules in code say {found}")
+    return found, shown
+
+
+def printed(name, answer):
+    if isinstance(answer, int):
+        return f"{name} refused={answer}\n".encode()
+    return f"{name} written={len(answer)}\n".encode() + answer
+
+
+def main():
+    for part in (recorded_cases, cohort_cases, clip_and_reference_cases, place_cases, letter_cases, merge_cases):
+        part()
+    assert len({c.name for c, _ in CASES}) == len(CASES)
+    stdin, stdout, covered = b"", b"", {}
+    for c, expected in CASES:
+        answer, shown = checked(c, expected)
+        texts = (c.cohort, c.clip, c.reference)
+        stdin += " ".join(map(str, [*map(len, texts), c.lent, c.places, c.room, c.name])).encode() + b"\n" + b"".join(texts)
+        stdout += printed(c.name, answer)
+        for what in shown:
+            covered[what] = covered.get(what, 0) + 1
+    if COVERED - covered.keys():
+        sys.exit(f"not covered: {COVERED - covered.keys()}")
+    assert len(stdin) <= INPUT_ROOM
+    Path("crates/replay_combine/stdin").write_bytes(stdin)
+    Path("crates/replay_combine/stdout").write_bytes(stdout)
+    print(f"{len(CASES)} cases, {len(stdin)} bytes in, {len(stdout)} bytes out", *sorted(covered.items()), sep="\n")
+
+
+if __name__ == "__main__":
+    main()
