@@ -1,7 +1,7 @@
 -- The loop over a contig's intervals: the records that are laid, the one that waits, and that what is left gives the rest.
 use Prim.Native.Nat.{_+_, _-_, _<_, _≤_, min, suc, zero, ℕ}
 use borrow.Author.Tests.{lt-ltb}
-use lib.ListN.{ getD, length, length-append}
+use lib.ListN.{getD, length, length-append}
 use mathlib.Core.Bool.{Bool, true}
 use mathlib.Core.List.{List, List·Memᴰ·head, List·Memᴰ·tail, [], _++_, _∷_, append-assoc, append-nil, flatMap}
 use mathlib.Core.Option.{Option, none, some}

@@ -53,8 +53,32 @@ fn lay_block<'a>(
 {
     let mut fresh = [0u8; 8192];
     let allele = merged_ref::ref_bytes(s, rows, reference, place);
-    let len = record_lines::put_samples(s, rows, samples, found, first, allele, alts, &mut fresh, 0);
-    coalescing::step_block(s, rows, reference, contig, first, last, place, &fresh[..len], pending, held, out, at, count)
+    let len = record_lines::put_samples(
+        s,
+        rows,
+        samples,
+        found,
+        first,
+        allele,
+        alts,
+        &mut fresh,
+        0,
+    );
+    coalescing::step_block(
+        s,
+        rows,
+        reference,
+        contig,
+        first,
+        last,
+        place,
+        &fresh[..len],
+        pending,
+        held,
+        out,
+        at,
+        count,
+    )
 }
 
 // Lays the record of an interval behind the one that is held back, or joins it to that one, or holds it.
@@ -84,17 +108,70 @@ fn lay_record<'a>(
         → StepTo (now (s .entry)) (now (rows .entry)) samples (now (reference .entry)) (now (contig .entry)) (now (held .exit)) (now (out .exit)) waiting (laidRecord ready) d₀ bytes records r) ⌝ }
 {
     if number != 1 {
-        return coalescing::step_record(s, rows, samples, reference, contig, first, place, found, alts, pending, held, out, at, count);
+        return coalescing::step_record(
+            s,
+            rows,
+            samples,
+            reference,
+            contig,
+            first,
+            place,
+            found,
+            alts,
+            pending,
+            held,
+            out,
+            at,
+            count,
+        );
     }
     let allele = merged_ref::ref_bytes(s, rows, reference, place);
     if allele.len() != 1 {
-        return coalescing::step_record(s, rows, samples, reference, contig, first, place, found, alts, pending, held, out, at, count);
+        return coalescing::step_record(
+            s,
+            rows,
+            samples,
+            reference,
+            contig,
+            first,
+            place,
+            found,
+            alts,
+            pending,
+            held,
+            out,
+            at,
+            count,
+        );
     }
-    lay_block(s, rows, samples, reference, contig, first, last, place, number, found, alts, pending, held, out, at, count)
+    lay_block(
+        s,
+        rows,
+        samples,
+        reference,
+        contig,
+        first,
+        last,
+        place,
+        number,
+        found,
+        alts,
+        pending,
+        held,
+        out,
+        at,
+        count,
+    )
 }
 
 // Whether an interval lies in the clip, where there is one.
-fn kept(clipped: bool, clip: &[u8], contig: &[u8], first: GenomePosition, last: GenomePosition) -> bool
+fn kept(
+    clipped: bool,
+    clip: &[u8],
+    contig: &[u8],
+    first: GenomePosition,
+    last: GenomePosition,
+) -> bool
     ensures { λ r. ⌜ ((x : Input) → ClipGiven clipped (now (clip .entry)) x → r ≡ inClip (now (contig .entry)) (x .clip) (record { first = first .0; last = last .0 })) ⌝ }
 {
     if !clipped {
@@ -142,13 +219,42 @@ fn walk_interval<'a>(
     }
     let mut found = [0usize; 64];
     let mut alts = [0u8; 4096];
-    let here = merged_records::record_at(s, rows, samples, lent, reference, contig, chosen, bounds, first, &mut found, &mut alts);
+    let here = merged_records::record_at(
+        s,
+        rows,
+        samples,
+        lent,
+        reference,
+        contig,
+        chosen,
+        bounds,
+        first,
+        &mut found,
+        &mut alts,
+    );
     match here {
         RecordAt::NoSites => Turned::To(same),
         RecordAt::Refused(row) => Turned::Refused(row),
         RecordAt::Record(n, place, len, number) => {
             let text = tables::part(&alts, 0, len);
-            let step = lay_record(s, rows, samples, reference, contig, first, last, place, number, &found[..n], text, pending, held, out, at, count);
+            let step = lay_record(
+                s,
+                rows,
+                samples,
+                reference,
+                contig,
+                first,
+                last,
+                place,
+                number,
+                &found[..n],
+                text,
+                pending,
+                held,
+                out,
+                at,
+                count,
+            );
             Turned::To(step)
         }
     }
@@ -187,7 +293,25 @@ pub fn walk_contig<'a>(
         let first = GenomePosition::new_1based(places[k]);
         let last = GenomePosition::new_1based(places[k + 1] - 1);
         let pending = state.pending;
-        let turn = walk_interval(s, rows, samples, clipped, clip, lent, reference, contig, chosen, bounds, first, last, pending, &mut held, out, state.at, state.count);
+        let turn = walk_interval(
+            s,
+            rows,
+            samples,
+            clipped,
+            clip,
+            lent,
+            reference,
+            contig,
+            chosen,
+            bounds,
+            first,
+            last,
+            pending,
+            &mut held,
+            out,
+            state.at,
+            state.count,
+        );
         match turn {
             Turned::Refused(row) => {
                 return Walked::Refused(row);

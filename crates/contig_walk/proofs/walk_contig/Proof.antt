@@ -79,8 +79,13 @@ loop-less c = omega (arith, (c .before .before .before .before .before .before .
 
 loop-again : tie.Need-loop-again Inv-loop μ-loop
 unfolding turn-ready
-loop-again c = ((c .before .before .before .before .before .before .walk-interval .kept .1 .1 .1 .1 .1 .1 .1 .1 .1 .1 .1 .1 .1 .0) ∙ (c .before .before .before .before .before .before .before .before .before .before .before .before .before .before .loop .inv .0), (c .before .before .before .before .before .before .walk-interval .kept .1 .1 .1 .1 .1 .1 .1 .1 .1 .1 .1 .1 .1 .1 .0) ∙ (c .before .before .before .before .before .before .before .before .before .before .before .before .before .before .loop .inv .1), omega (arith, (c .before .before .before .before .before .before .before .before .before .before .before .before .before .loop-test .taken)), λ ready d₀ bytes records p. let w = (c .before .before .before .before .before .before .before .before .before .before .before .before .before .before .loop .inv .3) ready d₀ bytes records p in
-    walking-next ready d₀ bytes records _ _ _ _ w _ _ _ _ _ (c .before .before .before .before .before .before .before .before .before .before .before .before .before .loop-test .taken) ((c .before .before .before .before .before .before .before .before .before .before .before .new-1based .ensures)) ((c .before .before .before .before .before .before .before .before .before .new-1based2 .ensures)) (rw ((c .before .turn2 .given .1)) at ((c .before .before .before .before .before .before .walk-interval .ensures) (turn-ready ready d₀ bytes records _ _ _ _ w _ _ (c .before .before .before .before .before .before .before .before .before .before .before .before .before .loop-test .taken) ((c .before .before .before .before .before .before .before .before .before .before .before .new-1based .ensures)) ((c .before .before .before .before .before .before .before .before .before .new-1based2 .ensures)) (omega (arith, (c .before .before .before .before .before .before .before .before .before .before .before .before .before .before .loop .inv .0)))) (w .waiting) _ _ _ (w .holds) (w .progress))))
+loop-again c = (
+  (c .before .before .before .before .before .before .walk-interval .kept .1 .1 .1 .1 .1 .1 .1 .1 .1 .1 .1 .1 .1 .0) ∙ (c .before .before .before .before .before .before .before .before .before .before .before .before .before .before .loop .inv .0),
+  (c .before .before .before .before .before .before .walk-interval .kept .1 .1 .1 .1 .1 .1 .1 .1 .1 .1 .1 .1 .1 .1 .0) ∙ (c .before .before .before .before .before .before .before .before .before .before .before .before .before .before .loop .inv .1),
+  omega (arith, (c .before .before .before .before .before .before .before .before .before .before .before .before .before .loop-test .taken)),
+  λ ready d₀ bytes records p. let w = (c .before .before .before .before .before .before .before .before .before .before .before .before .before .before .loop .inv .3) ready d₀ bytes records p in
+      walking-next ready d₀ bytes records _ _ _ _ w _ _ _ _ _ (c .before .before .before .before .before .before .before .before .before .before .before .before .before .loop-test .taken) ((c .before .before .before .before .before .before .before .before .before .before .before .new-1based .ensures)) ((c .before .before .before .before .before .before .before .before .before .new-1based2 .ensures)) (rw ((c .before .turn2 .given .1)) at ((c .before .before .before .before .before .before .walk-interval .ensures) (turn-ready ready d₀ bytes records _ _ _ _ w _ _ (c .before .before .before .before .before .before .before .before .before .before .before .before .before .loop-test .taken) ((c .before .before .before .before .before .before .before .before .before .before .before .new-1based .ensures)) ((c .before .before .before .before .before .before .before .before .before .new-1based2 .ensures)) (omega (arith, (c .before .before .before .before .before .before .before .before .before .before .before .before .before .before .loop .inv .0)))) (w .waiting) _ _ _ (w .holds) (w .progress))),
+)
 
 slice-aggregate-put-pending : tie.Need-slice-aggregate-put-pending Inv-loop μ-loop
 slice-aggregate-put-pending c = search needs
