@@ -399,7 +399,7 @@ def main():
         found, rows = answer_of(text)
         if found != answer:
             sys.exit(f"{title}: {answer} was expected, the rules in code say {found}")
-        stdin += f"{len(head)} {len(tail)} {times} {len(foot)} {title}\n".encode() + head + tail + foot
+        stdin += f"{len(head)} {len(tail)} {len(foot)} {times} {title}\n".encode() + head + tail + foot
         stdout += printed(title, answer, rows)
     assert len(stdin) <= INPUT_ROOM
     with open("crates/read_cohorts/stdin", "wb") as f:
@@ -410,4 +410,5 @@ def main():
     print(f"{len(CASES)} cases, {refused} refused, {len(stdin)} bytes")
 
 
-main()
+if __name__ == "__main__":
+    main()

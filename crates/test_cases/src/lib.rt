@@ -1,0 +1,101 @@
+// What the programs that run recorded cases share: reading a case from the input, and printing.
+//
+// A case is a line of fields with a space between, and behind its LF three texts. The first three fields say how many bytes they have.
+// Every offset is taken; past the end of the input there is nothing.
+ghost use mathlib.Core.Path.{_≡_};
+ghost use Prim.Native.Nat.{_+_, _≤_, min};
+ghost use lib.ListN.{length};
+use kv_text::FieldAt;
+use kv_text::NumberRead;
+use libc::STDOUT_FILENO;
+
+// ---- a case
+
+// The line at an offset, without its LF.
+pub fn line_at<'a>(s: &'a [u8], at: usize) -> &'a [u8] {
+    tables::part(s, at, kv_text::field_end(s, at, b'\n'))
+}
+
+// The field with this number of a case's line; nothing past the last.
+pub fn field<'a>(line: &'a [u8], number: usize) -> &'a [u8] {
+    let found = kv_text::field_at(line, b' ', number);
+    match found {
+        FieldAt::At(from, to) => tables::part(line, from, to),
+        FieldAt::Absent => tables::part(line, 0, 0),
+    }
+}
+
+// The number that a field of a case's line spells, or 0.
+pub fn number_field(line: &[u8], number: usize) -> usize {
+    let read = kv_text::read_number(field(line, number));
+    match read {
+        NumberRead::Value(n) => n as usize,
+        NumberRead::Fault => 0,
+    }
+}
+
+// The offset behind the line at an offset, or the end of the input.
+fn after_line(s: &[u8], at: usize) -> usize
+    ensures { λ r. ⌜ (min (at + 1) (length (now (s .entry))) ≤ r) × (r ≤ length (now (s .entry))) ⌝ }
+{
+    let end = kv_text::field_end(s, at, b'\n');
+    if s.len() <= end {
+        return s.len();
+    }
+    end + 1
+}
+
+// The offset so many bytes further on, or the end of the input.
+fn after_bytes(s: &[u8], at: usize, count: usize) -> usize
+    ensures { λ r. ⌜ r ≡ min (at + count) (length (now (s .entry))) ⌝ }
+{
+    if s.len() <= at {
+        return s.len();
+    }
+    if s.len() - at < count {
+        return s.len();
+    }
+    at + count
+}
+
+// Where the texts of a case stand, each up to the next one.
+pub struct Case {
+    pub first: usize,
+    pub second: usize,
+    pub third: usize,
+    pub next: usize,
+}
+
+// The case at an offset. The next one begins further on.
+pub fn case_at(s: &[u8], at: usize) -> Case
+    ensures { λ r. ⌜ min (at + 1) (length (now (s .entry))) ≤ r .next ⌝ }
+{
+    let line = line_at(s, at);
+    let first = after_line(s, at);
+    let second = after_bytes(s, first, number_field(line, 0));
+    let third = after_bytes(s, second, number_field(line, 1));
+    let next = after_bytes(s, third, number_field(line, 2));
+    Case {
+        first,
+        second,
+        third,
+        next,
+    }
+}
+
+// ---- the output
+
+pub fn print(bytes: &[u8]) {
+    io::write_all(STDOUT_FILENO, bytes);
+}
+
+pub fn print_number(n: usize) {
+    io::print_decimal(STDOUT_FILENO, n as u64);
+}
+
+// The end of a line that tells of a refusal.
+pub fn print_refused(row: usize) {
+    print(b" refused=");
+    print_number(row);
+    print(b"\n");
+}
