@@ -22,7 +22,7 @@ pub enum Pending {
 }
 
 // Lays the lines of the record that is held back, if there is one.
-fn put_pending<'a>(
+pub fn put_pending<'a>(
     s: &'a [u8],
     rows: &[usize],
     reference: &'a [u8],
@@ -99,7 +99,7 @@ fn joined(pending: Pending, last: GenomePosition) -> Pending
 }
 
 // A count of records with the one that is held back, if there is one, held at the greatest u32.
-fn count_pending(count: usize, pending: Pending) -> usize
+pub fn count_pending(count: usize, pending: Pending) -> usize
     ensures { λ r. ⌜ r ≡ pendingCount pending count ⌝ }
 {
     let Pending::Block(_, _, _, _) = pending else {

@@ -23,7 +23,7 @@ use Rattle.definitions.specs.MergedRef.{mergedRef}
 use Rattle.definitions.specs.Records.{Record, endOf, recordOf}
 use Rattle.laws.proofs.Checked.{not-required, required, then, then-refused}
 use Rattle.laws.proofs.Every.{Every, IfThere, every-of}
-use Rattle.laws.proofs.MergedRefSound.{covering-sound, merged-ref-sound}
+use Rattle.laws.proofs.MergedRefSound.{RefFor, covering-sound, merged-ref-sound}
 use Rattle.laws.proofs.ReferenceLetter.{first-letter}
 use Rattle.laws.proofs.SoundInput.{SoundSite}
 use Rattle.laws.proofs.SoundValues.{Letters}
@@ -223,8 +223,8 @@ module _ {s rows : List ℕ} {samples : ℕ} {lent : Bool} {reference contig : L
   pub found-are-sound : Every SoundSite (map (siteAt s rows) found)
   found-are-sound = rw (to .sites) sites-are-sound
 
-  pub ref-is-letters : Letters maxSiteLetters recordRef
-  ref-is-letters =
+  pub ref-for : RefFor position (covering on position) recordRef
+  ref-for =
       merged-ref-sound (on .loaded .input .reference) (chosenLetters (on .loaded)) contig position (covering on position) recordRef
       (rw (← to .sites) (rw (length-map found (siteAt s rows)) (omega (arith, to .all, to .some-site))))
-      sites-are-sound (on .loaded .sound .reference) (chosen-from on position) (to .ref) .letters
+      sites-are-sound (on .loaded .sound .reference) (chosen-from on position) (to .ref)

@@ -13,6 +13,7 @@ use native.Mathlib.Omega.{arith}
 use Rattle.definitions.specs.Checked.{Checked, _>>=_, accepted, inOrder}
 use Rattle.definitions.specs.ClipAndReference.{LetterChoice}
 use Rattle.definitions.specs.CombinedList.{Input, intervalRecord, recordIntervals}
+use Rattle.definitions.specs.Cohort.{Site}
 use Rattle.definitions.specs.CoveringSites.{coveringSites}
 use Rattle.definitions.specs.Intervals.{Interval, breakpoints, clippedIntervals, inClip, intervalsBetween}
 use Rattle.definitions.specs.Lists.{filterBy}
@@ -70,3 +71,22 @@ module _ (x : Input) (choose : LetterChoice) (contig : List ℕ) where
         unfolding recordsFrom recordsOf filterBy covered
         walk-record e =
             rw (first-interval, in-clip, lt-ltb 0 _ e) (in-order-cons (intervalRecord x choose contig here) _)
+
+  -- an interval in front of what comes later
+  unfoldable pub withInterval : Interval → Checked (List Record) → Checked (List Record)
+  withInterval i later =
+      cond (inClip contig (x .clip) i)
+      (cond (ltb 0 (length (coveringSites (x .cohort) contig (i .first)))) (andLater (intervalRecord x choose contig i) later) later)
+      later
+
+  pub walk-turn : (places : List ℕ) (k : ℕ) → k + 1 < length places
+      → recordsFrom places k ≡ withInterval (here places k) (recordsFrom places (k + 1))
+  unfolding withInterval
+  walk-turn places k more = go (inClip contig (x .clip) (here places k)) refl (coveringSites (x .cohort) contig (getD places k 0)) refl
+    where
+      go : (b : Bool) → inClip contig (x .clip) (here places k) ≡ b → (sites : List Site) → coveringSites (x .cohort) contig (getD places k 0) ≡ sites
+          → recordsFrom places k
+          ≡ cond b (cond (ltb 0 (length sites)) (andLater (intervalRecord x choose contig (here places k)) (recordsFrom places (k + 1))) (recordsFrom places (k + 1))) (recordsFrom places (k + 1))
+      go false e sites c = walk-clipped places k more e
+      go true e [] c = walk-bare places k more e c
+      go true e (z ∷ sites) c = walk-record places k more e (rw c (omega arith)) ∙ rw (lt-ltb 0 (length (z ∷ sites)) (omega arith))

@@ -1,0 +1,195 @@
+-- The record of an interval as it is laid: its ALTs as text, its samples' lines, and what the steps of `coalescing` ask of it.
+use Prim.Native.Nat.{_*_, _+_, _<_, _^_, _≤_, suc, ℕ}
+use borrow.Author.Tests.{eq-eqb, le-ltb, ne-eqb}
+use lib.Dec.{eqb}
+use lib.ListN.{drop, length, length-append, length-map, take}
+use lib.Seq.{length-take-le, sets, take-at, take-length}
+use mathlib.Core.Bool.{Bool, _&&_, false, true}
+use mathlib.Core.List.{List, [], _++_, _∷_, flatMap, map}
+use mathlib.Core.Option.{none}
+use mathlib.Core.Path.{_∙_, _≡_, ap, refl, subst, sym}
+use native.Mathlib.Nat.{zero-add}
+use native.Mathlib.Omega.{arith}
+use Rattle.coalescing.specs.Held.{HeldBlock}
+use Rattle.coalescing.specs.Steps.{OtherRecord, RecordFits}
+use Rattle.coalescing.specs.declared.Pending.{Pending}
+use Rattle.definitions.specs.Alleles.{isBlock, onlyNonRef, writtenAlleles}
+use Rattle.definitions.specs.Bytes.{comma, fieldsOf, text}
+use Rattle.definitions.specs.Lists.{numbersFrom, onlyIf}
+use Rattle.definitions.specs.Numbers.{decimal, maxNumber, writtenOrMissing}
+use Rattle.definitions.specs.Printed.{printedSampleData}
+use Rattle.kv_write.proofs.Laying.{laid-length, sets-front}
+use Rattle.kv_write.specs.Laid.{Laid}
+use Rattle.laws.proofs.Alleles.{block-is}
+use Rattle.laws.proofs.Every.{Every, every-map, every-member, every-of-map-back}
+use Rattle.laws.proofs.Members.{length-numbers, numbers-member}
+use Rattle.laws.proofs.MergedAltsSound.{merged-alleles-sound}
+use Rattle.laws.proofs.SoundInput.{SoundSite}
+use Rattle.laws.proofs.SoundRecords.{SoundAlleles}
+use Rattle.laws.proofs.SoundValues.{Name}
+use Rattle.merged_records.proofs.Records.{found-are-sound, recordAlleles, recordAlts, recordData, recordRef, ref-for, sites-are-sound}
+use Rattle.merged_records.specs.Found.{covering}
+use Rattle.merged_records.specs.Loaded.{OnContig}
+use Rattle.merged_ref.specs.declared.RefAt.{RefAt}
+use Rattle.record_laws.proofs.Coalescing.{block-record, end-not-block}
+use Rattle.record_laws.proofs.DerivedData.{all-data-derived}
+use Rattle.record_laws.proofs.Lengths.{all-block-data-few, alleles-few, decimal-few, mostData}
+use Rattle.record_laws.proofs.SamePrinted.{Derived}
+use Rattle.record_lines.proofs.Alleles.{alleles-in-written, written-count}
+use Rattle.record_lines.proofs.Head.{head-length, printed-record}
+use Rattle.record_lines.specs.Head.{endFrom}
+use Rattle.record_lines.specs.Samples.{SamplesPrintable, printedSamples}
+use Rattle.sample_alleles.specs.Readings.{allelesIn}
+use Rattle.tables.specs.Tables.{siteAt}
+use Rattle.contig_walk.specs.Laying.{LayReady, laidRecord}
+
+and-true : (b : Bool) → b && true ≡ b
+and-true true = refl
+and-true false = refl
+
+-- a contig is named as a site's contig is
+pub contig-named : {s rows : List ℕ} {samples : ℕ} {lent : Bool} {reference contig : List ℕ} → OnContig s rows samples lent reference contig → Name contig
+unfolding siteAt
+contig-named {s} {rows} on =
+    let sites = on .loaded .input .cohort .sites in
+    let all : Every (λ i. SoundSite (siteAt s rows i)) (numbersFrom 0 (length sites)) =
+    every-of-map-back (siteAt s rows) (numbersFrom 0 (length sites)) (subst (Every SoundSite) (on .loaded .table .read) (on .loaded .sound .cohort .sites)) in
+    rw (on .name) (every-member {a = on .first} (numbers-member 0 (length sites) (omega arith) (omega (arith, on .known))) all .contig)
+
+module _ {s rows : List ℕ} {samples : ℕ} {reference contig : List ℕ} {first last : ℕ} {place : RefAt} {number : ℕ} {found alts : List ℕ}
+    {pending : Pending} {held : List ℕ} {at : ℕ}
+    (r : LayReady s rows samples reference contig first last place number found alts pending held at) where
+  -- ---- the ALTs
+
+  text-is : writtenAlleles (recordAlts (r .on) first (r .to)) ≡ alts
+  text-is = sym (r .to .text) ∙ take-length alts
+
+  sound-alleles : SoundAlleles 255 16 (recordAlleles (r .on) first (r .to))
+  sound-alleles = merged-alleles-sound _ first (covering (r .on) first) (sites-are-sound (r .on) first (r .to)) (ref-for (r .on) first (r .to))
+      (omega (arith, r .to .number, r .to .few-alts))
+
+  pub few-fields : length (fieldsOf comma alts) ≤ 15
+  few-fields = rw (← text-is) (omega (arith, written-count 255 (sound-alleles .alts) (sound-alleles .at-least-two), r .to .number, r .to .few-alts))
+
+  alleles-are : allelesIn alts ≡ recordAlts (r .on) first (r .to)
+  alleles-are = rw (← text-is) (alleles-in-written 255 (sound-alleles .alts) (sound-alleles .at-least-two))
+
+  -- ---- the samples
+
+  pub samples-are : printedSamples s rows samples found first (recordRef (r .on) first (r .to)) alts ≡ flatMap printedSampleData (recordData (r .on) first (r .to))
+  samples-are = rw (alleles-are, r .to .sites)
+
+  pub printable : (k : ℕ) → k ≤ 2 ^ 63 → SamplesPrintable s rows samples found alts k
+  printable k h = record {
+    sound = found-are-sound (r .on) first (r .to);
+    few = few-fields;
+    fits = omega (arith, r .on .loaded .few);
+  }
+
+  -- a block, by the number of ALTs and the length of REF
+  by-numbers : isBlock (laidRecord r .alleles) ≡ (eqb number 1 && eqb (length (recordRef (r .on) first (r .to))) 1)
+  unfolding isBlock onlyNonRef
+  by-numbers = rw (sound-alleles .non-ref, ← r .to .number, and-true (eqb number 1))
+
+  pub other-number : (number ≡ 1 → ⊥) → isBlock (laidRecord r .alleles) ≡ false
+  other-number h = by-numbers ∙ rw (ne-eqb number 1 h)
+
+  pub other-length : number ≡ 1 → (length (recordRef (r .on) first (r .to)) ≡ 1 → ⊥) → isBlock (laidRecord r .alleles) ≡ false
+  other-length e h = by-numbers ∙ rw (eq-eqb number 1 e, ne-eqb (length (recordRef (r .on) first (r .to))) 1 h)
+
+  pub is-a-block : number ≡ 1 → length (recordRef (r .on) first (r .to)) ≡ 1 → isBlock (laidRecord r .alleles) ≡ true
+  is-a-block e h = by-numbers ∙ rw (eq-eqb number 1 e, eq-eqb (length (recordRef (r .on) first (r .to))) 1 h)
+
+  -- ---- a block
+
+  module _ (block : isBlock (laidRecord r .alleles) ≡ true) where
+    one-alt : length (recordAlts (r .on) first (r .to)) ≡ 1
+    one-alt = ap length (block-is (laidRecord r .alleles) block .0)
+
+    derived : Every (Derived 2) (recordData (r .on) first (r .to))
+    derived = subst (λ (k : ℕ). Every (Derived (suc k)) (recordData (r .on) first (r .to))) one-alt
+        (all-data-derived _ _ first (covering (r .on) first) samples (sites-are-sound (r .on) first (r .to)))
+
+    samples-count : length (recordData (r .on) first (r .to)) ≡ samples
+    samples-count = length-map (numbersFrom 0 samples) _ ∙ length-numbers 0 samples
+
+    pub lines-few : length (flatMap printedSampleData (recordData (r .on) first (r .to))) ≤ 8192
+    lines-few = omega (arith, all-block-data-few (every-map (λ v d. d .sound) derived), samples-count, r .on .loaded .few)
+
+    -- they fit an array of 8,192 bytes, and stand at its front
+    pub record FreshLines (after : List ℕ) (len : ℕ) : Type 0 where
+      pub within : len ≤ length after
+      pub exact : len ≡ length (take len after)
+      pub lines : take len after ≡ flatMap printedSampleData (recordData (r .on) first (r .to))
+
+    pub fresh-lines : (fresh after : List ℕ) (len : ℕ) → length fresh ≡ 8192
+        → Laid fresh 0 (printedSamples s rows samples found first (recordRef (r .on) first (r .to)) alts) after len → FreshLines after len
+    fresh-lines fresh after len e l =
+        let few = lines-few in
+        let count : len ≡ length (flatMap printedSampleData (recordData (r .on) first (r .to))) = l .next ∙ zero-add _ ∙ ap length samples-are in
+        let same : length after ≡ length fresh = laid-length l in
+        let within : len ≤ length after = omega arith in
+        let front : after ≡ flatMap printedSampleData (recordData (r .on) first (r .to)) ++ drop (length (flatMap printedSampleData (recordData (r .on) first (r .to)))) fresh =
+        l .laid ∙ ap (sets fresh 0) samples-are ∙ sets-front fresh (flatMap printedSampleData (recordData (r .on) first (r .to))) (omega arith) in
+        record {
+          within = within;
+          exact = sym (length-take-le len after within);
+          lines = rw front (take-at _ _ len (sym count));
+        }
+
+    pub new-block : (fresh : List ℕ) → fresh ≡ flatMap printedSampleData (recordData (r .on) first (r .to))
+        → HeldBlock s rows samples reference contig fresh first last place (length fresh) (laidRecord r)
+    new-block fresh e = record {
+      values = recordData (r .on) first (r .to);
+      record-is = block-record contig (record { first = first; last = last }) (recordAlleles (r .on) first (r .to)) (recordData (r .on) first (r .to)) block;
+      derived = derived;
+      all-samples = samples-count;
+      printed = take-length fresh ∙ e;
+      one-letter = block-is (laidRecord r .alleles) block .1;
+      ordered = r .ordered;
+      in-range = r .in-range;
+    }
+
+  -- ---- another record
+
+  module _ (other : isBlock (laidRecord r .alleles) ≡ false) where
+    pub other-record : OtherRecord s rows samples reference contig first place found alts (laidRecord r)
+    unfolding onlyIf
+    other-record = record {
+      not-block = other;
+      printed =
+          printed-record (laidRecord r) first refl refl (end-not-block (recordAlleles (r .on) first (r .to)) (record { first = first; last = last }) other ∙ no-end) refl text-is
+          ∙ rw (← samples-are);
+    }
+      where
+        no-end : none ≡ endFrom first first
+        no-end = rw (le-ltb first first (omega arith))
+
+  pub record-fits : RecordFits s rows samples reference contig first place found alts 9223372036854775808
+  unfolding onlyIf writtenOrMissing text
+  record-fits = record {
+    in-range = omega (arith, r .ordered, r .in-range);
+    sound = found-are-sound (r .on) first (r .to);
+    few = few-fields;
+    fits = simp (length-append, head-length) (omega (
+      arith,
+      named,
+      short-ref,
+      short-alts,
+      decimal-few first (omega (arith, r .ordered, r .in-range)),
+      end-short,
+      r .on .loaded .few,
+    ));
+  }
+    where
+      named : length contig ≤ 32
+      named = contig-named (r .on) .not-too-long
+
+      short-ref : length (recordRef (r .on) first (r .to)) ≤ 128
+      short-ref = ref-for (r .on) first (r .to) .letters .not-too-long
+
+      short-alts : length alts ≤ 4096
+      short-alts = rw (← text-is) (omega (arith, alleles-few (sound-alleles .alts), r .to .number, r .to .few-alts))
+
+      end-short : length (writtenOrMissing decimal (endFrom first first)) ≤ 10
+      end-short = rw (le-ltb first first (omega arith)) (omega arith)
