@@ -5,7 +5,7 @@
 // program has no other.
 ghost use Prim.Native.Nat.{_≤_};
 ghost use lib.ListN.{length};
-use combine_gvcfs::Outcome;
+use answers::Outcome;
 use libc::ENOENT;
 use libc::STDOUT_FILENO;
 

@@ -8,6 +8,10 @@ use mathlib.Core.Logic.{⊎-elim}
 use mathlib.Core.Option.{Option, none, some}
 use mathlib.Core.Path.{_∙_, _≡_, ap, refl, subst, sym}
 use native.Mathlib.Omega.{arith}
+use Rattle.answers.proofs.Answers.{answered-refused}
+use Rattle.answers.specs.Answered.{Answered}
+use Rattle.answers.specs.declared.Outcome.the-variants as outcome
+use Rattle.answers.specs.declared.Outcome.{Outcome}
 use Rattle.clip_and_reference.proofs.Groups.{GroupsFrom, in-order, not-in-order}
 use Rattle.cohort.specs.Cohort.{CohortTo, CohortUnread, fittingCohort, sitesIn}
 use Rattle.contigs.specs.Contigs.{ContigOrder}
@@ -33,10 +37,7 @@ use Rattle.laws.proofs.SoundInput.{input-sound}
 use Rattle.laws.proofs.SoundRecords.{NameAfter}
 use Rattle.laws.proofs.Tests.{all-three, clash}
 use Rattle.tables.specs.Tables.{nameAt, namesIn, rowLength, siteAt}
-use Rattle.combine_gvcfs.proofs.WrittenList.{answered-refused}
-use Rattle.combine_gvcfs.specs.Combined.{Answered, CallLoaded, CohortHeld, Combined, ListReady, TextsAnswered, TextsFit, listWithin, textsOf}
-use Rattle.combine_gvcfs.specs.declared.Outcome.the-variants as outcome
-use Rattle.combine_gvcfs.specs.declared.Outcome.{Outcome}
+use Rattle.combine_gvcfs.specs.Combined.{CallLoaded, CohortHeld, Combined, ListReady, TextsAnswered, TextsFit, listWithin, textsOf}
 
 -- ---- the sites by sample, and the contigs in order
 

@@ -7,7 +7,10 @@ use mathlib.Core.Bool.{Bool, false, true}
 use mathlib.Core.List.{List, [], _++_, _∷_, append-nil, flatMap}
 use mathlib.Core.Path.{_∙_, _≡_, ap, refl, subst, sym}
 use native.Mathlib.Omega.{arith}
-use Rattle.definitions.specs.Answers.{answerOf, outputAfter}
+use Rattle.answers.proofs.Answers.{answered-refused, answered-written, is-within, not-within}
+use Rattle.answers.specs.Answered.{Answered}
+use Rattle.answers.specs.declared.Outcome.the-variants as outcome
+use Rattle.answers.specs.declared.Outcome.{Outcome}
 use Rattle.definitions.specs.Checked.{Checked, accepted, refused, within}
 use Rattle.definitions.specs.ClipAndReference.{ChoiceFrom}
 use Rattle.definitions.specs.CombinedList.{combinedRecords, listOf}
@@ -29,33 +32,10 @@ use Rattle.list_header.specs.Measured.{limit}
 use Rattle.merged_records.specs.Loaded.{Loaded, chosenLetters}
 use Rattle.record_laws.proofs.Lengths.{mostHeader, mostRecord, record-few}
 use Rattle.tables.specs.Tables.{namesIn}
-use Rattle.combine_gvcfs.specs.Combined.{Answered, ListReady, Measurement, listTo, listWithin}
+use Rattle.combine_gvcfs.specs.Combined.{ListReady, Measurement, listTo, listWithin}
 use Rattle.combine_gvcfs.specs.Contigs.{AllReady, RecordsLaid, RecordsWalked, allRecords}
-use Rattle.combine_gvcfs.specs.declared.Outcome.the-variants as outcome
-use Rattle.combine_gvcfs.specs.declared.Outcome.{Outcome}
 use Rattle.contig_walk.specs.declared.Walked.the-variants as walked
 use Rattle.contig_walk.specs.declared.Walked.{Walked}
-
--- ---- answers
-
-pub answered-refused : {list : Checked (List ℕ)} {out out′ : List ℕ} {row : ℕ} → list ≡ refused row → out′ ≡ out
-    → Answered list out out′ (outcome.Refused row)
-unfolding answerOf outputAfter
-answered-refused e same = rw e (record { answer = refl; output = same })
-
-pub answered-written : {list : Checked (List ℕ)} {bytes out out′ : List ℕ} {n : ℕ} → list ≡ accepted bytes → n ≡ length bytes
-    → out′ ≡ bytes ++ drop (length bytes) out → Answered list out out′ (outcome.Written n)
-unfolding answerOf outputAfter
-answered-written e count same = rw e (record { answer = rw count; output = same })
-
--- row 14
-pub not-within : (bytes : List ℕ) {room : ℕ} → room < length bytes → within room bytes ≡ refused 14
-unfolding within
-not-within bytes h = not-required 14 _ _ (lt-leb _ _ h)
-
-pub is-within : (bytes : List ℕ) {room : ℕ} → length bytes ≤ room → within room bytes ≡ accepted bytes
-unfolding within
-is-within bytes h = required 14 _ _ (le-leb _ _ h) refl
 
 -- nothing is written on an empty part
 pub nothing-laid : {bytes part : List ℕ} {at r : ℕ} → Laid [] at bytes part r → part ≡ []

@@ -4,8 +4,10 @@ use lib.ListN.{length}
 use mathlib.Core.Bool.{Bool, _&&_, true}
 use mathlib.Core.List.{List, flatMap, map}
 use mathlib.Core.Path.{_≡_}
+use Rattle.answers.specs.Answered.{Answered, outcomeAnswer}
+use Rattle.answers.specs.declared.Outcome.{Outcome}
 use Rattle.cohort.specs.Cohort.{sitesIn}
-use Rattle.definitions.specs.Answers.{Answer, answerOf, outputAfter, scratchAfter}
+use Rattle.definitions.specs.Answers.{answerOf, outputAfter, scratchAfter}
 use Rattle.definitions.specs.Checked.{Checked, _>>=_, accepted, within}
 use Rattle.definitions.specs.ClipAndReference.{LetterChoice}
 use Rattle.definitions.specs.Cohort.{cohortOf}
@@ -21,19 +23,8 @@ use Rattle.merged_records.specs.Loaded.{Loaded, chosenLetters}
 use Rattle.tables.specs.Tables.{SiteRows, namesIn, partAt}
 use Rattle.combine_gvcfs.specs.Contigs.{Grouped, IsFirst, allRecords}
 use Rattle.contig_walk.specs.Walk.{ClipGiven}
-use Rattle.combine_gvcfs.specs.declared.Outcome.{Outcome}
-use Rattle.combine_gvcfs.specs.declared.Outcome.the-variants as outcome
 
 -- ---- the answer
-
-abbrev pub outcomeAnswer : Outcome → Answer
-outcomeAnswer (outcome.Written n) = record { number = 0; written = n }
-outcomeAnswer (outcome.Refused row) = record { number = row; written = 0 }
-
--- the answer is that of this list, and so is what the output holds at the end
-pub record Answered (list : Checked (List ℕ)) (out out′ : List ℕ) (r : Outcome) : Type 0 where
-  pub answer : outcomeAnswer r ≡ answerOf list
-  pub output : out′ ≡ outputAfter list out
 
 -- the texts of a call
 abbrev pub textsOf : List ℕ → Bool → List ℕ → Bool → List ℕ → Texts

@@ -3,14 +3,16 @@ ghost use Prim.Native.Nat.{_≤_, ℕ};
 ghost use lib.ListN.{length};
 ghost use mathlib.Core.List.{List};
 ghost use mathlib.Core.Path.{_≡_};
+ghost use Rattle.answers.specs.Answered.{Answered};
 ghost use Rattle.definitions.specs.Checked.{isAccepted, within};
 ghost use Rattle.definitions.specs.ClipAndReference.{optionalGroups, segmentOf, spanOf};
 ghost use Rattle.definitions.specs.CombinedList.{fits};
 ghost use Rattle.definitions.specs.Lists.{missingOr, onlyIf};
 ghost use Rattle.list_header.specs.Measured.{limit};
 ghost use Rattle.merged_records.specs.Loaded.{chosenLetters};
-ghost use Rattle.combine_gvcfs.specs.Combined.{Answered, CallLoaded, Combined, CohortHeld, ListReady, Measurement, TextsAnswered, TextsFit, listTo, listWithin, textsOf};
+ghost use Rattle.combine_gvcfs.specs.Combined.{CallLoaded, Combined, CohortHeld, ListReady, Measurement, TextsAnswered, TextsFit, listTo, listWithin, textsOf};
 ghost use Rattle.combine_gvcfs.specs.Contigs.{AllReady, OneReady, RecordsWalked, allRecords, givenClip, recordsOn};
+use answers::Outcome;
 use cohort::CohortRead;
 use contig_walk::Walked;
 use intervals::Breakpoints;
@@ -165,12 +167,6 @@ fn write_list<'a>(
         out,
         at,
     );
-}
-
-// The number of bytes of a list, or the row that refuses it.
-pub enum Outcome {
-    Written(usize),
-    Refused(usize),
 }
 
 // Writes the list whose records were measured: row 14 if it has more bytes than there is room for.

@@ -6,7 +6,7 @@ use mathlib.Core.List.{List}
 use mathlib.Core.Path.{_∙_, _≡_, ap, refl, sym}
 use native.Mathlib.Omega.{arith}
 use Rattle.combine_gvcfs.specs.Combined.{Combined}
-use Rattle.combine_gvcfs.specs.declared.Outcome.the-variants.{Written}
+use Rattle.answers.specs.declared.Outcome.the-variants.{Written}
 use Rattle.definitions.specs.Answers.{Answer, answerOf, outputAfter}
 use Rattle.definitions.specs.Checked.{Checked, accepted, refused}
 use Rattle.definitions.specs.Cohort.{Cohort, cohortOf}

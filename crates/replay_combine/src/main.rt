@@ -9,7 +9,7 @@
 // tools/make_replay_cases.py writes the input, and what is to be printed, from recorded/ and document 01's rules.
 ghost use Prim.Native.Nat.{_≤_, _<_};
 ghost use lib.ListN.{length};
-use combine_gvcfs::Outcome;
+use answers::Outcome;
 use test_cases::case_at;
 use test_cases::field;
 use test_cases::line_at;

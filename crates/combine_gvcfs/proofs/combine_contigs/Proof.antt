@@ -1,6 +1,7 @@
 -- The records are measured, and then the list is written.
 use borrow.Author.Needs.{needs}
-use Rattle.combine_gvcfs.proofs.WrittenList.{answered-refused, list-answered, list-refused, measurement, measuring, nothing-left}
+use Rattle.answers.proofs.Answers.{answered-refused}
+use Rattle.combine_gvcfs.proofs.WrittenList.{list-answered, list-refused, measurement, measuring, nothing-left}
 use Rattle.combine_gvcfs.proofs.combine_contigs.Statement.{statement}
 use Rattle.combine_gvcfs.proofs.combine_contigs.Tie as tie
 
