@@ -2,7 +2,7 @@
 use Prim.Native.Nat.{_+_, _-_, _<_, _≤_, suc, zero, ℕ}
 use borrow.Author.Tests.{eq-eqb, ne-eqb}
 use lib.ListN.{drop, getD, length, length-drop, take}
-use lib.Seq.{drop-nil, getD-drop, take-nil}
+use lib.Seq.{drop-nil, getD-drop, take-all, take-nil}
 use mathlib.Core.List.{List, [], _∷_}
 use mathlib.Core.Logic.{_≢_}
 use mathlib.Core.Path.{_∙_, _≡_, ap, refl, sym}
@@ -14,22 +14,53 @@ use Rattle.definitions.specs.Bytes.{fieldsOf}
 use Rattle.definitions.specs.Lists.{splitWhere, toFirst}
 use Rattle.laws.proofs.Every.{also, nothing}
 use Rattle.laws.proofs.Fields.{Free, fields-at, fields-cons, fields-last}
-use Rattle.kv_text.specs.Fields.{between, fieldLength}
+use Rattle.kv_text.specs.Fields.{between, fieldLength, firstField}
 
 -- ---- byte by byte
 
 module _ (separator : ℕ) where
+  pub first-none : firstField separator [] ≡ []
+  unfolding firstField fieldsOf splitWhere
+  first-none = refl
+
+  pub first-stop : (b : ℕ) (s : List ℕ) → b ≡ separator → firstField separator (b ∷ s) ≡ []
+  unfolding firstField fieldsOf splitWhere
+  first-stop b s e = simp (eq-eqb b separator e)
+
+  pub first-more : (b : ℕ) (s : List ℕ) → b ≢ separator → firstField separator (b ∷ s) ≡ b ∷ firstField separator s
+  unfolding firstField fieldsOf splitWhere toFirst
+  first-more b s n = let (f, fs, e) = fields-cons separator s in simp (ne-eqb b separator n, e)
+
+  -- the same of its length
   pub field-none : fieldLength separator [] ≡ 0
-  unfolding fieldLength fieldsOf splitWhere
-  field-none = refl
+  unfolding fieldLength
+  field-none = ap length first-none
 
   pub field-stop : (b : ℕ) (s : List ℕ) → b ≡ separator → fieldLength separator (b ∷ s) ≡ 0
-  unfolding fieldLength fieldsOf splitWhere
-  field-stop b s e = simp (eq-eqb b separator e)
+  unfolding fieldLength
+  field-stop b s e = ap length (first-stop b s e)
 
   pub field-more : (b : ℕ) (s : List ℕ) → b ≢ separator → fieldLength separator (b ∷ s) ≡ suc (fieldLength separator s)
-  unfolding fieldLength fieldsOf splitWhere toFirst
-  field-more b s n = let (f, fs, e) = fields-cons separator s in simp (ne-eqb b separator n, e)
+  unfolding fieldLength
+  field-more b s n = ap length (first-more b s n)
+
+  pub first-of : (s : List ℕ) → (fs : List (List ℕ)) × (fieldsOf separator s ≡ firstField separator s ∷ fs)
+  unfolding firstField
+  first-of s = let (f, fs, e) = fields-cons separator s in (fs, rw e)
+
+  -- so many bytes of the text
+  first-take : (s : List ℕ) → firstField separator s ≡ take (fieldLength separator s) s
+  first-take [] = rw (first-none, field-none)
+  first-take (b ∷ s) = go (ℕ-discrete b separator) (first-take s)
+    where
+      go : Dec (b ≡ separator) → firstField separator s ≡ take (fieldLength separator s) s
+          → firstField separator (b ∷ s) ≡ take (fieldLength separator (b ∷ s)) (b ∷ s)
+      go (yes e) r = rw (first-stop b s e, field-stop b s e)
+      go (no n) r = rw (first-more b s n, field-more b s n) (ap (λ (f : List ℕ). b ∷ f) r)
+
+  -- the whole text, where it is as long
+  pub first-whole : (s : List ℕ) → length s ≤ fieldLength separator s → firstField separator s ≡ s
+  first-whole s h = first-take s ∙ take-all (fieldLength separator s) s h
 
   -- ---- its end
 
@@ -70,6 +101,9 @@ module _ (separator : ℕ) where
 
     pub field-within : at ≤ length s → e ≤ length s
     field-within h = omega (arith, first-field (drop at s) .short, length-drop at s)
+
+    pub first-between : firstField separator (drop at s) ≡ between s at e
+    first-between = rw (← len) (first-take (drop at s))
 
     pub field-has-none : Free separator (between s at e)
     field-has-none = rw (← len) (first-field (drop at s) .free)

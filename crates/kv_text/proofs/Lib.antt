@@ -1,5 +1,6 @@
 pub mod Tested
 pub mod Fields
 pub mod Numbers
+pub mod Digits
 pub mod Lines
 pub mod Groups

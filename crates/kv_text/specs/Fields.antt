@@ -1,5 +1,5 @@
 -- What the answers about bytes and fields stand for in the definitions.
-use Prim.Native.Nat.{Ordering, Ordering·eq, Ordering·gt, Ordering·lt, _-_, _<_, _≤_, ℕ}
+use Prim.Native.Nat.{Ordering, Ordering·eq, Ordering·gt, Ordering·lt, _+_, _-_, _<_, _≤_, ℕ}
 use lib.ListN.{drop, getD, length, take}
 use mathlib.Core.List.{List, [], _∷_}
 use mathlib.Core.Option.{Option, none, some}
@@ -9,6 +9,8 @@ use Rattle.definitions.specs.Bytes.{comma, fieldsOf}
 use Rattle.definitions.specs.Numbers.{number, numberList}
 use Rattle.kv_text.specs.declared.AlleleRead.{AlleleRead}
 use Rattle.kv_text.specs.declared.AlleleRead.the-variants as allele
+use Rattle.kv_text.specs.declared.DigitsAt.{DigitsAt}
+use Rattle.kv_text.specs.declared.DigitsAt.the-variants as digits
 use Rattle.kv_text.specs.declared.FieldAt.{FieldAt}
 use Rattle.kv_text.specs.declared.FieldAt.the-variants as field
 use Rattle.kv_text.specs.declared.NumberRead.{NumberRead}
@@ -24,9 +26,13 @@ orderOf Less = Ordering·lt
 orderOf Same = Ordering·eq
 orderOf Greater = Ordering·gt
 
--- the length of a text's first field
+-- a text's first field
+unfoldable pub firstField : ℕ → List ℕ → List ℕ
+firstField separator s = getD (fieldsOf separator s) 0 []
+
+-- its length
 unfoldable pub fieldLength : ℕ → List ℕ → ℕ
-fieldLength separator s = length (getD (fieldsOf separator s) 0 [])
+fieldLength separator s = length (firstField separator s)
 
 -- the bytes of a text from one offset to just before another
 abbrev pub between : List ℕ → ℕ → ℕ → List ℕ
@@ -42,6 +48,11 @@ FieldFound s separator n field.Absent = length (fieldsOf separator s) ≤ n
 abbrev pub numberRead : NumberRead → Option ℕ
 numberRead (one.Value n) = some n
 numberRead one.Fault = none
+
+-- the number that the field at an offset of a list spells, and where the field ends; or it spells none
+unfoldable pub digitsRead : DigitsAt → List ℕ → ℕ → Type 0
+digitsRead (digits.Found n e) s at = (number (firstField comma (drop at s)) ≡ some n) × (e ≡ at + fieldLength comma (drop at s))
+digitsRead digits.Fault s at = number (firstField comma (drop at s)) ≡ none
 
 -- the numbers that fields spell, up to the first that spells none
 unfoldable pub firstNumbers : List (List ℕ) → List ℕ

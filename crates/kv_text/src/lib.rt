@@ -2,13 +2,14 @@
 ghost use mathlib.Core.Path.{_≡_};
 ghost use mathlib.Core.Option.{some};
 ghost use Prim.Native.Nat.{_+_};
+ghost use lib.Dec.{eqb};
 ghost use lib.ListN.{drop, length, set};
 ghost use lib.Seq.{sets};
 ghost use Rattle.definitions.specs.Alleles.{alleleOf, isLetter, lettersOf};
 ghost use Rattle.definitions.specs.Bytes.{comma, compareBytes, fieldsOf, sameBytes, stripPrefix};
 ghost use Rattle.definitions.specs.Lists.{isThere};
-ghost use Rattle.definitions.specs.Numbers.{isDigit, isNameByte, name, noLeadingZero, number, numberList, orMissing};
-ghost use Rattle.kv_text.specs.Fields.{FieldFound, alleleRead, fieldLength, firstNumbers, numberRead, numbersRead, orderOf};
+ghost use Rattle.definitions.specs.Numbers.{isDigit, isNameByte, name, number, numberList, orMissing};
+ghost use Rattle.kv_text.specs.Fields.{FieldFound, alleleRead, digitsRead, fieldLength, firstNumbers, numberRead, numbersRead, orderOf};
 ghost use Rattle.kv_text.specs.Lines.{LineReads, Ordered, listCount, listFound, numberFound, optionalFound, valueFound};
 
 // ---- bytes
@@ -43,16 +44,21 @@ pub fn compare_bytes(a: &[u8], b: &[u8]) -> Order
     Order::Same
 }
 
-// The same bytes.
+// The same bytes: as many, and each the same.
 pub fn same_bytes(a: &[u8], b: &[u8]) -> bool
     ensures { λ r. ⌜ r ≡ sameBytes (now (a .entry)) (now (b .entry)) ⌝ }
 {
-    let order = compare_bytes(a, b);
-    match order {
-        Order::Same => true,
-        Order::Less => false,
-        Order::Greater => false,
+    if a.len() != b.len() {
+        return false;
     }
+    let mut i = 0;
+    while i < a.len() {
+        if a[i] != b[i] {
+            return false;
+        }
+        i += 1;
+    }
+    true
 }
 
 // Whether a text begins with a key.
@@ -139,17 +145,57 @@ fn is_digit(b: u8) -> bool
     48 <= b && b <= 57
 }
 
-// There is a first digit, and it is 0 only if it stands alone.
-fn no_leading_zero(s: &[u8]) -> bool
-    ensures { λ r. ⌜ r ≡ noLeadingZero (now (s .entry)) ⌝ }
+// Whether no byte of a list's field is left at an offset: a comma stands there, or nothing.
+fn is_field_end(s: &[u8], at: usize) -> bool
+    ensures { λ r. ⌜ r ≡ eqb (fieldLength comma (drop at (now (s .entry)))) 0 ⌝ }
 {
-    if s.len() == 0 {
-        return false;
-    }
-    if s.len() == 1 {
+    if s.len() <= at {
         return true;
     }
-    s[0] != 48
+    s[at] == b','
+}
+
+// What the field at an offset of a list spells: a number, and where the field ends.
+enum DigitsAt {
+    Found(u32, usize),
+    Fault,
+}
+
+// The number in the field at an offset of a list: decimal digits, 0 to 2147483647, with no leading zero.
+fn read_digits(s: &[u8], at: usize) -> DigitsAt
+    ensures { λ r. ⌜ digitsRead r (now (s .entry)) at ⌝ }
+{
+    if s.len() <= at {
+        return DigitsAt::Fault;
+    }
+    let first = s[at];
+    if !is_digit(first) {
+        return DigitsAt::Fault;
+    }
+    let mut i = at + 1;
+    if first == b'0' {
+        if is_field_end(s, i) {
+            return DigitsAt::Found(0, i);
+        }
+        return DigitsAt::Fault;
+    }
+    let mut n = wide(first - 48);
+    while i < s.len() {
+        let b = s[i];
+        if !is_digit(b) {
+            if b == b',' {
+                return DigitsAt::Found(n as u32, i);
+            }
+            return DigitsAt::Fault;
+        }
+        let v = n * 10 + wide(b - 48);
+        if 2147483647 < v {
+            return DigitsAt::Fault;
+        }
+        n = v;
+        i += 1;
+    }
+    DigitsAt::Found(n as u32, i)
 }
 
 // What a field spells as a number.
@@ -158,28 +204,18 @@ pub enum NumberRead {
     Fault,
 }
 
-// A number in decimal digits, 0 to 2147483647, with no leading zero.
+// A number, where it is the whole text.
 pub fn read_number(s: &[u8]) -> NumberRead
     ensures { λ r. ⌜ numberRead r ≡ number (now (s .entry)) ⌝ }
 {
-    if !no_leading_zero(s) {
+    let digits = read_digits(s, 0);
+    let DigitsAt::Found(n, end) = digits else {
+        return NumberRead::Fault;
+    };
+    if end < s.len() {
         return NumberRead::Fault;
     }
-    let mut n: u64 = 0;
-    let mut i = 0;
-    while i < s.len() {
-        let b = s[i];
-        if !is_digit(b) {
-            return NumberRead::Fault;
-        }
-        let v = n * 10 + (wide(b) - 48);
-        if 2147483647 < v {
-            return NumberRead::Fault;
-        }
-        n = v;
-        i += 1;
-    }
-    NumberRead::Value(n as u32)
+    NumberRead::Value(n)
 }
 
 // What a field spells as a list of numbers.
@@ -204,9 +240,8 @@ pub fn read_numbers(s: &[u8], out: &mut [u32]) -> NumbersRead
     let mut at = 0;
     let mut count = 0;
     loop {
-        let end = field_end(s, at, b',');
-        let n = read_number(&s[at..end]);
-        let NumberRead::Value(v) = n else {
+        let digits = read_digits(s, at);
+        let DigitsAt::Found(v, end) = digits else {
             return NumbersRead::Fault;
         };
         store(out, count, v);

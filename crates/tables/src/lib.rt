@@ -41,18 +41,27 @@ pub fn part<'a>(s: &'a [u8], from: usize, to: usize) -> &'a [u8]
     &s[from..to]
 }
 
+// 2^60: no table has so many numbers, since a slice has fewer than 2^63 bytes.
+const TOO_MANY_NUMBERS: usize = 1152921504606846976;
+
+// 2^56: so many rows have more numbers than that.
+const TOO_MANY_ROWS: usize = 72057594037927936;
+
 // A number of a site's row.
 fn column(rows: &[usize], site: usize, k: usize) -> usize
     ensures { λ r. ⌜ r ≡ column k (now (rows .entry)) site ⌝ }
 {
-    if rows.len() / 17 < site {
+    if TOO_MANY_ROWS <= site {
         return 0;
     }
-    let first = site * 17;
-    if rows.len() - first <= k {
+    if TOO_MANY_NUMBERS <= k {
         return 0;
     }
-    rows[first + k]
+    let at = site * 17 + k;
+    if rows.len() <= at {
+        return 0;
+    }
+    rows[at]
 }
 
 // The sample whose site it is.
