@@ -1,0 +1,5 @@
+pub mod Folded
+pub mod Values
+pub mod Alts
+pub mod Rows
+pub mod Called
