@@ -1,35 +1,32 @@
--- A called record: its lines, and what a caller that has read the record shows to have them laid.
+-- A called record in a table: its lines, and what the calls that lay them ask.
 -- Assumes nothing.
-use Prim.Native.Nat.{_*_, _+_, _-_, _<_, _^_, _≤_, suc, ℕ}
+use Prim.Native.Nat.{_+_, _-_, _<_, _^_, _≤_, suc, ℕ}
 use borrow.Author.Tests.{eqb-true}
-use lib.Dec.{eqb}
 use lib.ListN.{length, length-append, length-map, take}
 use lib.Seq.{take-all}
 use mathlib.Core.Bool.{true}
 use mathlib.Core.List.{List, [], _++_, _∷_, flatMap, map}
 use mathlib.Core.Option.{Option, Option·getD, none, some}
-use mathlib.Core.Path.{_∙_, _≡_, ap, refl, sym}
-use native.Mathlib.Nat.{mul-le-mul}
+use mathlib.Core.Path.{_∙_, _≡_, ap, refl}
 use native.Mathlib.Omega.{arith}
-use Rattle.definitions.specs.Alleles.{allelesOf, genotypeCount, nonRef, sameAllele}
+use Rattle.definitions.specs.Alleles.{RefAlts, allelesOf, genotypeCount, nonRef, sameAllele}
 use Rattle.definitions.specs.Bytes.{comma, fieldsOf, text}
 use Rattle.definitions.specs.CalledList.{calledData, calledRecord, nonRefNumber, printedCalledRecord}
 use Rattle.definitions.specs.Cohort.{plFits}
 use Rattle.definitions.specs.Genotypes.{SampleData}
 use Rattle.definitions.specs.Lines.{keyOf, line}
 use Rattle.definitions.specs.ListReader.{countsFit}
-use Rattle.definitions.specs.Lists.{allOf, indexWhere, missingOr, numbersFrom}
-use Rattle.definitions.specs.Numbers.{decimal}
+use Rattle.definitions.specs.Lists.{indexWhere, missingOr, numbersFrom}
 use Rattle.definitions.specs.Printed.{printedValues}
 use Rattle.genotype_values.proofs.Mapped.{count-is, product-bound}
 use Rattle.kv_write.proofs.Laying.{fits-first, fits-rest, laid-append}
 use Rattle.kv_write.specs.Laid.{Laid}
-use Rattle.laws.proofs.Every.{Every, IfThere, every-map, every-of-map-back, every-passed, if-there, index-below, missing-or-back}
+use Rattle.laws.proofs.Every.{IfThere, every-map, every-of-map-back, every-passed, if-there, index-below, missing-or-back}
 use Rattle.laws.proofs.Fields.{fields-cons}
 use Rattle.laws.proofs.Tests.{both-of}
 use Rattle.record_lines.proofs.Head.{contigLine, posLine, refLine}
 use Rattle.tables.specs.Tables.{alleleSpelled, refAltsSpelled}
-use Rattle.called_genotypes.specs.Rows.{CalledRecordFits, Entries, RecordRows, SamplesPrintable, altLine, calledHead, calledSample, calledSamples, rowData, rowRecord, withoutGt}
+use Rattle.called_genotypes.specs.Rows.{CalledRecordFits, Entries, SamplesPrintable, altLine, calledHead, calledSample, calledSamples, rowData, rowRecord}
 
 -- ---- the lines before the samples'
 
@@ -52,6 +49,15 @@ module _ (contig : List ℕ) (pos : ℕ) (ref alts : List ℕ) where
 
 -- ---- the alleles
 
+-- `<NON_REF>` is one of them; REF is where there is none
+pub non-ref-below : (a : RefAlts) → nonRefNumber a < length (allelesOf a)
+unfolding nonRefNumber allelesOf
+non-ref-below a = go (indexWhere (sameAllele nonRef) (allelesOf a)) (index-below (sameAllele nonRef) (allelesOf a))
+  where
+    go : (o : Option ℕ) → IfThere (λ i. i < length (allelesOf a)) o → Option·getD o 0 < length (allelesOf a)
+    go none h = omega arith
+    go (some k) h = h
+
 module _ (ref alts : List ℕ) where
   pub alleles-count : length (allelesOf (refAltsSpelled ref alts)) ≡ suc (length (fieldsOf comma alts))
   unfolding allelesOf refAltsSpelled
@@ -59,14 +65,6 @@ module _ (ref alts : List ℕ) where
 
   pub at-least-two : 2 ≤ suc (length (fieldsOf comma alts))
   at-least-two = let (f, fs, e) = fields-cons comma alts in omega (arith, ap length e)
-
-  pub non-ref-below : nonRefNumber (refAltsSpelled ref alts) < suc (length (fieldsOf comma alts))
-  unfolding nonRefNumber
-  non-ref-below = go (indexWhere (sameAllele nonRef) (allelesOf (refAltsSpelled ref alts))) (index-below (sameAllele nonRef) (allelesOf (refAltsSpelled ref alts)))
-    where
-      go : (o : Option ℕ) → IfThere (λ i. i < length (allelesOf (refAltsSpelled ref alts))) o → Option·getD o 0 < suc (length (fieldsOf comma alts))
-      go none h = omega arith
-      go (some k) h = omega (arith, alleles-count)
 
   -- the answer of `non_ref_number`
   pub non-ref-is : {x : ℕ} → suc (length (fieldsOf comma alts)) ≤ 16
@@ -144,7 +142,7 @@ module _ (s contig : List ℕ) (pos : ℕ) (ref alts rows : List ℕ) (samples :
       samples-printable l = record {
         atLeast = omega (arith, pre .count, at-least-two ref alts);
         atMost = pre .few;
-        dropped = omega (arith, pre .count, non-ref-below ref alts);
+        dropped = omega (arith, pre .count, alleles-count ref alts, non-ref-below (refAltsSpelled ref alts));
         entries = every-map (λ sample. few-entries (pre .count) (pre .few) (rowData s rows sample)) (every-of-map-back (rowData s rows) (numbersFrom 0 samples) (every-passed (countsFit (refAltsSpelled ref alts)) _ (pre .counts)));
         fits = fits-rest (calledSamples s alleles x rows samples) l fits-both;
       }

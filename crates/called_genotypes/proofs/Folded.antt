@@ -2,7 +2,7 @@
 -- Assumes nothing.
 use Prim.Native.Nat.{_+_, _-_, _<_, _≤_, min, suc, zero, ℕ}
 use borrow.Author.Tests.{eq-eqb, le-leb, le-ltb, lt-leb, lt-ltb, ne-eqb}
-use lib.Dec.{eqb, leb}
+use lib.Dec.{eqb}
 use lib.ListN.{drop, drop-of-length-le, getD, getElem?, length, length-append, length-map, set, take}
 use lib.Seq.{drop-cons, sets, take-all}
 use mathlib.Core.Bool.{Bool, false, not}

@@ -3,3 +3,4 @@ pub mod Values
 pub mod Alts
 pub mod Rows
 pub mod Called
+pub mod SoundCalled

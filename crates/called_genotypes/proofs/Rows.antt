@@ -2,25 +2,23 @@
 -- Assumes nothing.
 use Prim.Native.Nat.{_+_, _-_, _<_, _≤_, suc, ℕ}
 use lib.ListN.{length}
+use lib.Seq.{sets}
 use mathlib.Core.List.{List, [], _++_, flatMap}
 use mathlib.Core.Option.{Option}
-use mathlib.Core.Path.{_≡_, refl}
+use mathlib.Core.Path.{_≡_}
 use native.Mathlib.Nat.{sub-zero}
 use native.Mathlib.Omega.{arith}
+use Rattle.definitions.specs.Bytes.{comma, fieldsOf}
 use Rattle.definitions.specs.CalledList.{calledData}
 use Rattle.definitions.specs.Lists.{numbersFrom}
 use Rattle.definitions.specs.Numbers.{numberList}
-use Rattle.definitions.specs.Printed.{printedValues}
-use Rattle.genotype_values.specs.Values.{present}
 use Rattle.kv_text.specs.Fields.{firstNumbers}
-use Rattle.definitions.specs.Bytes.{comma, fieldsOf}
-use Rattle.laws.proofs.Every.{IfThere, every-member, if-there}
+use Rattle.laws.proofs.Every.{every-member, if-there}
 use Rattle.laws.proofs.Members.{numbers-member}
 use Rattle.record_lines.proofs.SiteValues.{Front, numbers-front, numbers-present, numbersOf}
 use Rattle.tables.specs.Tables.{codeOption, column, partAt}
 use Rattle.called_genotypes.specs.Rows.{Entries, SamplePrintable, SamplesPrintable, calledSample, calledSamples, rowData}
 use Rattle.called_genotypes.specs.Values.{CalledPrintable, ownValues}
-use lib.Seq.{sets}
 
 -- ---- a row
 

@@ -1,18 +1,16 @@
 -- What is said of a sample without an allele: its lines one behind the other, and that they are those of `calledData`.
 -- Assumes nothing.
-use Prim.Native.Nat.{_+_, _-_, _<_, _≤_, min, suc, zero, ℕ}
+use Prim.Native.Nat.{_+_, _-_, _<_, _≤_, suc, zero, ℕ}
 use lib.ListN.{drop, length, length-append, length-drop, length-take, take}
 use mathlib.Core.List.{List, [], _++_, _∷_}
 use mathlib.Core.Option.{Option, Option·map, none, some}
 use mathlib.Core.Path.{_∙_, _≡_, ap, refl, sym}
 use native.Mathlib.Omega.{arith}
-use Rattle.definitions.specs.Alleles.{genotypeCount}
 use Rattle.definitions.specs.Bytes.{text}
 use Rattle.definitions.specs.CalledGenotypes.{gqFromPl, plWithoutAllele}
 use Rattle.definitions.specs.CalledList.{calledData, withoutIndex}
 use Rattle.definitions.specs.Lines.{keyOf, line}
 use Rattle.definitions.specs.Lists.{onlyIf}
-use Rattle.definitions.specs.Numbers.{decimal, decimals, writtenOrMissing}
 use Rattle.definitions.specs.Printed.{printedValues}
 use Rattle.genotype_values.proofs.Best.{present-some}
 use Rattle.genotype_values.proofs.Lines.{adLine, dpLine, gqLine, plLine}

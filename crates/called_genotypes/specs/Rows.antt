@@ -99,7 +99,7 @@ pub record SamplesPrintable (s : List ℕ) (n x : ℕ) (rows : List ℕ) (sample
   pub entries : Every (λ sample. Entries n (rowData s rows sample)) (numbersFrom 0 samples)
   pub fits : at + length (calledSamples s n x rows samples) < 2 ^ 64
 
--- what `put_called_record` asks: at most 16 alleles, PL and AD of each sample with an entry for each genotype and allele, and that the offset behind the lines fits a usize; a sound record of at most 64 samples does (`called-fits` of proofs/Called.antt)
+-- what `put_called_record` asks: at most 16 alleles, PL and AD of each sample with an entry for each genotype and allele, and that the offset behind the lines fits a usize; a sound record of at most 64 samples does (`called-fits` of proofs/SoundCalled.antt)
 pub record CalledRecordFits (s contig : List ℕ) (pos : ℕ) (ref alts : List ℕ) (alleles : ℕ) (rows : List ℕ) (samples at : ℕ) : Type 0 where
   pub count : alleles ≡ suc (length (fieldsOf comma alts))
   pub few : alleles ≤ 16

@@ -368,7 +368,7 @@ fn put_called_samples(
 }
 
 // Lays a called record: the record with these alleles, `alleles` of them, whose samples' data are in the first rows of the table.
-// `called-is` and `called-fits` of proofs/Called.antt are for a caller that has read such a record.
+// `called-is` and `called-fits` of proofs/SoundCalled.antt are for a caller that has read such a record.
 pub fn put_called_record(
     s: &[u8],
     contig: &[u8],

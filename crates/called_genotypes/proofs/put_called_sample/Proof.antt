@@ -2,7 +2,6 @@
 use borrow.Author.Needs.{needs}
 use mathlib.Core.Path.{refl}
 use Rattle.called_genotypes.proofs.Rows.{ad-front, pl-front, row-called, row-printable}
-use Rattle.definitions.specs.Printed.{printedValues}
 use Rattle.called_genotypes.proofs.put_called_sample.Statement.{statement}
 use Rattle.called_genotypes.proofs.put_called_sample.Tie as tie
 

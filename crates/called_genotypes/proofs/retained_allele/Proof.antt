@@ -1,7 +1,6 @@
 -- Below the dropped allele, or past it.
 use borrow.Author.Needs.{needs}
 use borrow.Author.Tests.{le-ltb, lt-ltb}
-use mathlib.Core.Path.{_∙_}
 use native.Mathlib.Omega.{arith}
 use Rattle.called_genotypes.specs.Values.{retainedAllele}
 use Rattle.called_genotypes.proofs.retained_allele.Statement.{statement}
