@@ -36,7 +36,7 @@ pub record TwoCalls : Type 0 where
 abbrev oldTexts : TwoCalls → Texts
 oldTexts k = record { cohort = k .old; clip = k .clip; reference = k .reference }
 
-abbrev newTexts : TwoCalls → Texts
+abbrev pub newTexts : TwoCalls → Texts
 newTexts k = record { cohort = k .new; clip = k .clip; reference = k .reference }
 
 -- ---- two choices of letters: of the first segment in the file that holds the position, and of the last
@@ -63,7 +63,7 @@ last-letter reference contig position h =
     let (last, m′, holds′, is) = first-letter (reverse reference) contig position (rw held tt) in
     (last, reverse-member reference m′, holds′, is)
 
-last-choice : (t : Texts) → ChoiceFor t (lastChoice t)
+pub last-choice : (t : Texts) → ChoiceFor t (lastChoice t)
 unfolding ChoiceFor lastChoice segmentsOf valueOr
 last-choice t reference e = rw e (last-letter reference)
 
@@ -87,7 +87,7 @@ unfoldable pub recordsIn : Checked (List ℕ) → List Record
 recordsIn list = readIn (list >>= listRead) .records
 
 -- an accepted call has read its cohort
-cohort-read : (t : Texts) (scratchLength outLength : ℕ) (choose : LetterChoice) (list : List ℕ)
+pub cohort-read : (t : Texts) (scratchLength outLength : ℕ) (choose : LetterChoice) (list : List ℕ)
     → combinedList t scratchLength outLength choose ≡ accepted list → cohortOf (t .cohort) ≡ accepted (cohortIn (t .cohort))
 unfolding cohortIn valueOr
 cohort-read t scratchLength outLength choose list ok =
@@ -95,14 +95,14 @@ cohort-read t scratchLength outLength choose list ok =
     rw e
 
 -- and its list reads back as these records
-records-read : (m : Checked (List ℕ)) (list : List ℕ) (w : WrittenList) → m ≡ accepted list → listRead list ≡ accepted w
+pub records-read : (m : Checked (List ℕ)) (list : List ℕ) (w : WrittenList) → m ≡ accepted list → listRead list ≡ accepted w
     → w .records ≡ recordsIn m
 unfolding recordsIn valueOr _>>=_
 records-read m list w e f = sym (ap recordsIn e ∙ ap (λ (r : Checked WrittenList). readIn r .records) f)
 
 -- ---- demand 3 for them
 
-accepted-value : (m : Checked (List ℕ)) → T (isAccepted m) → m ≡ accepted (valueOr [] m)
+pub accepted-value : (m : Checked (List ℕ)) → T (isAccepted m) → m ≡ accepted (valueOr [] m)
 unfolding isAccepted valueOr
 accepted-value (refused n) t = absurd t
 accepted-value (accepted list) t = refl

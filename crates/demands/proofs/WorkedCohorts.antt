@@ -10,6 +10,7 @@ use Rattle.definitions.specs.Bytes.{text}
 use Rattle.definitions.specs.Lines.{line}
 use Rattle.definitions.specs.Numbers.{decimal}
 use Rattle.demands.proofs.TwoCalls.{TwoCalls, Worked, computed, worked}
+use Rattle.demands.proofs.WorkedCall.{CalledAs, called-as}
 
 -- ---- texts, written shortly
 
@@ -78,6 +79,11 @@ on-all-sides : Worked onAllSides "10-10:A,G,<NON_REF> 11-16:A,<NON_REF>"
     "10-10:AT,GT,A,<NON_REF> 11-11:A,*,<NON_REF> 12-12:C,T,<NON_REF> 13-16:A,<NON_REF>"
 unfolding computed
 on-all-sides = worked onAllSides tt tt (record { names = refl; sites = refl }) refl refl
+
+-- the second list is one that can be called; its block is dropped
+on-all-sides-called : CalledAs onAllSides "10-10:AT,GT,A 11-11:A,* 12-12:C,T"
+unfolding computed
+on-all-sides-called = called-as onAllSides tt tt refl
 
 -- ---- values of the old samples are missing: GQ and AD of S0, DP and PL of S1
 

@@ -7,7 +7,7 @@ ghost use Rattle.diploid_pairs.specs.Pairs.{inPlace, pairOf, passesFrom}
 use bio_ids::AlleleIndex;
 
 // The numbers of a genotype's two alleles, the lower first.
-struct AllelePair(u8, u8);
+pub struct AllelePair(pub u8, pub u8);
 
 // The pairs of 16 alleles, by place.
 const PAIRS: [AllelePair; 136] = [
@@ -150,7 +150,7 @@ const PAIRS: [AllelePair; 136] = [
 ];
 
 // The table. Its rule: the pair (j, k) stands at k(k+1)/2 + j.
-fn table() -> [AllelePair; 136]
+pub fn table() -> [AllelePair; 136]
     ensures { λ r. ⌜ passesFrom 0 inPlace r ≡ true ⌝ }
 {
     PAIRS

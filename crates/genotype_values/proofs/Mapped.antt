@@ -3,7 +3,7 @@
 use Prim.Native.Nat.{_*_, _+_, _/_, _<_, _≤_, ℕ}
 use lib.ListN.{getD, getElem?, length, length-map}
 use mathlib.Core.List.{List, map}
-use mathlib.Core.Option.{Option·getD, Option·map}
+use mathlib.Core.Option.{some}
 use mathlib.Core.Path.{_∙_, _≡_, ap, refl, sym}
 use native.Mathlib.Nat.{mul-le-mul}
 use native.Mathlib.Numerals.{add-one}
@@ -12,7 +12,7 @@ use Rattle.definitions.specs.Alleles.{genotypeCount}
 use Rattle.definitions.specs.Genotypes.{AllelePair, atMappedPairs, genotypePairs, remappedAd, remappedPl}
 use Rattle.laws.proofs.Genotypes.{genotype-pairs-length}
 use Rattle.laws.proofs.Members.{getD-some}
-use Rattle.diploid_pairs.proofs.Places.{pair-at-place, pair-there, same-pair}
+use Rattle.diploid_pairs.proofs.Places.{same-pair}
 use Rattle.genotype_values.specs.Values.{mappedPlace}
 
 -- the record's PL at a pair
@@ -42,9 +42,7 @@ count-is n = rw add-one
 pub product-bound : (n : ℕ) → n ≤ 16 → n * (n + 1) ≤ 16 * 17
 product-bound n h = mul-le-mul {n₂ = 16} {m₂ = 17} h (omega arith)
 
--- a value of the pair at a place of n alleles
-pub value-there : (f : AllelePair → ℕ) (n place : ℕ) → n ≤ 16 → place < genotypeCount n
-    → Option·getD (Option·map f (getElem? (genotypePairs 16) place)) 0 ≡ f (getD (genotypePairs n) place noPair)
-value-there f n place l h =
-    let there = pair-there n (pair-at-place n place h) in
-    rw (← same-pair n 16 place l h, there, getD-some (genotypePairs n) place noPair there)
+-- the pair at a place of 16 alleles is that of n alleles
+pub pair-there-too : (n place : ℕ) {p : AllelePair} → n ≤ 16 → place < genotypeCount n → getElem? (genotypePairs 16) place ≡ some p
+    → getD (genotypePairs n) place noPair ≡ p
+pair-there-too n place l h e = getD-some (genotypePairs n) place noPair (same-pair n 16 place l h ∙ e)

@@ -1,7 +1,7 @@
 // A sample's AD, PL and GT over a record's alleles, and the lines that say them.
 // A map gives, for each allele of the record, the number of the sample's allele.
 ghost use mathlib.Core.Bool.{cond};
-ghost use mathlib.Core.Option.{Option·getD, Option·map};
+ghost use mathlib.Core.Option.{Option·map};
 ghost use mathlib.Core.Path.{_≡_};
 ghost use Prim.Native.Nat.{_+_, _<_, _≤_, _^_};
 ghost use lib.Dec.{ltb};
@@ -17,6 +17,7 @@ ghost use Rattle.kv_write.specs.Optional.{optionOf};
 ghost use Rattle.genotype_values.specs.Remapped.{Filled, PlRemapped, ofPresent, placeOf};
 ghost use Rattle.genotype_values.specs.Values.{Printable, genotypeLine, leastPair, leastPlace, mappedPlace, present, saidOf, valuesOf};
 use bio_ids::AlleleIndex;
+use diploid_pairs::AllelePair;
 use diploid_pairs::PairAt;
 use kv_write::OptionalNumber;
 
@@ -70,30 +71,33 @@ pub enum MappedAt {
     NoPair,
 }
 
+// The place in the sample's PL of a pair of the record's alleles.
+fn mapped_place(map: &[u8], low: AlleleIndex, high: AlleleIndex) -> usize
+    ensures { λ r. ⌜ r ≡ mappedPlace (now (map .entry)) (record { low = low .0; high = high .0 }) ⌝ }
+{
+    let a = mapped_allele(map, low);
+    let b = mapped_allele(map, high);
+    diploid_pairs::place_of(a, b)
+}
+
 // The place in the sample's PL of the pair at a place of the record's.
 pub fn genotype_index_map_diploid(map: &[u8], place: usize) -> MappedAt
     ensures { λ r. ⌜ placeOf r ≡ Option·map (mappedPlace (now (map .entry))) (getElem? (genotypePairs 16) place) ⌝ }
 {
     match diploid_pairs::pair_at(place) {
-        PairAt::Pair(low, high) => {
-            let a = mapped_allele(map, low);
-            let b = mapped_allele(map, high);
-            MappedAt::At(diploid_pairs::place_of(a, b))
-        }
+        PairAt::Pair(low, high) => MappedAt::At(mapped_place(map, low, high)),
         PairAt::NoPair => MappedAt::NoPair,
     }
 }
 
-// The record's PL at a place of at most 16 alleles; 0 past them.
-fn mapped_pl(map: &[u8], pl: &[u32], place: usize) -> u32
-    ensures { λ r. ⌜ r ≡ Option·getD
-        (Option·map (λ p. getD (now (pl .entry)) (mappedPlace (now (map .entry)) p) 0) (getElem? (genotypePairs 16) place))
+// The record's PL of a pair of its alleles.
+fn mapped_pl(map: &[u8], pl: &[u32], pair: AllelePair) -> u32
+    ensures { λ r. ⌜ r ≡ getD (now (pl .entry))
+        (mappedPlace (now (map .entry)) (record { low = pair .0; high = pair .1 }))
         0 ⌝ }
 {
-    match genotype_index_map_diploid(map, place) {
-        MappedAt::At(old) => value_at(pl, old),
-        MappedAt::NoPair => 0,
-    }
+    let old = mapped_place(map, AlleleIndex::new(pair.0), AlleleIndex::new(pair.1));
+    value_at(pl, old)
 }
 
 // PL over the record's alleles, as far as it fits, and how many values it has. More than 16 alleles are refused.
@@ -105,8 +109,10 @@ pub fn remap_pl(map: &[u8], pl: &[u32], out: &mut [u32]) -> usize
         return 0;
     }
     let count = alleles * (alleles + 1) / 2;
+    let pairs = diploid_pairs::table();
     for place in 0..count {
-        let x = mapped_pl(map, pl, place);
+        let pair = pairs[place];
+        let x = mapped_pl(map, pl, pair);
         put_value(out, place, x);
     }
     count

@@ -1,9 +1,9 @@
 -- Bytes laid over a buffer: the laws for the proofs of the writers and of their callers. `sets d at bytes` of lib.Seq
 -- stores the bytes that fit; `Laid` is what a writer promises; `Left` is the invariant of a writer's loop.
-use Prim.Native.Nat.{_+_, _<_, _^_, _≤_, suc, ℕ}
-use lib.ListN.{drop, length, length-append}
-use lib.Seq.{length-sets, sets, sets-eq}
-use mathlib.Core.List.{List, [], _++_, _∷_}
+use Prim.Native.Nat.{_+_, _-_, _<_, _^_, _≤_, suc, ℕ}
+use lib.ListN.{drop, length, length-append, take, take-append-drop}
+use lib.Seq.{drop-drop, length-sets, length-take-le, set-out, sets, sets-eq}
+use mathlib.Core.List.{List, [], _++_, _∷_, append-assoc}
 use mathlib.Core.Path.{_∙_, _≡_, ap, refl, sym}
 use native.Mathlib.Nat.{add-suc, add-zero, suc-add, zero-add}
 use native.Mathlib.Omega.{arith}
@@ -16,10 +16,14 @@ pub sets-append : (d : List ℕ) (at : ℕ) (xs ys : List ℕ) → sets d at (xs
 sets-append d at [] ys = rw add-zero
 sets-append d at (x ∷ xs) ys = sets-append _ (suc at) xs ys ∙ rw (suc-add at (length xs), add-suc at (length xs))
 
+-- nothing fits past the end
+pub sets-past : (d : List ℕ) (at : ℕ) (bytes : List ℕ) → length d ≤ at → sets d at bytes ≡ d
+sets-past d at [] h = refl
+sets-past d at (b ∷ bytes) h = rw (set-out d at b h) (sets-past d (suc at) bytes (omega arith))
+
 -- nothing fits in no room
 pub sets-nothing : (at : ℕ) (bytes : List ℕ) → sets [] at bytes ≡ []
-sets-nothing at [] = refl
-sets-nothing at (b ∷ bytes) = sets-nothing (suc at) bytes
+sets-nothing at bytes = sets-past [] at bytes (omega arith)
 
 -- bytes that fit stand at the front, and the rest is as it was
 pub sets-front : (d bytes : List ℕ) → length bytes ≤ length d → sets d 0 bytes ≡ bytes ++ drop (length bytes) d
@@ -30,6 +34,39 @@ sets-front d bytes h = sets-eq bytes d 0 (omega arith) ∙ rw zero-add
 -- no bytes are laid
 pub laid-none : {d : List ℕ} {at : ℕ} → Laid d at [] d at
 laid-none {at = at} = record { next = sym (add-zero at); laid = refl }
+
+-- the buffer ends before the offset: nothing is laid
+pub laid-past : {d bytes : List ℕ} {at count : ℕ} → count ≡ length bytes → length d ≤ at → Laid d at bytes d (at + count)
+laid-past {d} {bytes} {at} e h = record { next = rw e; laid = sym (sets-past d at bytes h) }
+
+-- all the bytes fit, and took the place of as many
+pub laid-whole : {d bytes part : List ℕ} {at count : ℕ} → count ≡ length bytes → at + count ≤ length d → part ≡ bytes
+    → Laid d at bytes (take at d ++ (part ++ drop (at + count - at) (drop at d))) (at + count)
+laid-whole {d} {bytes} {part} {at} {count} e h p =
+    let same : at + count - at ≡ length bytes = omega arith in
+    record {
+      next = rw e;
+      laid = rw (p, same, drop-drop (length bytes) at d) (sym (append-assoc (take at d) bytes _) ∙ sym (sets-eq bytes d at (omega arith)));
+    }
+
+-- the buffer ends among the bytes, and the first of them took the place of what stood behind the offset
+pub laid-start : {d bytes part : List ℕ} {at : ℕ} → at ≤ length d → length d ≤ at + length bytes → part ≡ take (length d - at) bytes
+    → Laid d at bytes (take at d ++ (part ++ drop (length d - at) (drop at d))) (at + length bytes)
+laid-start {d} {bytes} {part} {at} l h p =
+    let room = length d - at in
+    let size : length (take room bytes) ≡ room = length-take-le room bytes (omega arith) in
+    let all : take room bytes ++ drop room bytes ≡ bytes = take-append-drop room bytes in
+    let first : length (sets d at (take room bytes)) ≤ at + length (take room bytes) = omega (arith, length-sets d at (take room bytes)) in
+    record {
+      next = refl;
+      laid =
+          rw (p, drop-drop room at d) (sym (append-assoc (take at d) (take room bytes) _))
+          ∙ ap (λ n. take at d ++ take room bytes ++ drop (at + n) d) (sym size)
+          ∙ sym (sets-eq (take room bytes) d at (omega arith))
+          ∙ sym (sets-past (sets d at (take room bytes)) (at + length (take room bytes)) (drop room bytes) first)
+          ∙ sym (sets-append d at (take room bytes) (drop room bytes))
+          ∙ ap (sets d at) all;
+    }
 
 -- bytes are laid, and then bytes behind them
 pub laid-append : {d d′ d″ xs ys : List ℕ} {at at′ at″ : ℕ}

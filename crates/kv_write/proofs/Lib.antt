@@ -1,3 +1,4 @@
 pub mod Laying
 pub mod Joined
 pub mod Lines
+pub mod StoredDigits

@@ -3,6 +3,7 @@
 // Each requires that this offset fits a usize, since a function that took every offset would have to return a wrong one
 // where the sum overflows.
 ghost use mathlib.Core.List.{[], _∷_};
+ghost use mathlib.Core.Path.{_≡_};
 ghost use Prim.Native.Nat.{_+_, _<_, _^_};
 ghost use lib.ListN.{length};
 ghost use Rattle.definitions.specs.Bytes.{text};
@@ -24,17 +25,82 @@ pub fn put_byte(out: &mut [u8], at: usize, b: u8) -> usize
     next
 }
 
+// Copies bytes over as many.
+fn copy_bytes(to: &mut [u8], bytes: &[u8])
+    requires { ⌜ length (now to) ≡ length (now bytes) ⌝ }
+    ensures { λ _. ⌜ now (to .exit) ≡ now (bytes .entry) ⌝ }
+{
+    for i in 0..bytes.len() {
+        let b = bytes[i];
+        to[i] = b;
+    }
+}
+
 // Lays bytes.
 pub fn put_bytes(out: &mut [u8], at: usize, bytes: &[u8]) -> usize
     requires { ⌜ at + length (now bytes) < 2 ^ 64 ⌝ }
     ensures { λ r. ⌜ Laid (now (out .entry)) at (now (bytes .entry)) (now (out .exit)) r ⌝ }
 {
-    let mut next = at;
-    for i in 0..bytes.len() {
-        let b = bytes[i];
-        next = put_byte(out, next, b);
+    let end = at + bytes.len();
+    if out.len() <= at {
+        return end;
     }
-    next
+    if end <= out.len() {
+        copy_bytes(&mut out[at..end], bytes);
+        return end;
+    }
+    let room = out.len() - at;
+    copy_bytes(&mut out[at..], &bytes[..room]);
+    end
+}
+
+// How many decimal digits a number has.
+fn digits(n: u32) -> usize
+    ensures { λ r. ⌜ r ≡ length (decimal n) ⌝ }
+{
+    if n < 10 {
+        return 1;
+    }
+    if n < 100 {
+        return 2;
+    }
+    if n < 1000 {
+        return 3;
+    }
+    if n < 10000 {
+        return 4;
+    }
+    if n < 100000 {
+        return 5;
+    }
+    if n < 1000000 {
+        return 6;
+    }
+    if n < 10000000 {
+        return 7;
+    }
+    if n < 100000000 {
+        return 8;
+    }
+    if n < 1000000000 {
+        return 9;
+    }
+    10
+}
+
+// Stores a number's decimal digits, the last first, over as many bytes.
+fn store_digits(to: &mut [u8], n: u32)
+    requires { ⌜ length (now to) ≡ length (decimal n) ⌝ }
+    ensures { λ _. ⌜ now (to .exit) ≡ decimal n ⌝ }
+{
+    let mut place = to.len();
+    let mut left = n;
+    while 10 <= left {
+        place = place - 1;
+        to[place] = 48 + (left % 10) as u8;
+        left = left / 10;
+    }
+    to[0] = 48 + left as u8;
 }
 
 // Lays a number in decimal digits.
@@ -42,11 +108,18 @@ pub fn put_number(out: &mut [u8], at: usize, n: u32) -> usize
     requires { ⌜ at + length (decimal n) < 2 ^ 64 ⌝ }
     ensures { λ r. ⌜ Laid (now (out .entry)) at (decimal n) (now (out .exit)) r ⌝ }
 {
-    if n < 10 {
-        return put_byte(out, at, 48 + n as u8);
+    let count = digits(n);
+    let end = at + count;
+    if out.len() <= at {
+        return end;
     }
-    let next = put_number(out, at, n / 10);
-    put_byte(out, next, 48 + (n % 10) as u8)
+    if end <= out.len() {
+        store_digits(&mut out[at..end], n);
+        return end;
+    }
+    let mut whole = [0u8; 10];
+    store_digits(&mut whole[..count], n);
+    put_bytes(out, at, &whole[..count])
 }
 
 // Lays numbers with commas between; no numbers are no bytes.

@@ -1,66 +1,77 @@
--- What is left to lay are the bytes from i on.
-use Prim.Native.Nat.{_+_, _-_, _<_, ℕ}
+-- By how much of the bytes the buffer has room for.
 use borrow.Author.Needs.{needs}
-use lib.ListN.{drop, drop-of-length-le, getD, length}
-use lib.Seq.{drop-cons}
-use mathlib.Core.List.{List, _∷_}
-use mathlib.Core.Path.{_≡_}
-use native.Mathlib.Numerals.{add-one}
+use lib.ListN.{length-drop, length-take}
+use mathlib.Core.Path.{refl}
 use native.Mathlib.Omega.{arith}
-use Rattle.kv_write.proofs.Laying.{Left, done, left-length, one, recast, start}
+use Rattle.kv_write.proofs.Laying.{laid-past, laid-start, laid-whole}
 use Rattle.kv_write.proofs.put_bytes.Statement.{statement}
 use Rattle.kv_write.proofs.put_bytes.Tie as tie
 
-next-byte : (bytes : List ℕ) (i : ℕ) → i < length bytes → drop i bytes ≡ getD bytes i 0 ∷ drop (i + 1) bytes
-next-byte bytes i h = rw (add-one, drop-cons bytes i 0)
+add-end : tie.Need-add-end
+add-end c = search needs
 
-abbrev Inv-loop : tie.InvT-loop
-Inv-loop out₀ at bytes next₀ i₀ i-end out next i = Left out₀ at bytes out next (drop i bytes)
+returns : tie.Need-returns
+returns c = laid-past refl (c .if1 .taken)
 
-abbrev μ-loop : tie.MeasureT-loop
-μ-loop out₀ at bytes next₀ i₀ i-end out next i = i-end - i
+sub-copy-bytes : tie.Need-sub-copy-bytes
+sub-copy-bytes c = search needs
 
-loop-holds : tie.Need-loop-holds Inv-loop μ-loop
-loop-holds c = start (c .before .before .pre)
+part-copy-bytes-start : tie.Need-part-copy-bytes-start
+part-copy-bytes-start c = search needs
 
-shared-slice-read-b : tie.Need-shared-slice-read-b Inv-loop μ-loop
-shared-slice-read-b c = search needs
+part-copy-bytes-end : tie.Need-part-copy-bytes-end
+part-copy-bytes-end c = search needs
 
-put-byte-requires : tie.Need-put-byte-requires Inv-loop μ-loop
-put-byte-requires c κs =
-    let below = c .before .before .loop-test .taken in
-    let inv = c .before .before .before .loop .inv in
-    omega (arith, (recast (next-byte _ _ below) inv) .fits)
+copy-bytes-requires : tie.Need-copy-bytes-requires
+copy-bytes-requires c κs = search needs
 
-add-i : tie.Need-add-i Inv-loop μ-loop
-add-i c = search needs
+same-length : tie.Need-same-length
+same-length c = search needs
 
-loop-less : tie.Need-loop-less Inv-loop μ-loop
-loop-less c = search needs
+returns-2 : tie.Need-returns-2
+returns-2 c = laid-whole refl (c .before .before .before .before .if2 .taken) (c .before .before .copy-bytes .ensures)
 
-loop-again : tie.Need-loop-again Inv-loop μ-loop
-loop-again c =
-    let below = c .before .before .before .before .before .loop-test .taken in
-    let inv = c .before .before .before .before .before .before .loop .inv in
-    one (c .before .before .put-byte .ensures) (recast (next-byte _ _ below) inv)
+sub-room : tie.Need-sub-room
+sub-room c = search needs
 
-same-length : tie.Need-same-length Inv-loop μ-loop
-same-length c = left-length (c .before .loop .inv)
+sub-copy-bytes-2 : tie.Need-sub-copy-bytes-2
+sub-copy-bytes-2 c = search needs
 
-returns : tie.Need-returns Inv-loop μ-loop
-returns c = done (recast (drop-of-length-le _ (c .loop-test .left)) (c .before .loop .inv))
+part-copy-bytes-start-2 : tie.Need-part-copy-bytes-start-2
+part-copy-bytes-start-2 c = search needs
+
+part-copy-bytes-end-2 : tie.Need-part-copy-bytes-end-2
+part-copy-bytes-end-2 c = search needs
+
+slice-aggregate-copy-bytes : tie.Need-slice-aggregate-copy-bytes
+slice-aggregate-copy-bytes c = simp length-take (omega arith)
+
+copy-bytes-requires-2 : tie.Need-copy-bytes-requires-2
+copy-bytes-requires-2 c κs = simp (length-take, length-drop) (omega arith)
+
+same-length-2 : tie.Need-same-length-2
+same-length-2 c = search needs
+
+returns-3 : tie.Need-returns-3
+returns-3 c = laid-start (omega arith) (omega arith) (c .before .before .copy-bytes2 .ensures)
 
 pub put-bytes-spec : {M : Type 1} → statement M
 put-bytes-spec =
     tie.close
     (tie.spec
-    Inv-loop
-    μ-loop
-    loop-holds
-    shared-slice-read-b
-    put-byte-requires
-    add-i
-    loop-less
-    loop-again
+    add-end
+    returns
+    sub-copy-bytes
+    part-copy-bytes-start
+    part-copy-bytes-end
+    copy-bytes-requires
     same-length
-    returns)
+    returns-2
+    sub-room
+    sub-copy-bytes-2
+    part-copy-bytes-start-2
+    part-copy-bytes-end-2
+    slice-aggregate-copy-bytes
+    copy-bytes-requires-2
+    same-length-2
+    returns-3)

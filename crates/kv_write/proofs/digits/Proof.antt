@@ -1,0 +1,50 @@
+-- By the power of ten that the number is below.
+use native.Mathlib.Omega.{arith}
+use Rattle.kv_write.proofs.StoredDigits.{length-between, length-short}
+use Rattle.kv_write.proofs.digits.Statement.{statement}
+use Rattle.kv_write.proofs.digits.Tie as tie
+
+returns : tie.Need-returns
+returns c = length-short _ (c .if1 .taken)
+
+returns-2 : tie.Need-returns-2
+returns-2 c = length-between 1 _ (c .before .if1 .left) (c .if2 .taken)
+
+returns-3 : tie.Need-returns-3
+returns-3 c = length-between 2 _ (c .before .if2 .left) (c .if3 .taken)
+
+returns-4 : tie.Need-returns-4
+returns-4 c = length-between 3 _ (c .before .if3 .left) (c .if4 .taken)
+
+returns-5 : tie.Need-returns-5
+returns-5 c = length-between 4 _ (c .before .if4 .left) (c .if5 .taken)
+
+returns-6 : tie.Need-returns-6
+returns-6 c = length-between 5 _ (c .before .if5 .left) (c .if6 .taken)
+
+returns-7 : tie.Need-returns-7
+returns-7 c = length-between 6 _ (c .before .if6 .left) (c .if7 .taken)
+
+returns-8 : tie.Need-returns-8
+returns-8 c = length-between 7 _ (c .before .if7 .left) (c .if8 .taken)
+
+returns-9 : tie.Need-returns-9
+returns-9 c = length-between 8 _ (c .before .if8 .left) (c .if9 .taken)
+
+returns-10 : tie.Need-returns-10
+returns-10 c = length-between 9 _ (c .if9 .left) (omega arith)
+
+pub digits-spec : {M : Type 1} → statement M
+digits-spec =
+    tie.close
+    (tie.spec
+    returns
+    returns-2
+    returns-3
+    returns-4
+    returns-5
+    returns-6
+    returns-7
+    returns-8
+    returns-9
+    returns-10)

@@ -1,0 +1,2 @@
+pub mod LetterAlleles
+pub mod CommonEnding
