@@ -34,7 +34,7 @@ pub fn combine(lent: &Lent) -> Result<List, String> {
 }
 
 /// One loaded gVCF for each sample, its sites in file order.
-fn loaded_gvcfs(cohort: &Cohort) -> Vec<LoadedGvcf> {
+pub fn loaded_gvcfs(cohort: &Cohort) -> Vec<LoadedGvcf> {
     let mut inputs: Vec<LoadedGvcf> = cohort
         .samples
         .iter()

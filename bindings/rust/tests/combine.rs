@@ -1,0 +1,24 @@
+use wintabol::{combine, Refused};
+
+const COHORT: &[u8] = include_bytes!("../../../crates/combine/data/cohort.kv");
+const LIST: &[u8] = include_bytes!("../../../crates/combine/stdout");
+
+#[test]
+fn writes_the_example() {
+    let mut scratch = [7u64; 8];
+    let mut out = vec![9u8; 4096];
+    let n = combine(COHORT, None, None, &mut scratch, &mut out).unwrap();
+    assert_eq!(&out[..n], LIST);
+    assert!(out[n..].iter().all(|&b| b == 9));
+    assert_eq!(scratch, [0; 8]);
+}
+
+#[test]
+fn refuses_and_leaves_the_output() {
+    let mut scratch = [7u64; 8];
+    let mut out = [9u8; 16];
+    assert_eq!(combine(COHORT, None, None, &mut scratch, &mut out), Err(Refused(14)));
+    assert_eq!(combine(b"", None, None, &mut scratch, &mut out), Err(Refused(1)));
+    assert_eq!(out, [9; 16]);
+    assert_eq!(scratch, [0; 8]);
+}

@@ -1,0 +1,109 @@
+//! Texts with faults: rows 1 to 9 against a second implementation of them, every answer under closed pages.
+
+use crate::combine::{sort_of, Texts};
+use crate::ours::{Call, Library};
+use crate::rows::refusing;
+use oracle::generate;
+use oracle::rng::{mix, Rng};
+
+/// Bytes that mean something in a text, so that a change often leaves it nearly right.
+const TELLING: &[u8] = b"\n\n==,,..0019ACGTN*<>sx \r\0\xff";
+
+fn changed(rng: &mut Rng, text: &[u8]) -> Vec<u8> {
+    let mut text = text.to_vec();
+    for _ in 0..rng.range(1, 2) {
+        let at = rng.below(text.len() as u64 + 1) as usize;
+        let byte = *rng.pick(TELLING);
+        match rng.below(7) {
+            0 if at < text.len() => text[at] = byte,
+            1 => text.insert(at, byte),
+            2 if at < text.len() => drop(text.remove(at)),
+            3 => text.truncate(at),
+            4 if at < text.len() => text[at] = rng.any() as u8,
+            5 => value_changed(rng, &mut text),
+            _ => lines_changed(rng, &mut text),
+        }
+    }
+    text
+}
+
+/// The value of a line is that of another line, or one at the ends of a range.
+fn value_changed(rng: &mut Rng, text: &mut Vec<u8>) {
+    let mut lines: Vec<Vec<u8>> = text.split(|&b| b == b'\n').map(<[u8]>::to_vec).collect();
+    let (i, j) = (rng.below(lines.len() as u64) as usize, rng.below(lines.len() as u64) as usize);
+    let key = lines[i].split(|&b| b == b'=').next().unwrap_or_default().to_vec();
+    let other = lines[j].splitn(2, |&b| b == b'=').nth(1).unwrap_or_default().to_vec();
+    let values: [&[u8]; 9] =
+        [&other, b"0", b"2147483647", b"2147483648", b".", b"00", b"G,G", b"<NON_REF>", b"A,<NON_REF>,*"];
+    let value = *rng.pick::<&[u8]>(&values);
+    lines[i] = [&key[..], b"=", value].concat();
+    *text = lines.join(&b'\n');
+}
+
+/// A line is left out, doubled, or exchanged with its neighbour.
+fn lines_changed(rng: &mut Rng, text: &mut Vec<u8>) {
+    let mut lines: Vec<Vec<u8>> = text.split(|&b| b == b'\n').map(<[u8]>::to_vec).collect();
+    let i = rng.below(lines.len() as u64) as usize;
+    match rng.below(3) {
+        0 => drop(lines.remove(i)),
+        1 => lines.insert(i, lines[i].clone()),
+        _ if i + 1 < lines.len() => lines.swap(i, i + 1),
+        _ => {}
+    }
+    *text = lines.join(&b'\n');
+}
+
+/// The answer must be the row of rows 1 to 9 that refuses the texts, if one does, and else a list or 10 to 13.
+fn hold(library: &mut Library, cohort: &[u8], clip: Option<&[u8]>, reference: Option<&[u8]>) -> Result<usize, String> {
+    let row = refusing(cohort, clip, reference);
+    let answer = library.combine_roomy(&Call { cohort, clip, reference, places: 2048, room: 0 });
+    let right = match (row, &answer) {
+        (0, Ok(_)) => true,
+        (0, Err(other)) => (10..=14).contains(other),
+        (row, Err(other)) => row == *other,
+        _ => false,
+    };
+    if right {
+        return Ok(row);
+    }
+    Err(format!(
+        "row {row} expected, {:?} answered for\n{}\nclip {:?}\nreference {:?}",
+        answer.map(|l| l.len()),
+        String::from_utf8_lossy(cohort),
+        clip.map(String::from_utf8_lossy),
+        reference.map(String::from_utf8_lossy)
+    ))
+}
+
+pub fn check(seed: u64, count: u64) -> Result<String, String> {
+    let mut library = Library::new();
+    let mut rows = [0u64; 10];
+    for length in 0..3u32 {
+        for n in 0..256u32.pow(length) {
+            let text = &n.to_le_bytes()[..length as usize];
+            rows[hold(&mut library, text, None, None)?] += 1;
+            hold(&mut library, b"samples=1\nsample=S\n", Some(text), None)?;
+            hold(&mut library, b"samples=1\nsample=S\n", None, Some(text))?;
+        }
+    }
+    for i in 0..count {
+        let mut rng = Rng::new(mix(seed ^ mix(i)));
+        let texts = Texts::of(&generate::lent(sort_of(i), rng.any()));
+        let (mut cohort, mut clip, mut reference) = (
+            texts.cohort.into_bytes(),
+            texts.clip.map(String::into_bytes),
+            texts.reference.map(String::into_bytes),
+        );
+        match rng.below(10) {
+            0 => cohort = (0..rng.below(200)).map(|_| *rng.pick(TELLING)).collect(),
+            1 => clip = clip.map(|t| changed(&mut rng, &t)),
+            2 => reference = reference.map(|t| changed(&mut rng, &t)),
+            _ => cohort = changed(&mut rng, &cohort),
+        }
+        let row = hold(&mut library, &cohort, clip.as_deref(), reference.as_deref())
+            .map_err(|e| format!("seed {seed}, text {i}: {e}"))?;
+        rows[row] += 1;
+    }
+    let told: Vec<String> = rows.iter().enumerate().map(|(row, n)| format!("{row}: {n}")).collect();
+    Ok(format!("{count} texts with faults, and all of at most 2 bytes; rows (0: none of 1 to 9): {}\n", told.join(", ")))
+}

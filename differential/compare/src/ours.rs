@@ -1,0 +1,70 @@
+//! Calls of the compiled library under closed pages: texts that may only be read, an output and scratch of exactly so many places.
+
+use crate::guarded::Guarded;
+use wintabol::Refused;
+
+const TEXT_ROOM: usize = 1 << 22;
+const LIST_ROOM: usize = 1 << 25;
+const SCRATCH_ROOM: usize = 1 << 20;
+
+pub struct Library {
+    texts: [Guarded; 3],
+    out: Guarded,
+    scratch: Guarded,
+    at_end: bool,
+}
+
+/// What stands in a buffer before a call.
+const BEFORE: u8 = 0xA5;
+
+pub struct Call<'a> {
+    pub cohort: &'a [u8],
+    pub clip: Option<&'a [u8]>,
+    pub reference: Option<&'a [u8]>,
+    pub places: usize,
+    pub room: usize,
+}
+
+impl Library {
+    pub fn new() -> Library {
+        Library {
+            texts: [Guarded::new(TEXT_ROOM), Guarded::new(TEXT_ROOM), Guarded::new(TEXT_ROOM)],
+            out: Guarded::new(LIST_ROOM),
+            scratch: Guarded::new(SCRATCH_ROOM),
+            at_end: false,
+        }
+    }
+
+    /// The list or the row that refuses the call. Scratch must be zero at the end, and the output as it was behind the list, or all of
+    /// it after a refusal. Buffers stand at the end and at the beginning of their pages by turns.
+    pub fn combine(&mut self, call: &Call) -> Result<Vec<u8>, usize> {
+        self.at_end = !self.at_end;
+        let at_end = self.at_end;
+        let [cohort, clip, reference] = &mut self.texts;
+        let out = self.out.bytes(call.room, BEFORE, at_end);
+        let scratch = self.scratch.numbers(call.places, BEFORE, at_end);
+        let answer = wintabol::combine(
+            cohort.text(call.cohort, at_end),
+            call.clip.map(|t| clip.text(t, at_end)),
+            call.reference.map(|t| reference.text(t, at_end)),
+            scratch,
+            out,
+        );
+        assert!(scratch.iter().all(|&n| n == 0), "scratch is not zero");
+        let written = *answer.as_ref().unwrap_or(&0);
+        assert!(out[written..].iter().all(|&b| b == BEFORE), "the output is changed behind the list");
+        answer.map(|n| out[..n].to_vec()).map_err(|Refused(row)| row)
+    }
+
+    /// The same with an output that is made longer until it is long enough.
+    pub fn combine_roomy(&mut self, call: &Call) -> Result<Vec<u8>, usize> {
+        let mut room = 4096 + 8 * call.cohort.len();
+        loop {
+            let answer = self.combine(&Call { room, ..*call });
+            if answer != Err(14) || 8 * room > LIST_ROOM {
+                return answer;
+            }
+            room *= 8;
+        }
+    }
+}

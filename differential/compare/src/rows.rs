@@ -1,0 +1,159 @@
+//! Rows 1 to 9 of document 01's table once more, written from the document alone: which row refuses the texts of a call, if one does.
+
+const MOST_BYTES: usize = 16_777_216;
+const MOST_NUMBER: u64 = 2_147_483_647;
+
+/// The row, 1 to 9, that refuses the call; 0 if none does.
+pub fn refusing(cohort: &[u8], clip: Option<&[u8]>, reference: Option<&[u8]>) -> usize {
+    let texts = [Some(cohort), clip, reference];
+    if texts.iter().flatten().any(|t| t.len() > MOST_BYTES) {
+        return 2;
+    }
+    let row = cohort_row(cohort);
+    if row != 0 {
+        return row;
+    }
+    let clip_right = clip.map_or(true, |t| groups(t, 3).iter().all(|g| clip_group(g)));
+    let reference_right = reference.map_or(true, |t| groups(t, 3).iter().all(|g| reference_group(g)));
+    if clip_right && reference_right {
+        0
+    } else {
+        9
+    }
+}
+
+/// The lines of a text; one that no LF ends is None.
+fn lines(text: &[u8]) -> Vec<Option<&[u8]>> {
+    let mut all: Vec<Option<&[u8]>> = text.split(|&b| b == b'\n').map(Some).collect();
+    match all.pop() {
+        Some(Some(rest)) if !rest.is_empty() => all.push(None),
+        _ => {}
+    }
+    all
+}
+
+fn groups(text: &[u8], size: usize) -> Vec<Vec<Option<&[u8]>>> {
+    lines(text).chunks(size).map(<[_]>::to_vec).collect()
+}
+
+fn value<'a>(group: &[Option<&'a [u8]>], number: usize, key: &str) -> Option<&'a [u8]> {
+    let line = (*group.get(number)?)?;
+    let rest = line.strip_prefix(key.as_bytes())?;
+    rest.strip_prefix(b"=")
+}
+
+fn number(value: &[u8]) -> Option<u64> {
+    let digits = !value.is_empty() && value.len() <= 10 && value.iter().all(u8::is_ascii_digit);
+    if !digits || (value.len() > 1 && value[0] == b'0') {
+        return None;
+    }
+    let n = value.iter().fold(0u64, |n, b| n * 10 + u64::from(b - b'0'));
+    (n <= MOST_NUMBER).then_some(n)
+}
+
+fn name(value: &[u8]) -> Option<&[u8]> {
+    let right = |b: &u8| (33..=126).contains(b) && *b != b'=' && *b != b',';
+    ((1..=32).contains(&value.len()) && value.iter().all(right)).then_some(value)
+}
+
+fn or_missing<T>(value: &[u8], read: impl Fn(&[u8]) -> Option<T>) -> Option<Option<T>> {
+    if value == b"." {
+        return Some(None);
+    }
+    read(value).map(Some)
+}
+
+fn numbers(value: &[u8]) -> Option<Vec<u64>> {
+    value.split(|&b| b == b',').map(number).collect()
+}
+
+fn letters(value: &[u8], most: usize) -> bool {
+    (1..=most).contains(&value.len()) && value.iter().all(|b| b"ACGTN".contains(b))
+}
+
+fn cohort_row(text: &[u8]) -> usize {
+    let all = lines(text);
+    let Some(count) = value(&all, 0, "samples").and_then(number) else { return 1 };
+    if !(1..=64).contains(&count) {
+        return 2;
+    }
+    let count = count as usize;
+    let mut names: Vec<&[u8]> = Vec::new();
+    for i in 0..count {
+        let Some(own) = value(&all, i + 1, "sample").and_then(name) else { return 1 };
+        if names.contains(&own) {
+            return 3;
+        }
+        names.push(own);
+    }
+    for (before, group) in all[count + 1..].chunks(10).enumerate() {
+        let row = site_row(group, count, before);
+        if row != 0 {
+            return row;
+        }
+    }
+    0
+}
+
+fn site_row(group: &[Option<&[u8]>], samples: usize, before: usize) -> usize {
+    let read = || {
+        Some((
+            value(group, 0, "site").and_then(number)?,
+            value(group, 1, "contig").and_then(name)?,
+            value(group, 2, "start").and_then(number)?,
+            value(group, 3, "end").and_then(number)?,
+            value(group, 4, "ref")?,
+            value(group, 5, "alt")?,
+            or_missing(value(group, 6, "gq")?, number)?,
+            or_missing(value(group, 7, "dp")?, number)?,
+            or_missing(value(group, 8, "ad")?, numbers)?,
+            or_missing(value(group, 9, "pl")?, numbers)?,
+        ))
+    };
+    let Some((sample, _, start, end, reference, alt, _, _, ad, pl)) = read() else { return 1 };
+    if before >= 4096 {
+        return 2;
+    }
+    if sample >= samples as u64 {
+        return 3;
+    }
+    if start == 0 || end < start {
+        return 4;
+    }
+    let alts: Vec<&[u8]> = alt.split(|&b| b == b',').collect();
+    let spelled = |a: &&[u8]| letters(a, 128) || **a == *b"*" || **a == *b"<NON_REF>";
+    let twice = (0..alts.len()).any(|i| alts[i] == reference || alts[..i].contains(&alts[i]));
+    if !letters(reference, 128) || !alts.iter().all(spelled) || alts.len() > 7 || twice {
+        return 5;
+    }
+    if !alts.contains(&&b"<NON_REF>"[..]) {
+        return 6;
+    }
+    let block = alts.len() == 1;
+    if (block && reference.len() != 1) || (!block && end - start + 1 != reference.len() as u64) {
+        return 7;
+    }
+    let n = alts.len() + 1;
+    if pl.is_some_and(|pl| pl.len() != n * (n + 1) / 2) || ad.is_some_and(|ad| ad.len() > n) {
+        return 8;
+    }
+    0
+}
+
+fn clip_group(group: &[Option<&[u8]>]) -> bool {
+    let read = || {
+        value(group, 0, "contig").and_then(name)?;
+        Some((value(group, 1, "start").and_then(number)?, value(group, 2, "end").and_then(number)?))
+    };
+    read().is_some_and(|(start, end)| 1 <= start && start <= end)
+}
+
+fn reference_group(group: &[Option<&[u8]>]) -> bool {
+    let read = || {
+        value(group, 0, "contig").and_then(name)?;
+        Some((value(group, 1, "first").and_then(number)?, value(group, 2, "bases")?))
+    };
+    read().is_some_and(|(first, bases)| {
+        1 <= first && letters(bases, usize::MAX) && first + bases.len() as u64 - 1 <= MOST_NUMBER
+    })
+}
