@@ -1,8 +1,11 @@
 // The library as C and Rust programs link it: numbers and slices only. Each function answers the number of the row that refuses the
 // call, 0 for none, and stores how many values it wrote.
 ghost use mathlib.Core.Path.{_≡_};
-ghost use Rattle.answers.specs.Answered.{outcomeAnswer};
+ghost use lib.ListN.{length};
+ghost use Rattle.answers.specs.Answered.{Answered, outcomeAnswer};
 ghost use Rattle.combine_gvcfs.specs.Combined.{Combined, textsOf};
+ghost use Rattle.definitions.specs.CalledGenotypes.{gqFromPl};
+ghost use Rattle.definitions.specs.ReverseTrim.{trimmedAlleles};
 ghost use Rattle.wintabol.specs.Exported.{Exported, answer};
 use answers::Outcome;
 
@@ -40,4 +43,27 @@ pub extern "C" fn wintabol_combine<'a>(
 {
     let outcome = combine_gvcfs::combine(cohort, clipped, clip, has_reference, reference, scratch, out);
     give(outcome, written)
+}
+
+// The alleles of a comma list, REF first, without their common ending.
+#[no_mangle]
+pub extern "C" fn wintabol_reverse_trim_alleles(
+    alleles: &[u8],
+    out: &mut [u8],
+    written: &mut usize,
+) -> usize
+    ensures { λ r. ⌜ Exported
+        (Answered (trimmedAlleles (now (alleles .entry)) (length (now (out .entry)))) (now (out .entry)) (now (out .exit)))
+        r (now (written .exit)) ⌝ }
+{
+    let outcome = reverse_trim::reverse_trim_alleles(alleles, out);
+    give(outcome, written)
+}
+
+// GQ of a list of PLs.
+#[no_mangle]
+pub extern "C" fn wintabol_gq_phred_from_pl(pl: &[u32]) -> u32
+    ensures { λ r. ⌜ r ≡ gqFromPl (now (pl .entry)) ⌝ }
+{
+    genotyping::gq_phred_from_pl(pl)
 }
