@@ -15,7 +15,7 @@ use Rattle.tables.specs.Tables.{column}
 use lib.ListN.{drop, drop-of-length-le, take}
 use lib.Seq.{drop-cons, sets, sets-eq, take-append-seam, take-suc}
 use native.Mathlib.Numerals.{add-one}
-use Rattle.found_sites.specs.Own.{foundOf, ownSiteOr, ownSites, putAll, putOwn}
+use Rattle.found_sites.specs.Own.{foundOf, ownSite, ownSites, putAll, putOwn}
 use Rattle.found_sites.specs.declared.Found.{Found}
 
 -- ---- one site

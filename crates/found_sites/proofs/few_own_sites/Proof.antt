@@ -18,7 +18,7 @@ use prog.Wp.{Heap, Calls, Loops, WpFn, Tables}
 use ghost.Atoms.{Atoms, sem}
 use contract.Monad.{Fun, fact}
 use contract.Running.{givenOf, tables, tablesOf}
-use types.Kit.{Given, ‵, raw, _⊛_, some, later, ⋆, _$_, _∵_, !, qed, by, move, keep, drop, use1, use2, use3, split, join, group, pick, fsplit, fjoin, feqL, feqI, suffices, frame, await, done}
+use types.Kit.{Given, Item, ‵, raw, _⊛_, some, later, ⋆, _$_, _∵_, !, qed, by, move, keep, drop, use1, use2, use3, split, join, group, pick, fsplit, fjoin, feqL, feqI, suffices, frame, await, done}
 use types.Part.{whole, sub, look-in, agg, rep}
 use types.Run.{look, store, init, forget, stop, hop, fld, from, load, lit, unit-lit, of-opd, and-then, no-more, addr, assigns, land, returns, enter, alloc1, alloc0, params1, pass1, pass0, free1, free0}
 use types.Tokens.{lft-new, lft-end, lent-back}
@@ -79,7 +79,7 @@ abbrev number-vals : SampleIndex → List Val
 number-vals = LL.vals S.the-type S′.the-laws
 
 abbrev stayed : Stays (few.ended .signature .params) (few.ended .kept)
-stayed = (stay-none-slice (0 ∷ []) tt (plain (λ _. usize)) yes, (stay-none-slice (0 ∷ []) tt (plain (λ _. usize)) yes, (stay-none (λ _. N) yes, (gave-slice (1 ∷ []) tt (plain (λ _. usize)), tt))))
+stayed = (stay-none-slice (0 ∷ []) tt (plain (λ _. usize)) yes, (stay-none-slice (1 ∷ []) tt (plain (λ _. usize)) yes, (stay-none (λ _. N) yes, (gave-slice (2 ∷ []) tt (plain (λ _. usize)), tt))))
 
 room64 : Room R 64
 room64 = (lit< tt, lit< tt)
@@ -96,7 +96,7 @@ module _ {M : Type 1} (𝓤 : URA M) (H : Heap 𝓤) (A : Atoms 𝓤) (mem : Mem
   abbrev Spread : Contract 𝓤
   Spread = tripleOf 𝓤 H A spread.signature (spread.spec 𝓤 H A mem run)
 
-module _ {M : Type 1} (𝓤 : URA M) (H : Heap 𝓤) (A : Atoms 𝓤) (W : Given 𝓤 H A) (mem : Memory → SProp 𝓤) (run : Routine → Fun 𝓤) (κ κ′ : Lft) (q q′ : Share) (b₁ o₁ : ℕ) (γ₁ : GName) (rs : List ℕ)
+module _ {M : Type 1} (𝓤 : URA M) (H : Heap 𝓤) (A : Atoms 𝓤) (W : Given 𝓤 H A) (mem : Memory → SProp 𝓤) (run : Routine → Fun 𝓤) (κ₁ κ₂ κ′ : Lft) (q₁ q₂ q′ : Share) (b₁ o₁ : ℕ) (γ₁ : GName) (rs : List ℕ)
     (b₂ o₂ : ℕ) (γ₂ : GName) (ss : List ℕ) (f : SampleIndex) (b′ o′ : ℕ) (γ′ : GName) (os : List ℕ)
     (room₁ : Room usize (length rs)) (room₂ : Room usize (length ss)) (is-f : Is N f (number-vals f)) (room′ : Room usize (length os)) (within : length ss ≤ 64) where
   abbrev rows : RefT (List ℕ)
@@ -126,21 +126,25 @@ module _ {M : Type 1} (𝓤 : URA M) (H : Heap 𝓤) (A : Atoms 𝓤) (W : Given
   abbrev v′ : Val
   v′ = sliceVal (b′, o′) (length os)
 
-  abbrev passed : Vals few.signature (κ, (κ′, tt))
+  abbrev passed : Vals few.signature (κ₁, (κ₂, (κ′, tt)))
   passed = (v₁ ∷ [], (v₂ ∷ [], (vf ∷ [], (v′ ∷ [], tt))))
 
   abbrev Post : Val → SProp 𝓤
-  Post = walkOf 𝓤 H A few.ended stayed (few.clauses 𝓤 H A mem run) .post (((κ, (κ′, tt)), (q, (q′, tt)), tt, x, passed), tt)
+  Post = walkOf 𝓤 H A few.ended stayed (few.clauses 𝓤 H A mem run) .post (((κ₁, (κ₂, (κ′, tt))), (q₁, (q₂, (q′, tt))), tt, x, passed), tt)
 
   -- what rows, sites and own own
   abbrev Own₁ : Fml
-  Own₁ = ShrSlice (named 0) κ usize .own rows (v₁ ∷ [])
+  Own₁ = ShrSlice (named 0) κ₁ usize .own rows (v₁ ∷ [])
 
   abbrev Own₂ : Fml
-  Own₂ = ShrSlice (named 0) κ usize .own sites (v₂ ∷ [])
+  Own₂ = ShrSlice (named 1) κ₂ usize .own sites (v₂ ∷ [])
 
   abbrev Own′ : Fml
-  Own′ = MutSlice (named 1) κ′ usize .own own (v′ ∷ [])
+  Own′ = MutSlice (named 2) κ′ usize .own own (v′ ∷ [])
+
+  -- the tokens of rows and sites
+  abbrev Tokens : Item 𝓤
+  Tokens = ‵ (flft κ₁ q₁) ⊛ ‵ (flft κ₂ q₂) ⊛ ‵ ftrue
 
   -- the site with which the list is filled at first, and the list
   abbrev y : Found
@@ -167,25 +171,25 @@ module _ {M : Type 1} (𝓤 : URA M) (H : Heap 𝓤) (A : Atoms 𝓤) (W : Given
 
   -- what `gather` is passed: the list for the lifetime α, under the name δ
   abbrev to-gather : ℕ → ℕ → GName → Gather 𝓤 H A mem run .Ghost
-  to-gather l α δ = (((α ∷ [], (κ, tt)), (fullShare, (q, tt)), tt, (list l δ ys, (rows, (sites, tt))), (vl l ∷ [], (v₁ ∷ [], (v₂ ∷ [], tt)))), tt)
+  to-gather l α δ = (((α ∷ [], (κ₁, (κ₂, tt))), (fullShare, (q₁, (q₂, tt))), tt, (list l δ ys, (rows, (sites, tt))), (vl l ∷ [], (v₁ ∷ [], (v₂ ∷ [], tt)))), tt)
 
   goes-gather : (l α : ℕ) (δ : GName)
-      → ent 𝓤 (⋆ 𝓤 H A (‵ (flft (α ∷ []) fullShare) ∷ ‵ (MutSlice (named 0) (α ∷ []) R .own (list l δ ys) (vl l ∷ [])) ∷ ‵ (flft κ q) ∷ ‵ Own₁ ∷ ‵ Own₂ ∷ []))
+      → ent 𝓤 (⋆ 𝓤 H A (‵ (flft (α ∷ []) fullShare) ∷ ‵ (MutSlice (named 0) (α ∷ []) R .own (list l δ ys) (vl l ∷ [])) ∷ Tokens ∷ ‵ Own₁ ∷ ‵ Own₂ ∷ []))
       (sep 𝓤 (Gather 𝓤 H A mem run .pre (to-gather l α δ)) (sep 𝓤 (sem 𝓤 H A Own₁) (sem 𝓤 H A Own₂)))
   goes-gather l α δ =
-      qed W (‵ (flft (α ∷ []) fullShare) ∷ ‵ (MutSlice (named 0) (α ∷ []) R .own (list l δ ys) (vl l ∷ [])) ∷ ‵ (flft κ q) ∷ ‵ Own₁ ∷ ‵ Own₂ ∷ []) ∵
-      move ! (3 ∷ []) $ use1 W (‵ Own₁ ⊛ ‵ Own₁) (shr-slice-copy 𝓤 H A W (named 0) κ usize .twice rows (v₁ ∷ [])) $ split ! $
-      move ! (5 ∷ []) $ use1 W (‵ Own₂ ⊛ ‵ Own₂) (shr-slice-copy 𝓤 H A W (named 0) κ usize .twice sites (v₂ ∷ [])) $ split ! $
-      -- [what sites owns, twice; what rows owns, twice; the list's token; what the list owns; rows' token]
+      qed W (‵ (flft (α ∷ []) fullShare) ∷ ‵ (MutSlice (named 0) (α ∷ []) R .own (list l δ ys) (vl l ∷ [])) ∷ Tokens ∷ ‵ Own₁ ∷ ‵ Own₂ ∷ []) ∵
+      move ! (3 ∷ []) $ use1 W (‵ Own₁ ⊛ ‵ Own₁) (shr-slice-copy 𝓤 H A W (named 0) κ₁ usize .twice rows (v₁ ∷ [])) $ split ! $
+      move ! (5 ∷ []) $ use1 W (‵ Own₂ ⊛ ‵ Own₂) (shr-slice-copy 𝓤 H A W (named 1) κ₂ usize .twice sites (v₂ ∷ [])) $ split ! $
+      -- [what sites owns, twice; what rows owns, twice; the list's token; what the list owns; the tokens]
       nothing ! $ move ! (1 ∷ 0 ∷ []) $ fjoin ! $ move ! (2 ∷ 0 ∷ []) $ fjoin ! $ move ! (4 ∷ 0 ∷ []) $ fjoin ! $
-      nothing ! $ move ! (5 ∷ 0 ∷ []) $ join ! $ move ! (4 ∷ 0 ∷ []) $ join ! $
+      move ! (3 ∷ 4 ∷ []) $ join ! $
       use2 W (raw (Gather 𝓤 H A mem run .pre (to-gather l α δ))) asked $ move ! (0 ∷ 2 ∷ 1 ∷ []) $ frame ! $ done !
     where
       long : length ss ≤ length ys
       long = omega (arith, length-replicate 64 y)
 
-      asked : ent 𝓤 (onEntry 𝓤 H A gather.signature (α ∷ [], (κ, tt)) (fullShare, (q, tt)) (list l δ ys, (rows, (sites, tt))) (vl l ∷ [], (v₁ ∷ [], (v₂ ∷ [], tt)))) (Gather 𝓤 H A mem run .pre (to-gather l α δ))
-      asked = qed W ((‵ (flft (α ∷ []) fullShare) ⊛ ‵ (flft κ q) ⊛ ‵ ftrue) ∷ ‵ (owns (MutSlice (named 0) (α ∷ []) R ∷ ShrSlice (named 1) κ usize ∷ ShrSlice (named 1) κ usize ∷ []) (list l δ ys, (rows, (sites, tt))) (vl l ∷ [], (v₁ ∷ [], (v₂ ∷ [], tt)))) ∷ []) ∵
+      asked : ent 𝓤 (onEntry 𝓤 H A gather.signature (α ∷ [], (κ₁, (κ₂, tt))) (fullShare, (q₁, (q₂, tt))) (list l δ ys, (rows, (sites, tt))) (vl l ∷ [], (v₁ ∷ [], (v₂ ∷ [], tt)))) (Gather 𝓤 H A mem run .pre (to-gather l α δ))
+      asked = qed W ((‵ (flft (α ∷ []) fullShare) ⊛ Tokens) ∷ ‵ (owns (MutSlice (named 0) (α ∷ []) R ∷ ShrSlice (named 1) κ₁ usize ∷ ShrSlice (named 2) κ₂ usize ∷ []) (list l δ ys, (rows, (sites, tt))) (vl l ∷ [], (v₁ ∷ [], (v₂ ∷ [], tt)))) ∷ []) ∵
           says ! long $ frame ! $ done !
 
   -- what `spread` is passed: the list for the lifetime β, under the name δ, at zs
@@ -204,11 +208,11 @@ module _ {M : Type 1} (𝓤 : URA M) (H : Heap 𝓤) (A : Atoms 𝓤) (W : Given
       inside = omega arith
 
   exits : (us : List ℕ) → length us ≡ length os → us ≡ putAll (f .0) found os
-      → ent 𝓤 (⋆ 𝓤 H A ((‵ (flft κ′ q′) ⊛ ‵ ftrue) ∷ ‵ (finally usize γ′ us) ∷ (‵ (flft κ q) ⊛ ‵ ftrue) ∷ (‵ Own₁ ⊛ ‵ Own₂) ∷ [])) (Post vunit)
+      → ent 𝓤 (⋆ 𝓤 H A ((‵ (flft κ′ q′) ⊛ ‵ ftrue) ∷ ‵ (finally usize γ′ us) ∷ Tokens ∷ (‵ Own₁ ⊛ ‵ Own₂) ∷ [])) (Post vunit)
   exits us l e =
-      qed W ((‵ (flft κ′ q′) ⊛ ‵ ftrue) ∷ ‵ (finally usize γ′ us) ∷ (‵ (flft κ q) ⊛ ‵ ftrue) ∷ (‵ Own₁ ⊛ ‵ Own₂) ∷ []) ∵
-      suffices ! _ (ends-at 𝓤 H A few.ended stayed (few.clauses 𝓤 H A mem run) W (((κ, (κ′, tt)), (q, (q′, tt)), tt, x, passed), tt) vunit tt (tt, (tt, (tt, (us, tt)))) (tt, (tt, (tt, (l, tt))))) $ says ! e $
-      move ! (2 ∷ []) $ split ! $ move ! (0 ∷ 2 ∷ []) $ join ! $ frame ! $
+      qed W ((‵ (flft κ′ q′) ⊛ ‵ ftrue) ∷ ‵ (finally usize γ′ us) ∷ Tokens ∷ (‵ Own₁ ⊛ ‵ Own₂) ∷ []) ∵
+      suffices ! _ (ends-at 𝓤 H A few.ended stayed (few.clauses 𝓤 H A mem run) W (((κ₁, (κ₂, (κ′, tt))), (q₁, (q₂, (q′, tt))), tt, x, passed), tt) vunit tt (tt, (tt, (tt, (us, tt)))) (tt, (tt, (tt, (l, tt))))) $ says ! e $
+      move ! (2 ∷ []) $ split ! $ move ! (1 ∷ []) $ split ! $ move ! (0 ∷ 3 ∷ []) $ join ! $ move ! (2 ∷ 0 ∷ []) $ join ! $ frame ! $
       -- [true; the last list; what rows and sites own]
       move ! (1 ∷ 0 ∷ []) $ fjoin ! $ owned ! N (Is N) (LL.makes S.the-type S′.the-plain 𝓤 H A) f (number-vals f) is-f $ fjoin ! $
       move ! (1 ∷ []) $ split ! $ move ! (1 ∷ 2 ∷ []) $ fjoin ! $ move ! (1 ∷ 0 ∷ []) $ fjoin ! $ frame ! $
@@ -222,16 +226,18 @@ module _ {M : Type 1} (𝓤 : URA M) (H : Heap 𝓤) (A : Atoms 𝓤) (W : Given
       e′ ∙ ap (λ (l : List Found). putAll (f .0) l os) (rw (e, ← n) g)
 
   module _ (C : Calls 𝓤 H) (Λ : Loops 𝓤 H) (fm : FmC 𝓤 H (W .laws) C) (known-gather : Triple 𝓤 (C #found-sites·gather) (Gather 𝓤 H A mem run)) (known-spread : Triple 𝓤 (C #found-sites·spread) (Spread 𝓤 H A mem run)) where
-    walk : ent 𝓤 (onEntry 𝓤 H A few.signature (κ, (κ′, tt)) (q, (q′, tt)) x passed) (WpFn 𝓤 H C Λ code.function (v₁ ∷ v₂ ∷ vf ∷ v′ ∷ []) Post)
+    walk : ent 𝓤 (onEntry 𝓤 H A few.signature (κ₁, (κ₂, (κ′, tt))) (q₁, (q₂, (q′, tt))) x passed) (WpFn 𝓤 H C Λ code.function (v₁ ∷ v₂ ∷ vf ∷ v′ ∷ []) Post)
     walk =
-        qed W ((‵ (flft κ q) ⊛ ‵ (flft κ′ q′) ⊛ ‵ ftrue) ∷ ‵ (owns (ShrSlice (named 0) κ usize ∷ ShrSlice (named 0) κ usize ∷ N ∷ MutSlice (named 1) κ′ usize ∷ []) x passed) ∷ []) ∵
-        split ! $ move ! (1 ∷ []) $ split ! $ move ! (3 ∷ []) $ fsplit ! $ move ! (1 ∷ []) $ fsplit ! $ move ! (1 ∷ []) $ fsplit ! $ move ! (1 ∷ []) $ fsplit ! $
-        -- [what own owns; true; first's; what sites owns; what rows owns; own's token; true; rows' token]
-        keep ! (7 ∷ 4 ∷ 3 ∷ 5 ∷ 0 ∷ []) $ enter ! C Λ code.function (v₁ ∷ v₂ ∷ vf ∷ v′ ∷ []) _ $
+        qed W ((‵ (flft κ₁ q₁) ⊛ ‵ (flft κ₂ q₂) ⊛ ‵ (flft κ′ q′) ⊛ ‵ ftrue) ∷ ‵ (owns (ShrSlice (named 0) κ₁ usize ∷ ShrSlice (named 1) κ₂ usize ∷ N ∷ MutSlice (named 2) κ′ usize ∷ []) x passed) ∷ []) ∵
+        split ! $ move ! (1 ∷ []) $ split ! $ move ! (1 ∷ []) $ split ! $
+        -- [own's token; true; sites' token; rows' token; what the parameters own]
+        move ! (2 ∷ 1 ∷ []) $ join ! $ move ! (2 ∷ 0 ∷ []) $ join ! $ move ! (2 ∷ []) $ fsplit ! $ move ! (1 ∷ []) $ fsplit ! $ move ! (1 ∷ []) $ fsplit ! $ move ! (1 ∷ []) $ fsplit ! $
+        -- [what own owns; true; first's; what sites owns; what rows owns; the tokens; own's token]
+        keep ! (5 ∷ 4 ∷ 3 ∷ 6 ∷ 0 ∷ []) $ enter ! C Λ code.function (v₁ ∷ v₂ ∷ vf ∷ v′ ∷ []) _ $
         alloc1 ! (λ l₀. alloc1 ! (λ l₁. alloc1 ! (λ l₂. alloc1 ! (λ l₃. alloc1 ! (λ l₄. alloc1 ! (λ l₅. alloc1 ! (λ l₆. alloc1 ! (λ l₇. alloc1 ! (λ l₈. alloc1 ! (λ l₉. alloc1 ! (λ l₁₀. alloc1 ! (λ l₁₁. alloc1 ! (λ l₁₂. alloc1 ! (λ l₁₃. alloc1 ! (λ l₁₄. alloc0 ! $ params1 ! $
         pass1 ! (init ! 26 refl (tt, (tt, (record { fits = room₁ .0 }, tt)))) $ pass1 ! (init ! 24 refl (tt, (tt, (record { fits = room₂ .0 }, tt)))) $
         pass1 ! (init ! 22 refl (LL.lawful S.the-type S′.the-laws 𝓤 H A W .typed f (number-vals f) is-f .0)) $ pass1 ! (init ! 20 refl (tt, (tt, (record { fits = room′ .0 }, tt)))) $ pass0 ! $
-        -- [_14; …; _0; …; rows' token; what rows owns; what sites owns; own's token; what own owns]: the list is filled
+        -- [_14; …; _0; …; the tokens; what rows owns; what sites owns; own's token; what own owns]: the list is filled
         assigns ! (agg ! (and-then ! (load ! (from ! (stop !)) (look ! 22 refl)) (and-then ! (lit ! tt) (no-more !)))) (from ! (stop !)) (init ! 16 refl (LL.lawful T.the-type T′.the-laws 𝓤 H A W .typed y (vals y) is-y .0)) $
         owned ! R (Is R) (LL.makes T.the-type T′.the-plain 𝓤 H A) y (vals y) is-y $
         use1 W (‵ (Array R 64 .own ys (va ∷ []))) (array-repeat 𝓤 H A W R (LL.copy T.the-type T′.the-copy 𝓤 H A W) 64 y (T′.lowered y)) $
@@ -243,16 +249,16 @@ module _ {M : Type 1} (𝓤 : URA M) (H : Heap 𝓤) (A : Atoms 𝓤) (W : Given
         move ! (19 ∷ 0 ∷ []) $ use2 W (‵ (row R fullShare ys l₅ 0)) (array-row 𝓤 H A W R 64 l₅ 0 tt ys va) $
         lft-new ! tt (λ α. move ! (1 ∷ []) $
         use1 W (later (some (λ (δ : GName). ‵ (MutSlice (named 0) (α ∷ []) R .own (list l₅ δ ys) (vl l₅ ∷ [])) ⊛ ‵ (flent (α ∷ []) (Held R 64 l₅ 0 δ))))) (lends-array 𝓤 H A W R 64 l₅ 0 ys (length-replicate 64 y) room64 (named 0) (α ∷ [])) $ await ! tt $ pick ! (λ δ. split ! $
-        -- [what the list owns; the lender's part; α's token; _14; …; _6; …; _5's end; _4; …; _0; …; rows' token; what rows owns; what sites owns; own's token; what own owns]
+        -- [what the list owns; the lender's part; α's token; _14; …; _6; …; _5's end; _4; …; _0; …; the tokens; what rows owns; what sites owns; own's token; what own owns]
         move ! (2 ∷ 0 ∷ 32 ∷ 33 ∷ 34 ∷ []) $ group ! 5 $ use1 W (raw (Gather 𝓤 H A mem run .pre (to-gather l₅ α δ)) ⊛ (‵ Own₁ ⊛ ‵ Own₂)) (goes-gather l₅ α δ) $ split ! $
         calls-at ! fm (Gather 𝓤 H A mem run) known-gather (to-gather l₅ α δ) (and-then ! (load ! (from ! (stop !)) (look ! 13 refl)) (and-then ! (load ! (from ! (stop !)) (look ! 28 refl)) (and-then ! (load ! (from ! (stop !)) (look ! 26 refl)) (no-more !)))) (λ w.
-        use1 W (later (some (λ (r : Unit {0}). ((‵ (flft (α ∷ []) fullShare) ⊛ ‵ (flft κ q) ⊛ ‵ ftrue) ⊛ ‵ (unit .own r (w ∷ []))) ⊛ raw (ensured 𝓤 H A gather.ended (gather.clauses 𝓤 H A mem run) (α ∷ [], (κ, tt)) (list l₅ δ ys, (rows, (sites, tt))) tt r)))) (id⊢ 𝓤 _) $ await ! tt $ pick ! (λ r.
-        split ! $ move ! (1 ∷ []) $ use1 W (some (λ (zs : List Found × (Unit {0} × (Unit {0} × Unit {0}))). ‵ (lasts gather.ended (α ∷ [], (κ, tt)) (list l₅ δ ys, (rows, (sites, tt))) zs) ⊛ raw (fact 𝓤 (zs .0 ≡ sets ys 0 found)))) (id⊢ 𝓤 _) $ pick ! (λ zs.
+        use1 W (later (some (λ (r : Unit {0}). ((‵ (flft (α ∷ []) fullShare) ⊛ Tokens) ⊛ ‵ (unit .own r (w ∷ []))) ⊛ raw (ensured 𝓤 H A gather.ended (gather.clauses 𝓤 H A mem run) (α ∷ [], (κ₁, (κ₂, tt))) (list l₅ δ ys, (rows, (sites, tt))) tt r)))) (id⊢ 𝓤 _) $ await ! tt $ pick ! (λ r.
+        split ! $ move ! (1 ∷ []) $ use1 W (some (λ (zs : List Found × (Unit {0} × (Unit {0} × Unit {0}))). ‵ (lasts gather.ended (α ∷ [], (κ₁, (κ₂, tt))) (list l₅ δ ys, (rows, (sites, tt))) zs) ⊛ raw (fact 𝓤 (zs .0 ≡ sets ys 0 found)))) (id⊢ 𝓤 _) $ pick ! (λ zs.
         split ! $ move ! (1 ∷ []) $ heard ! (zs .0 ≡ sets ys 0 found) (λ e. fsplit ! $ fsplit ! $ move ! (1 ∷ []) $ feqL ! (λ l.
         -- [the last list; true; the tokens and the result; what rows and sites own; the lender's part; _14; …]
         move ! (2 ∷ []) $ split ! $ move ! (1 ∷ []) $ feqL ! (λ is-w.
         split ! $ lft-end ! tt $ move ! (0 ∷ 5 ∷ 2 ∷ []) $ use3 W (later (‵ (Elements 𝓤 H A W R 64 l₅ 0 (zs .0)))) (array-back 𝓤 H A W R 64 l₅ 0 (α ∷ []) δ (zs .0)) $ await ! tt $
-        -- [the list's elements; rows' token; true; what rows and sites own; _14; …; _0; …; own's token; what own owns]
+        -- [the list's elements; the tokens; true; what rows and sites own; _14; …; _0; …; own's token; what own owns]
         land ! (from ! (stop !)) (init ! 18 refl (unit-typed is-w)) $ move ! (2 ∷ []) $ drop ! $
         assigns ! (addr ! (from ! (stop !))) (from ! (stop !)) (init ! 11 refl (tt, tt)) $
         assigns ! (agg ! (and-then ! (load ! (from ! (stop !)) (look ! 11 refl)) (and-then ! (lit ! tt) (no-more !)))) (from ! (stop !)) (init ! 9 refl (tt, (tt, (record { fits = lit< tt }, tt)))) $
@@ -262,16 +268,16 @@ module _ {M : Type 1} (𝓤 : URA M) (H : Heap 𝓤) (A : Atoms 𝓤) (W : Given
         -- it is shared for the lifetime β of the call of `spread`
         lft-new ! tt (λ β. move ! (1 ∷ []) $
         use1 W (later (some (λ (δ′ : GName). ‵ (ShrSlice (named 0) (β ∷ []) R .own (list l₅ δ′ (zs .0)) (vl l₅ ∷ [])) ⊛ ‵ (flent (β ∷ []) (Elements 𝓤 H A W R 64 l₅ 0 (zs .0)))))) (shares-array 𝓤 H A W R 64 l₅ 0 (zs .0) (l ∙ length-replicate 64 y) room64 (named 0) (β ∷ [])) $ await ! tt $ pick ! (λ δ′. split ! $
-        -- [what the list owns; the lender's part; β's token; rows' token; what rows and sites own; _14; …; _0; …; own's token; what own owns]
+        -- [what the list owns; the lender's part; β's token; the tokens; what rows and sites own; _14; …; _0; …; own's token; what own owns]
         move ! (2 ∷ 0 ∷ 34 ∷ 35 ∷ []) $ group ! 4 $ use1 W (raw (Spread 𝓤 H A mem run .pre (to-spread l₅ β δ′ (zs .0)))) (goes-spread l₅ β δ′ (zs .0) (l ∙ length-replicate 64 y)) $
         calls-at ! fm (Spread 𝓤 H A mem run) known-spread (to-spread l₅ β δ′ (zs .0)) (and-then ! (load ! (from ! (stop !)) (look ! 10 refl)) (and-then ! (load ! (from ! (stop !)) (look ! 8 refl)) (and-then ! (load ! (from ! (stop !)) (look ! 25 refl)) (and-then ! (load ! (from ! (stop !)) (look ! 4 refl)) (no-more !))))) (λ w′.
         use1 W (later (some (λ (r′ : Unit {0}). ((‵ (flft (β ∷ []) fullShare) ⊛ ‵ (flft κ′ q′) ⊛ ‵ ftrue) ⊛ ‵ (unit .own r′ (w′ ∷ []))) ⊛ raw (ensured 𝓤 H A spread.ended (spread.clauses 𝓤 H A mem run) (β ∷ [], (κ′, tt)) (list l₅ δ′ (zs .0), (length ss, (f, (own, tt)))) tt r′)))) (id⊢ 𝓤 _) $ await ! tt $ pick ! (λ r′.
         split ! $ move ! (1 ∷ []) $ use1 W (some (λ (us : Unit {0} × (Unit {0} × (Unit {0} × (List ℕ × Unit {0})))). ‵ (lasts spread.ended (β ∷ [], (κ′, tt)) (list l₅ δ′ (zs .0), (length ss, (f, (own, tt)))) us) ⊛ raw (fact 𝓤 (us .1 .1 .1 .0 ≡ putAll (f .0) (take (length ss) (zs .0)) os)))) (id⊢ 𝓤 _) $ pick ! (λ us.
         split ! $ move ! (1 ∷ []) $ heard ! (us .1 .1 .1 .0 ≡ putAll (f .0) (take (length ss) (zs .0)) os) (λ e′. fsplit ! $ drop ! $ fsplit ! $ drop ! $ fsplit ! $ drop ! $ fsplit ! $ fsplit ! $ move ! (1 ∷ []) $ feqL ! (λ l′.
-        -- [own's last list; true; the tokens and the result; the lender's part; rows' token; what rows and sites own; _14; …]
+        -- [own's last list; true; the tokens and the result; the lender's part; the tokens; what rows and sites own; _14; …]
         move ! (2 ∷ []) $ split ! $ move ! (1 ∷ []) $ feqL ! (λ is-w′.
         split ! $ lft-end ! tt $ move ! (0 ∷ 4 ∷ []) $ lent-back ! tt $
-        -- [the list's elements; own's token; own's last list; true; rows' token; what rows and sites own; _14; …; _0; …]
+        -- [the list's elements; own's token; own's last list; true; the tokens; what rows and sites own; _14; …; _0; …]
         land ! (from ! (stop !)) (store ! 20 refl (unit-typed is-w′)) $
         assigns ! (of-opd ! (unit-lit !)) (from ! (stop !)) (init ! 33 refl (tt, tt)) $
         use1 W (‵ (froom (tyArray (lone (R .mir)) 64) l₅ 0)) (array-room 𝓤 H A W R 64 l₅ 0 (zs .0)) $
@@ -284,14 +290,14 @@ module _ {M : Type 1} (𝓤 : URA M) (H : Heap 𝓤) (A : Atoms 𝓤) (W : Given
     (known-gather : Triple 𝓤 (𝓣 .C #found-sites·gather) (Gather 𝓤 H A mem run)) (known-spread : Triple 𝓤 (𝓣 .C #found-sites·spread) (Spread 𝓤 H A mem run)) where
   few-walks : Walks 𝓤 H A few.ended stayed (WpFn 𝓤 H (𝓣 .C) (𝓣 .Λ) code.function) (few.clauses 𝓤 H A mem run)
   few-walks = walked 𝓤 H A few.ended stayed (few.clauses 𝓤 H A mem run) (WpFn 𝓤 H (𝓣 .C) (𝓣 .Λ) code.function)
-      (λ κs. (slice-vals, (slice-vals, (number-vals, (slice-vals, tt))))) (λ κs. (shr-slice-tells (named 0) (κs .0) usize, (shr-slice-tells (named 0) (κs .0) usize, (LL.tells S.the-type S′.the-laws, (mut-slice-tells (named 1) (κs .1 .0) usize, tt)))))
+      (λ κs. (slice-vals, (slice-vals, (number-vals, (slice-vals, tt))))) (λ κs. (shr-slice-tells (named 0) (κs .0) usize, (shr-slice-tells (named 1) (κs .1 .0) usize, (LL.tells S.the-type S′.the-laws, (mut-slice-tells (named 2) (κs .1 .1 .0) usize, tt)))))
       (λ κs qs bounds a g are. needs 𝓤 _ _ (λ within.
-      walk 𝓤 H A W mem run (κs .0) (κs .1 .0) (qs .0) (qs .1 .0) (a .0 .ptr .0) (a .0 .ptr .1) (a .0 .name) (a .0 .now) (a .1 .0 .ptr .0) (a .1 .0 .ptr .1) (a .1 .0 .name) (a .1 .0 .now) (a .1 .1 .0)
+      walk 𝓤 H A W mem run (κs .0) (κs .1 .0) (κs .1 .1 .0) (qs .0) (qs .1 .0) (qs .1 .1 .0) (a .0 .ptr .0) (a .0 .ptr .1) (a .0 .name) (a .0 .now) (a .1 .0 .ptr .0) (a .1 .0 .ptr .1) (a .1 .0 .name) (a .1 .0 .now) (a .1 .1 .0)
       (a .1 .1 .1 .0 .ptr .0) (a .1 .1 .1 .0 .ptr .1) (a .1 .1 .1 .0 .name) (a .1 .1 .1 .0 .now)
       (are .0 .0 .1) (are .1 .0 .0 .1) (are .1 .1 .0) (are .1 .1 .1 .0 .0 .1) within (𝓣 .C) (𝓣 .Λ) (fmOf 𝓤 H (W .laws) 𝓣) known-gather known-spread))
 
   few-meets : Meets 𝓤 H A few.signature (WpFn 𝓤 H (𝓣 .C) (𝓣 .Λ) code.function) (few.spec 𝓤 H A mem run)
-  few-meets = walk-meets 𝓤 H A few.ended stayed W (goes-none-slice 𝓤 H A W 2 (0 ∷ []) tt (plain (λ _. usize)) yes, (goes-none-slice 𝓤 H A W 2 (0 ∷ []) tt (plain (λ _. usize)) yes, (goes-none 𝓤 H A W 2 (λ _. N) yes (λ κs x f. refl), (goes-gave-slice 𝓤 H A W 2 1 tt (plain (λ _. usize)), tt))))
+  few-meets = walk-meets 𝓤 H A few.ended stayed W (goes-none-slice 𝓤 H A W 3 (0 ∷ []) tt (plain (λ _. usize)) yes, (goes-none-slice 𝓤 H A W 3 (1 ∷ []) tt (plain (λ _. usize)) yes, (goes-none 𝓤 H A W 3 (λ _. N) yes (λ κs x f. refl), (goes-gave-slice 𝓤 H A W 3 2 tt (plain (λ _. usize)), tt))))
       (few.clauses 𝓤 H A mem run) (WpFn 𝓤 H (𝓣 .C) (𝓣 .Λ) code.function) (WpFn-mono 𝓤 H (W .laws) 𝓣 code.function) few-walks
 
 pub few-own-sites-spec : {M : Type 1} → stated.statement M

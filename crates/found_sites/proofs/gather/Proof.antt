@@ -69,14 +69,17 @@ abbrev vals : Found → List Val
 vals = LL.vals T.the-type T′.the-laws
 
 abbrev stayed : Stays (gather.ended .signature .params) (gather.ended .kept)
-stayed = (stay-slice (0 ∷ []) tt (plain (λ _. R)), (stay-none-slice (1 ∷ []) tt (plain (λ _. usize)) yes, (stay-none-slice (1 ∷ []) tt (plain (λ _. usize)) yes, tt)))
+stayed = (stay-slice (0 ∷ []) tt (plain (λ _. R)), (stay-none-slice (1 ∷ []) tt (plain (λ _. usize)) yes, (stay-none-slice (2 ∷ []) tt (plain (λ _. usize)) yes, tt)))
 
 -- the types of the slices' locals, what of a turn follows the test, and what follows the loop
 abbrev list-ty : Ty
 list-ty = sliceTy (tyRef (named 0) mut (pointee (R .written)))
 
-abbrev numbers-ty : Ty
-numbers-ty = sliceTy (tyRef (named 1) imm (tyInt w64))
+abbrev rows-ty : Ty
+rows-ty = sliceTy (tyRef (named 1) imm (tyInt w64))
+
+abbrev sites-ty : Ty
+sites-ty = sliceTy (tyRef (named 2) imm (tyInt w64))
 
 abbrev more : Body
 more =
@@ -121,7 +124,7 @@ turned ys rs ss s h =
 complete : (ys : List Found) (rs ss : List ℕ) (s : State ys rs ss) → length ss ≤ s .i → s .ws ≡ sets ys 0 (map (foundOf rs) ss)
 complete ys rs ss s h = gather-end rs ss (s .ws) (s .i) h ∙ s .left
 
-module _ {M : Type 1} (𝓤 : URA M) (H : Heap 𝓤) (A : Atoms 𝓤) (W : Given 𝓤 H A) (mem : Memory → SProp 𝓤) (run : Routine → Fun 𝓤) (κ κ′ : Lft) (q q′ : Share) (b o : ℕ) (γ : GName) (ys : List Found)
+module _ {M : Type 1} (𝓤 : URA M) (H : Heap 𝓤) (A : Atoms 𝓤) (W : Given 𝓤 H A) (mem : Memory → SProp 𝓤) (run : Routine → Fun 𝓤) (κ κ′ κ″ : Lft) (q q′ q″ : Share) (b o : ℕ) (γ : GName) (ys : List Found)
     (b₁ o₁ : ℕ) (γ₁ : GName) (rs : List ℕ) (b₂ o₂ : ℕ) (γ₂ : GName) (ss : List ℕ) (room : Room R (length ys)) (room₁ : Room usize (length rs)) (room₂ : Room usize (length ss)) (within : length ss ≤ length ys) where
   abbrev list : List Found → RefT (List Found)
   list l = record { ptr = (b, o); name = γ; now = l }
@@ -147,45 +150,49 @@ module _ {M : Type 1} (𝓤 : URA M) (H : Heap 𝓤) (A : Atoms 𝓤) (W : Given
   abbrev v₂ : Val
   v₂ = sliceVal (b₂, o₂) (length ss)
 
-  abbrev passed : Vals gather.signature (κ, (κ′, tt))
+  abbrev passed : Vals gather.signature (κ, (κ′, (κ″, tt)))
   passed = (v ∷ [], (v₁ ∷ [], (v₂ ∷ [], tt)))
 
   abbrev Post : Val → SProp 𝓤
-  Post = walkOf 𝓤 H A gather.ended stayed (gather.clauses 𝓤 H A mem run) .post (((κ, (κ′, tt)), (q, (q′, tt)), tt, x, passed), tt)
+  Post = walkOf 𝓤 H A gather.ended stayed (gather.clauses 𝓤 H A mem run) .post (((κ, (κ′, (κ″, tt))), (q, (q′, (q″, tt))), tt, x, passed), tt)
 
   -- what rows and sites own
   abbrev Own₁ : Fml
   Own₁ = ShrSlice (named 1) κ′ usize .own rows (v₁ ∷ [])
 
   abbrev Own₂ : Fml
-  Own₂ = ShrSlice (named 1) κ′ usize .own sites (v₂ ∷ [])
+  Own₂ = ShrSlice (named 2) κ″ usize .own sites (v₂ ∷ [])
+
+  -- the tokens of rows and sites
+  abbrev Tokens : Item 𝓤
+  Tokens = ‵ (flft κ′ q′) ⊛ ‵ (flft κ″ q″) ⊛ ‵ ftrue
 
   -- what the callee is passed at i
   abbrev to : ℕ → FoundAt 𝓤 H A mem run .Ghost
-  to i = (((κ′, tt), (q′, tt), tt, (rows, (sites, (i, tt))), (v₁ ∷ [], (v₂ ∷ [], (vint w64 i ∷ [], tt)))), tt)
+  to i = (((κ′, (κ″, tt)), (q′, (q″, tt)), tt, (rows, (sites, (i, tt))), (v₁ ∷ [], (v₂ ∷ [], (vint w64 i ∷ [], tt)))), tt)
 
   -- what they own gives what the callee asks, and is kept
-  apart : (i : ℕ) → i < length ss → ent 𝓤 (sep 𝓤 (sem 𝓤 H A (flft κ′ q′)) (sep 𝓤 (sem 𝓤 H A Own₁) (sem 𝓤 H A Own₂))) (sep 𝓤 (FoundAt 𝓤 H A mem run .pre (to i)) (sep 𝓤 (sem 𝓤 H A Own₁) (sem 𝓤 H A Own₂)))
+  apart : (i : ℕ) → i < length ss → ent 𝓤 (⋆ 𝓤 H A (Tokens ∷ ‵ Own₁ ∷ ‵ Own₂ ∷ [])) (sep 𝓤 (FoundAt 𝓤 H A mem run .pre (to i)) (sep 𝓤 (sem 𝓤 H A Own₁) (sem 𝓤 H A Own₂)))
   apart i h =
-      qed W (‵ (flft κ′ q′) ∷ ‵ Own₁ ∷ ‵ Own₂ ∷ []) ∵ move ! (1 ∷ []) $ use1 W (‵ Own₁ ⊛ ‵ Own₁) (shr-slice-copy 𝓤 H A W (named 1) κ′ usize .twice rows (v₁ ∷ [])) $ split ! $
-      move ! (3 ∷ []) $ use1 W (‵ Own₂ ⊛ ‵ Own₂) (shr-slice-copy 𝓤 H A W (named 1) κ′ usize .twice sites (v₂ ∷ [])) $ split ! $
-      -- [what sites owns, twice; what rows owns, twice; the token]
+      qed W (Tokens ∷ ‵ Own₁ ∷ ‵ Own₂ ∷ []) ∵ move ! (1 ∷ []) $ use1 W (‵ Own₁ ⊛ ‵ Own₁) (shr-slice-copy 𝓤 H A W (named 1) κ′ usize .twice rows (v₁ ∷ [])) $ split ! $
+      move ! (3 ∷ []) $ use1 W (‵ Own₂ ⊛ ‵ Own₂) (shr-slice-copy 𝓤 H A W (named 2) κ″ usize .twice sites (v₂ ∷ [])) $ split ! $
+      -- [what sites owns, twice; what rows owns, twice; the tokens]
       nothing ! $ owned ! usize (Is usize) (uint-makes 𝓤 H A W w64) i _ (refl, lt-trans h (room₂ .0)) $ fjoin ! $ move ! (1 ∷ 0 ∷ []) $ fjoin ! $ move ! (2 ∷ 0 ∷ []) $ fjoin ! $
-      nothing ! $ move ! (4 ∷ 0 ∷ []) $ join ! $ use2 W (raw (FoundAt 𝓤 H A mem run .pre (to i))) (asked i h) $ move ! (0 ∷ 2 ∷ 1 ∷ []) $ frame ! $ done !
+      move ! (3 ∷ 0 ∷ []) $ use2 W (raw (FoundAt 𝓤 H A mem run .pre (to i))) (asked i h) $ move ! (0 ∷ 2 ∷ 1 ∷ []) $ frame ! $ done !
     where
-      asked : (i : ℕ) → i < length ss → ent 𝓤 (onEntry 𝓤 H A found-at.signature (κ′, tt) (q′, tt) (rows, (sites, (i, tt))) (v₁ ∷ [], (v₂ ∷ [], (vint w64 i ∷ [], tt)))) (FoundAt 𝓤 H A mem run .pre (to i))
-      asked i h = qed W ((‵ (flft κ′ q′) ⊛ ‵ ftrue) ∷ ‵ (owns (ShrSlice (named 0) κ′ usize ∷ ShrSlice (named 0) κ′ usize ∷ usize ∷ []) (rows, (sites, (i, tt))) (v₁ ∷ [], (v₂ ∷ [], (vint w64 i ∷ [], tt)))) ∷ []) ∵ says ! h $ frame ! $ done !
+      asked : (i : ℕ) → i < length ss → ent 𝓤 (onEntry 𝓤 H A found-at.signature (κ′, (κ″, tt)) (q′, (q″, tt)) (rows, (sites, (i, tt))) (v₁ ∷ [], (v₂ ∷ [], (vint w64 i ∷ [], tt)))) (FoundAt 𝓤 H A mem run .pre (to i))
+      asked i h = qed W (Tokens ∷ ‵ (owns (ShrSlice (named 0) κ′ usize ∷ ShrSlice (named 1) κ″ usize ∷ usize ∷ []) (rows, (sites, (i, tt))) (v₁ ∷ [], (v₂ ∷ [], (vint w64 i ∷ [], tt)))) ∷ []) ∵ says ! h $ frame ! $ done !
 
   -- of the callee's `ensured`, the clause alone
-  said : (i : ℕ) (r : Found) → ent 𝓤 (ensured 𝓤 H A found-at.ended (found-at.clauses 𝓤 H A mem run) (κ′, tt) (rows, (sites, (i, tt))) tt r) (fact 𝓤 (r ≡ foundOf rs (getD ss i 0)))
-  said i r = exE 𝓤 _ (λ ws. snd∗ 𝓤 (sem 𝓤 H A (lasts found-at.ended (κ′, tt) (rows, (sites, (i, tt))) ws)) (fact 𝓤 (r ≡ foundOf rs (getD ss i 0))))
+  said : (i : ℕ) (r : Found) → ent 𝓤 (ensured 𝓤 H A found-at.ended (found-at.clauses 𝓤 H A mem run) (κ′, (κ″, tt)) (rows, (sites, (i, tt))) tt r) (fact 𝓤 (r ≡ foundOf rs (getD ss i 0)))
+  said i r = exE 𝓤 _ (λ ws. snd∗ 𝓤 (sem 𝓤 H A (lasts found-at.ended (κ′, (κ″, tt)) (rows, (sites, (i, tt))) ws)) (fact 𝓤 (r ≡ foundOf rs (getD ss i 0))))
 
   exits : (ws : List Found) → length ws ≡ length ys → ws ≡ sets ys 0 (map (foundOf rs) ss)
-      → ent 𝓤 (⋆ 𝓤 H A (‵ (fobs γ (codedHoleys R .code (heres R ws))) ∷ ‵ (fbor κ (Held R (length ws) b o γ)) ∷ ‵ (flft κ q) ∷ ‵ (flft κ′ q′) ∷ ‵ Own₁ ∷ ‵ Own₂ ∷ [])) (Post vunit)
+      → ent 𝓤 (⋆ 𝓤 H A (‵ (fobs γ (codedHoleys R .code (heres R ws))) ∷ ‵ (fbor κ (Held R (length ws) b o γ)) ∷ ‵ (flft κ q) ∷ Tokens ∷ ‵ Own₁ ∷ ‵ Own₂ ∷ [])) (Post vunit)
   exits ws l e =
-      qed W (‵ (fobs γ (codedHoleys R .code (heres R ws))) ∷ ‵ (fbor κ (Held R (length ws) b o γ)) ∷ ‵ (flft κ q) ∷ ‵ (flft κ′ q′) ∷ ‵ Own₁ ∷ ‵ Own₂ ∷ []) ∵
-      suffices ! _ (ends-at 𝓤 H A gather.ended stayed (gather.clauses 𝓤 H A mem run) W (((κ, (κ′, tt)), (q, (q′, tt)), tt, x, passed), tt) vunit tt (ws, (tt, (tt, tt))) (l, (tt, (tt, tt)))) $ says ! e $
-      nothing ! $ move ! (4 ∷ 0 ∷ []) $ join ! $ move ! (3 ∷ 0 ∷ []) $ join ! $ frame ! $
+      qed W (‵ (fobs γ (codedHoleys R .code (heres R ws))) ∷ ‵ (fbor κ (Held R (length ws) b o γ)) ∷ ‵ (flft κ q) ∷ Tokens ∷ ‵ Own₁ ∷ ‵ Own₂ ∷ []) ∵
+      suffices ! _ (ends-at 𝓤 H A gather.ended stayed (gather.clauses 𝓤 H A mem run) W (((κ, (κ′, (κ″, tt))), (q, (q′, (q″, tt))), tt, x, passed), tt) vunit tt (ws, (tt, (tt, tt))) (l, (tt, (tt, tt)))) $ says ! e $
+      move ! (2 ∷ 3 ∷ []) $ join ! $ frame ! $
       fjoin ! $ pureI ! (at-slice R (list ws) (v ∷ [])) (tt, (tt, tt)) (ap (λ (m : ℕ). sliceVal (b, o) m ∷ []) (sym l), subst (Room R) (sym l) room) $ fjoin ! $
       nothing ! $ move ! (3 ∷ 0 ∷ []) $ fjoin ! $ move ! (2 ∷ 0 ∷ []) $ fjoin ! $ move ! (1 ∷ 0 ∷ []) $ fjoin ! $ frame ! $
       feqI ! (List Val) (vunit ∷ []) (vunit ∷ []) refl $ done !
@@ -193,14 +200,14 @@ module _ {M : Type 1} (𝓤 : URA M) (H : Heap 𝓤) (A : Atoms 𝓤) (W : Given
   module _ (𝓣 : Tables 𝓤 H) (fm : FmC 𝓤 H (W .laws) (𝓣 .C)) (known : Triple 𝓤 (𝓣 .C #found-sites·found-at) (FoundAt 𝓤 H A mem run)) where
     module _ (l₀ l₁ l₂ l₃ l₄ l₅ l₆ l₇ l₈ : ℕ) where
       abbrev En : Env 𝓤 H
-      En = (tyUnit, l₀) ∷ (list-ty, l₁) ∷ (numbers-ty, l₂) ∷ (numbers-ty, l₃) ∷ (tyInt w64, l₄) ∷ (tyInt w64, l₅) ∷ (tyBool, l₆) ∷ (T′.mir, l₇) ∷ (tyPtr, l₈) ∷ []
+      En = (tyUnit, l₀) ∷ (list-ty, l₁) ∷ (rows-ty, l₂) ∷ (sites-ty, l₃) ∷ (tyInt w64, l₄) ∷ (tyInt w64, l₅) ∷ (tyBool, l₆) ∷ (T′.mir, l₇) ∷ (tyPtr, l₈) ∷ []
 
       abbrev At : State ys rs ss → List (Item 𝓤)
       At s =
-          ‵ (row R fullShare (s .ws) b o) ∷ ‵ (fobor κ q (Held R (length ys) b o γ)) ∷ ‵ (fobs γ (codedHoleys R .code (heres R ys))) ∷ ‵ (fauth γ (codedHoleys R .code (heres R ys))) ∷ ‵ (flft κ′ q′) ∷ ‵ Own₁ ∷ ‵ Own₂
+          ‵ (row R fullShare (s .ws) b o) ∷ ‵ (fobor κ q (Held R (length ys) b o γ)) ∷ ‵ (fobs γ (codedHoleys R .code (heres R ys))) ∷ ‵ (fauth γ (codedHoleys R .code (heres R ys))) ∷ Tokens ∷ ‵ Own₁ ∷ ‵ Own₂
           ∷ ‵ (froom tyPtr l₈ 0) ∷ ‵ (fdies tyPtr l₈) ∷ ‵ (froom T′.mir l₇ 0) ∷ ‵ (fdies T′.mir l₇) ∷ ‵ (froom tyBool l₆ 0) ∷ ‵ (fdies tyBool l₆) ∷ ‵ (froom (tyInt w64) l₅ 0) ∷ ‵ (fdies (tyInt w64) l₅)
-          ∷ ‵ (fat fullShare (tyInt w64) l₄ 0 (vint w64 (s .i))) ∷ ‵ (fdies (tyInt w64) l₄) ∷ ‵ (fat fullShare numbers-ty l₃ 0 v₂) ∷ ‵ (fdies numbers-ty l₃)
-          ∷ ‵ (fat fullShare numbers-ty l₂ 0 v₁) ∷ ‵ (fdies numbers-ty l₂) ∷ ‵ (fat fullShare list-ty l₁ 0 v) ∷ ‵ (fdies list-ty l₁) ∷ ‵ (froom tyUnit l₀ 0) ∷ ‵ (fdies tyUnit l₀) ∷ []
+          ∷ ‵ (fat fullShare (tyInt w64) l₄ 0 (vint w64 (s .i))) ∷ ‵ (fdies (tyInt w64) l₄) ∷ ‵ (fat fullShare sites-ty l₃ 0 v₂) ∷ ‵ (fdies sites-ty l₃)
+          ∷ ‵ (fat fullShare rows-ty l₂ 0 v₁) ∷ ‵ (fdies rows-ty l₂) ∷ ‵ (fat fullShare list-ty l₁ 0 v) ∷ ‵ (fdies list-ty l₁) ∷ ‵ (froom tyUnit l₀ 0) ∷ ‵ (fdies tyUnit l₀) ∷ []
 
       -- a turn ends nearer to the end, or the loop is left and the rest of the body runs
       abbrev Turned : State ys rs ss → Out → SProp 𝓤
@@ -216,7 +223,7 @@ module _ {M : Type 1} (𝓤 : URA M) (H : Heap 𝓤) (A : Atoms 𝓤) (W : Given
           (λ less. skips ! $ exec ! (𝓣 .C) (𝓣 .Λ) En more (anyQ (Turned s)) $
           move ! (4 ∷ 5 ∷ 6 ∷ []) $ use3 W (raw (FoundAt 𝓤 H A mem run .pre (to (s .i))) ⊛ ‵ Own₁ ⊛ ‵ Own₂) (apart (s .i) (below less)) $ split ! $
           calls-at ! fm (FoundAt 𝓤 H A mem run) known (to (s .i)) (and-then ! (load ! (from ! (stop !)) (look ! 18 refl)) (and-then ! (load ! (from ! (stop !)) (look ! 16 refl)) (and-then ! (load ! (from ! (stop !)) (look ! 14 refl)) (no-more !)))) (λ u.
-          use1 W (later (some (λ (r : Found). ((‵ (flft κ′ q′) ⊛ ‵ ftrue) ⊛ ‵ (R .own r (u ∷ []))) ⊛ raw (ensured 𝓤 H A found-at.ended (found-at.clauses 𝓤 H A mem run) (κ′, tt) (rows, (sites, (s .i, tt))) tt r)))) (id⊢ 𝓤 _) $ await ! tt $ pick ! (λ r.
+          use1 W (later (some (λ (r : Found). (Tokens ⊛ ‵ (R .own r (u ∷ []))) ⊛ raw (ensured 𝓤 H A found-at.ended (found-at.clauses 𝓤 H A mem run) (κ′, (κ″, tt)) (rows, (sites, (s .i, tt))) tt r)))) (id⊢ 𝓤 _) $ await ! tt $ pick ! (λ r.
           split ! $ move ! (1 ∷ []) $ use1 W (raw (fact 𝓤 (r ≡ foundOf rs (getD ss (s .i) 0)))) (said (s .i) r) $ heard ! (r ≡ foundOf rs (getD ss (s .i) 0)) (λ e. split ! $ move ! (1 ∷ []) $
           -- [the site; the token; what rows and sites own; the row; the open borrow; obs; auth; _8; …; _0; …]
           peeks ! R (Is R) (shows 𝓤 H A R) r (u ∷ []) (λ is.
@@ -232,9 +239,9 @@ module _ {M : Type 1} (𝓤 : URA M) (H : Heap 𝓤) (A : Atoms 𝓤) (W : Given
           assigns-last ! (bin ! (load ! (from ! (stop !)) (look ! 14 refl)) (lit ! tt) (next-fits less)) (from ! (stop !)) (store ! 14 refl (tt, next-fits less)) $
           forget ! 6 refl $ forget ! 8 refl $ forget ! 10 refl $ forget ! 12 refl $
           rewrite ! 0 (λ (w : Found). ‵ (row R fullShare (set (s .ws) (s .i) w) b o)) e refl $
-          move ! (1 ∷ []) $ split ! $ move ! (3 ∷ []) $ split ! $
-          -- [what rows owns; what sites owns; the token; true; the row; the open borrow; obs; auth; _8; …]
-          keep ! (4 ∷ 5 ∷ 6 ∷ 7 ∷ 2 ∷ 0 ∷ 1 ∷ 8 ∷ 9 ∷ 10 ∷ 11 ∷ 12 ∷ 13 ∷ 14 ∷ 15 ∷ 16 ∷ 17 ∷ 18 ∷ 19 ∷ 20 ∷ 21 ∷ 22 ∷ 23 ∷ 24 ∷ 25 ∷ []) $
+          move ! (2 ∷ []) $ split ! $
+          -- [what rows owns; what sites owns; the row; the tokens; the open borrow; obs; auth; _8; …]
+          keep ! (2 ∷ 4 ∷ 5 ∷ 6 ∷ 3 ∷ 0 ∷ 1 ∷ 7 ∷ 8 ∷ 9 ∷ 10 ∷ 11 ∷ 12 ∷ 13 ∷ 14 ∷ 15 ∷ 16 ∷ 17 ∷ 18 ∷ 19 ∷ 20 ∷ 21 ∷ 22 ∷ 23 ∷ 24 ∷ []) $
           again ! Nearer At s (turned ys rs ss s (below less)) (add-one-dec (length ss) (s .i) (below less))))))))
           (λ over. jumps ! $ exec ! (𝓣 .C) (𝓣 .Λ) En after (atRet En Post) $
           assigns ! (of-opd ! (unit-lit !)) (from ! (stop !)) (init ! 23 refl (tt, tt)) $
@@ -256,37 +263,33 @@ module _ {M : Type 1} (𝓤 : URA M) (H : Heap 𝓤) (A : Atoms 𝓤) (W : Given
           next-fits : Holds (ltb (s .i) (length ss)) → Fits w64 (s .i + 1)
           next-fits less = record { fits = lt-of-le-of-lt (add-one-le (below less)) (room₂ .0) }
 
-    walk : ent 𝓤 (onEntry 𝓤 H A gather.signature (κ, (κ′, tt)) (q, (q′, tt)) x passed) (WpFn 𝓤 H (𝓣 .C) (𝓣 .Λ) code.function (v ∷ v₁ ∷ v₂ ∷ []) Post)
+    walk : ent 𝓤 (onEntry 𝓤 H A gather.signature (κ, (κ′, (κ″, tt))) (q, (q′, (q″, tt))) x passed) (WpFn 𝓤 H (𝓣 .C) (𝓣 .Λ) code.function (v ∷ v₁ ∷ v₂ ∷ []) Post)
     unfolding begin
     walk =
-        qed W ((‵ (flft κ q) ⊛ ‵ (flft κ′ q′) ⊛ ‵ ftrue) ∷ ‵ (owns (MutSlice (named 0) κ R ∷ ShrSlice (named 1) κ′ usize ∷ ShrSlice (named 1) κ′ usize ∷ []) x passed) ∷ []) ∵ enter ! (𝓣 .C) (𝓣 .Λ) code.function (v ∷ v₁ ∷ v₂ ∷ []) _ $
+        qed W ((‵ (flft κ q) ⊛ Tokens) ∷ ‵ (owns (MutSlice (named 0) κ R ∷ ShrSlice (named 1) κ′ usize ∷ ShrSlice (named 2) κ″ usize ∷ []) x passed) ∷ []) ∵
+        split ! $ move ! (2 ∷ []) $ fsplit ! $ move ! (1 ∷ []) $ fsplit ! $ move ! (1 ∷ []) $ fsplit ! $
+        -- [what sites owns; true; what rows owns; what list owns; list's token; the tokens]
+        move ! (3 ∷ []) $ fsplit ! $ move ! (1 ∷ []) $ fsplit ! $
+        -- [obs; the borrow; list's fact; what sites owns; true; what rows owns; list's token; the tokens]
+        keep ! (0 ∷ 1 ∷ 6 ∷ 7 ∷ 5 ∷ 3 ∷ []) $ enter ! (𝓣 .C) (𝓣 .Λ) code.function (v ∷ v₁ ∷ v₂ ∷ []) _ $
         alloc1 ! (λ l₀. alloc1 ! (λ l₁. alloc1 ! (λ l₂. alloc1 ! (λ l₃. alloc1 ! (λ l₄. alloc1 ! (λ l₅. alloc1 ! (λ l₆. alloc1 ! (λ l₇. alloc1 ! (λ l₈. alloc0 ! $ params1 ! $
         pass1 ! (init ! 14 refl (tt, (tt, (record { fits = room .0 }, tt)))) $ pass1 ! (init ! 12 refl (tt, (tt, (record { fits = room₁ .0 }, tt)))) $ pass1 ! (init ! 10 refl (tt, (tt, (record { fits = room₂ .0 }, tt)))) $ pass0 ! $
         assigns ! (of-opd ! (lit ! tt)) (from ! (stop !)) (init ! 8 refl (tt, record { fits = lit< tt })) $
-        -- [_8; …; _0; …; the tokens; what list, rows and sites own]
-        move ! (19 ∷ []) $ fsplit ! $ fsplit ! $ move ! (1 ∷ []) $ fsplit ! $
-        -- [obs; the borrow; the list's fact; what rows and sites own; _8; …; the tokens]
-        move ! (22 ∷ []) $ split ! $ move ! (1 ∷ []) $ split ! $
-        -- [the second token; true; the first token; obs; the borrow; the list's fact; what rows and sites own; _8; …]
-        move ! (6 ∷ []) $ fsplit ! $ move ! (1 ∷ []) $ fsplit ! $
-        -- [what sites owns; true; what rows owns; the second token; true; the first token; obs; the borrow; the list's fact; _8; …]
-        move ! (6 ∷ 7 ∷ 5 ∷ []) $
-        opens-slice ! tt R ys b o $
-        -- [the row; the open borrow; obs; auth; what sites owns; true; what rows owns; the second token; true; the list's fact; _8; …]
-        keep ! (0 ∷ 1 ∷ 2 ∷ 3 ∷ 7 ∷ 6 ∷ 4 ∷ 10 ∷ 11 ∷ 12 ∷ 13 ∷ 14 ∷ 15 ∷ 16 ∷ 17 ∷ 18 ∷ 19 ∷ 20 ∷ 21 ∷ 22 ∷ 23 ∷ 24 ∷ 25 ∷ 26 ∷ 27 ∷ []) $
+        -- [_8; …; _0; …; obs; the borrow; list's token; the tokens; what rows owns; what sites owns]
+        move ! (18 ∷ 19 ∷ 20 ∷ 21 ∷ 22 ∷ 23 ∷ []) $ opens-slice ! tt R ys b o $
         first ! $ blocks ! $ loops ! 𝓣 Nearer (InvImage·wf (λ (s : State ys rs ss). length ss - s .i) (Nat·lt-wfRel .wf)) (At l₀ l₁ l₂ l₃ l₄ l₅ l₆ l₇ l₈) (turns l₀ l₁ l₂ l₃ l₄ l₅ l₆ l₇ l₈) (begin ys rs ss))))))))))
 
 module _ {M : Type 1} (𝓤 : URA M) (H : Heap 𝓤) (A : Atoms 𝓤) (W : Given 𝓤 H A) (mem : Memory → SProp 𝓤) (run : Routine → Fun 𝓤) (𝓣 : Tables 𝓤 H) where
   gather-walks : Triple 𝓤 (𝓣 .C #found-sites·found-at) (FoundAt 𝓤 H A mem run) → Walks 𝓤 H A gather.ended stayed (WpFn 𝓤 H (𝓣 .C) (𝓣 .Λ) code.function) (gather.clauses 𝓤 H A mem run)
   gather-walks known = walked 𝓤 H A gather.ended stayed (gather.clauses 𝓤 H A mem run) (WpFn 𝓤 H (𝓣 .C) (𝓣 .Λ) code.function)
-      (λ κs. (slice-vals, (slice-vals, (slice-vals, tt)))) (λ κs. (mut-slice-tells (named 0) (κs .0) R, (shr-slice-tells (named 1) (κs .1 .0) usize, (shr-slice-tells (named 1) (κs .1 .0) usize, tt))))
+      (λ κs. (slice-vals, (slice-vals, (slice-vals, tt)))) (λ κs. (mut-slice-tells (named 0) (κs .0) R, (shr-slice-tells (named 1) (κs .1 .0) usize, (shr-slice-tells (named 2) (κs .1 .1 .0) usize, tt))))
       (λ κs qs bounds a g are. needs 𝓤 _ _ (λ within.
-      walk 𝓤 H A W mem run (κs .0) (κs .1 .0) (qs .0) (qs .1 .0) (a .0 .ptr .0) (a .0 .ptr .1) (a .0 .name) (a .0 .now) (a .1 .0 .ptr .0) (a .1 .0 .ptr .1) (a .1 .0 .name) (a .1 .0 .now)
+      walk 𝓤 H A W mem run (κs .0) (κs .1 .0) (κs .1 .1 .0) (qs .0) (qs .1 .0) (qs .1 .1 .0) (a .0 .ptr .0) (a .0 .ptr .1) (a .0 .name) (a .0 .now) (a .1 .0 .ptr .0) (a .1 .0 .ptr .1) (a .1 .0 .name) (a .1 .0 .now)
       (a .1 .1 .0 .ptr .0) (a .1 .1 .0 .ptr .1) (a .1 .1 .0 .name) (a .1 .1 .0 .now)
       (are .0 .0 .1) (are .1 .0 .0 .1) (are .1 .1 .0 .0 .1) within 𝓣 (fmOf 𝓤 H (W .laws) 𝓣) known))
 
   gather-meets : Triple 𝓤 (𝓣 .C #found-sites·found-at) (FoundAt 𝓤 H A mem run) → Meets 𝓤 H A gather.signature (WpFn 𝓤 H (𝓣 .C) (𝓣 .Λ) code.function) (gather.spec 𝓤 H A mem run)
-  gather-meets known = walk-meets 𝓤 H A gather.ended stayed W (goes-slice 𝓤 H A W 2 0 tt (plain (λ _. R)), (goes-none-slice 𝓤 H A W 2 (1 ∷ []) tt (plain (λ _. usize)) yes, (goes-none-slice 𝓤 H A W 2 (1 ∷ []) tt (plain (λ _. usize)) yes, tt)))
+  gather-meets known = walk-meets 𝓤 H A gather.ended stayed W (goes-slice 𝓤 H A W 3 0 tt (plain (λ _. R)), (goes-none-slice 𝓤 H A W 3 (1 ∷ []) tt (plain (λ _. usize)) yes, (goes-none-slice 𝓤 H A W 3 (2 ∷ []) tt (plain (λ _. usize)) yes, tt)))
       (gather.clauses 𝓤 H A mem run) (WpFn 𝓤 H (𝓣 .C) (𝓣 .Λ) code.function) (WpFn-mono 𝓤 H (W .laws) 𝓣 code.function) (gather-walks known)
 
 pub gather-spec : {M : Type 1} → stated.statement M
