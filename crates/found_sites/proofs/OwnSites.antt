@@ -39,7 +39,7 @@ all-length first [] own = refl
 all-length first (x ∷ list) own = put-length first x (putAll first list own) ∙ all-length first list own
 
 module _ (rows : List ℕ) where
-  own-length : (sites : List ℕ) (first : ℕ) (own : List ℕ) → length (ownSites rows sites first own) ≡ length own
+  pub own-length : (sites : List ℕ) (first : ℕ) (own : List ℕ) → length (ownSites rows sites first own) ≡ length own
   unfolding ownSites
   own-length sites first [] = refl
   own-length sites first (n ∷ own) = ap suc (own-length sites (suc first) own)
