@@ -1,21 +1,15 @@
 -- The entries of samples, stored one by one.
 use Prim.Native.Nat.{_+_, _-_, _<_, _≤_, suc, ℕ}
-use borrow.Author.Tests.{eq-eqb, eqb-true, le-leb, leb-false, leb-true, lt-leb, ne-eqb}
-use lib.Dec.{eqb, leb}
-use lib.ListN.{getD, length, length-map, length-set, set}
-use lib.Seq.{ext-getD, getD-set-other, getD-set-same, set-out}
+use borrow.Author.Tests.{le-leb, lt-leb}
+use lib.Dec.{leb}
+use lib.ListN.{drop, drop-of-length-le, getD, length, length-set, set, take}
+use lib.Seq.{drop-cons, set-out, sets, sets-eq, take-append-seam, take-suc}
 use mathlib.Core.Bool.{Bool, cond, false, true}
-use mathlib.Core.List.{List, [], _++_, _∷_, foldr, map}
-use mathlib.Core.Option.{none, some}
+use mathlib.Core.List.{List, [], _++_, _∷_, map}
 use mathlib.Core.Path.{_∙_, _≡_, ap, refl, sym}
-use native.Mathlib.Omega.{arith}
-use Rattle.definitions.specs.Lists.{firstWhere, numbersFrom}
-use Rattle.laws.proofs.Members.{length-numbers}
-use Rattle.tables.specs.Tables.{column}
-use lib.ListN.{drop, drop-of-length-le, take}
-use lib.Seq.{drop-cons, sets, sets-eq, take-append-seam, take-suc}
 use native.Mathlib.Numerals.{add-one}
-use Rattle.found_sites.specs.Own.{foundOf, ownSite, ownSites, putAll, putOwn}
+use native.Mathlib.Omega.{arith}
+use Rattle.found_sites.specs.Own.{foundOf, putAll, putOwn}
 use Rattle.found_sites.specs.declared.Found.{Found}
 
 -- ---- one site

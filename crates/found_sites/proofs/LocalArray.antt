@@ -16,7 +16,7 @@ use base.Logic.{SProp, ent, sep, ex, via}
 use base.Fml.{Lft, GName, Fml, fsep, fat, froom, fdead, flent}
 use prog.Wp.{Heap}
 use ghost.Atoms.{Atoms, sem}
-use types.Kit.{Given, ‵, later, _$_, _∵_, !, qed, by, move, keep, drop, use1, use3, rewrite, fsplit, fjoin, fpick, fpack, feqL, await, updating, now as at-once, done}
+use types.Kit.{Given, ‵, later, _$_, _∵_, !, qed, move, keep, drop, use1, use3, rewrite, fsplit, fjoin, fpick, fpack, feqL, await, updating, now as at-once, done}
 use types.Run.{forget}
 use types.SemTy.{cells, Arr}
 use types.Share.{arr-parts}

@@ -1,8 +1,8 @@
 -- The entries after all sites are stored: the first site of each sample.
 use Prim.Native.Nat.{_+_, _-_, _<_, _≤_, suc, zero, ℕ}
-use borrow.Author.Tests.{eq-eqb, eqb-false, eqb-true, le-leb, leb-false, leb-true}
+use borrow.Author.Tests.{eqb-false, eqb-true, leb-false, leb-true}
 use lib.Dec.{eqb, leb}
-use lib.ListN.{drop, drop-of-length-le, getD, length, set, take, take-append-drop}
+use lib.ListN.{drop, getD, length, set, take, take-append-drop}
 use lib.Seq.{drop-drop, drop-length, ext-getD, getD-set-other, getD-set-same}
 use mathlib.Core.Bool.{Bool, cond, false, true}
 use mathlib.Core.List.{List, [], _++_, _∷_, map, map-append}
