@@ -140,7 +140,7 @@ def answered(offered, known, answers):
 def write(crate, answers_path):
     function, head, text, answers = read_answers(answers_path)
     with open(offered_path(crate, function)) as f:
-        offered = f.read()
+        offered = re.sub(r"\{\n\s*(\S+?),?\n\}", r"{\1}", f.read())
     records, needs = places(generated(crate, function))
     body = answered(offered, {n: paths(records, r) for n, r in needs.items()}, answers)
     uses = [l for l in text.split("\n") if l.startswith("use ")]

@@ -1,0 +1,4 @@
+pub mod Picked
+pub mod Fitting
+pub mod Fronts
+pub mod Subset
