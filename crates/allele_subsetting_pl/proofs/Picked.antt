@@ -14,7 +14,7 @@ use Rattle.definitions.specs.Genotypes.{AllelePair, atMappedPairs, genotypeInde
 use Rattle.diploid_pairs.proofs.Places.{pair-at-place, pair-there, same-pair}
 use Rattle.genotype_values.proofs.Mapped.{count-is, noPair, product-bound}
 use Rattle.genotype_values.specs.Values.{mappedPlace}
-use Rattle.laws.proofs.Every.{Every, also, every-at, every-map, nothing}
+use Rattle.laws.proofs.Every.{Every, also, every-at, every-map, every-of-map, nothing}
 use Rattle.laws.proofs.Genotypes.{genotype-pairs-at, genotype-pairs-below, genotype-pairs-length}
 use Rattle.laws.proofs.Members.{at-below, below-at, getD-some}
 
@@ -65,6 +65,17 @@ module _ {A : Type 0} where
       (every-map
       (λ p b. getD-any values _ d e
       (rw long (index-below n _ _ (every-at (p .low) 0 (omega arith) below) (every-at (p .high) 0 (b .below) below))))
+      (genotype-pairs-below (length keep)))
+
+  -- and what holds of each value holds of each that is picked
+  pub picked-every : {P : A → Type 0} (d : A) (n : ℕ) (keep : List ℕ) {values : List A} → length values ≡ genotypeCount n → Every (λ a. a < n) keep
+      → Every P values → Every P (atMappedPairs d keep values)
+  unfolding atMappedPairs
+  picked-every d n keep long below each =
+      every-of-map _
+      (every-map
+      (λ p b. every-at _ d
+      (rw long (index-below n _ _ (every-at (p .low) 0 (omega arith) below) (every-at (p .high) 0 (b .below) below))) each)
       (genotype-pairs-below (length keep)))
 
 pub less-length : (values : List Float) → length (lessGreatest values) ≡ length values

@@ -1,6 +1,7 @@
 -- What `subset_log10_genotype_likelihoods` answers, by cases.
 -- Assumes nothing.
 use Prim.Native.Nat.{_<_, _≤_, ℕ}
+use lib.Dec.{T}
 use lib.Ieee.{Float, nan}
 use lib.ListN.{length}
 use lib.Seq.{sets}
@@ -9,17 +10,21 @@ use mathlib.Core.List.{List}
 use mathlib.Core.Path.{_∙_, _≡_, ap, refl, sym}
 use native.Mathlib.Omega.{arith}
 use Rattle.allele_subsetting_pl.proofs.Fitting.{Fitting, fitting}
-use Rattle.allele_subsetting_pl.proofs.Picked.{less-length, picked-any, picked-length}
+use Rattle.allele_subsetting_pl.proofs.Picked.{less-length, picked-any, picked-every, picked-length}
 use Rattle.allele_subsetting_pl.specs.Kept.{absentLikelihood}
 use Rattle.answers.proofs.Answers.{answered-refused, answered-written, is-within, not-within}
 use Rattle.answers.specs.Answered.{Answered}
 use Rattle.answers.specs.declared.Outcome.the-variants as outcome
 use Rattle.definitions.specs.AlleleSubset.{alleleCountFits, lessGreatest, likelihoodSubset, subsetFits, subsetLikelihoods}
 use Rattle.definitions.specs.Alleles.{genotypeCount}
+use Rattle.definitions.specs.Checked.{accepted, within}
 use Rattle.definitions.specs.Genotypes.{atMappedPairs}
 use Rattle.kv_write.proofs.Laying.{sets-front}
-use Rattle.laws.proofs.Checked.{not-required, required}
-use Rattle.laws.proofs.Tests.{both}
+use Rattle.laws.proofs.Checked.{accepted-same, after-required, not-required, required}
+use Rattle.laws.proofs.Every.{Every}
+use Rattle.laws.proofs.Tests.{both, both-of}
+use Rattle.likelihoods.proofs.NoneAbove.{none-above}
+use Rattle.likelihoods.proofs.Order.{notAbove}
 
 module _ (gl : List Float) (n : ℕ) (keep : List ℕ) where
   pub subset-length : length (subsetLikelihoods keep gl) ≡ genotypeCount (length keep)
@@ -30,6 +35,14 @@ module _ (gl : List Float) (n : ℕ) (keep : List ℕ) where
   pub subset-picked : Fitting gl n keep → lessGreatest (atMappedPairs absentLikelihood keep gl) ≡ subsetLikelihoods keep gl
   unfolding subsetLikelihoods
   subset-picked f = ap lessGreatest (picked-any absentLikelihood nan n keep gl (f .count) (f .alleles))
+
+  -- none is above 0
+  pub subset-not-above : (room : ℕ) {values : List Float} → likelihoodSubset gl n keep room ≡ accepted values → Every (λ x. T (notAbove x)) values
+  unfolding likelihoodSubset within subsetLikelihoods
+  subset-not-above room e =
+      after-required _ _ _ e λ t e. after-required _ _ _ e λ _ e.
+      let f = fitting gl n keep (both-of (alleleCountFits n) _ t .1) in
+      rw (← accepted-same e) (none-above (atMappedPairs nan keep gl) (picked-every nan n keep (f .count) (f .alleles) (f .values)))
 
   module _ {out : List Float} where
     pub count-refused : alleleCountFits n ≡ false → Answered (likelihoodSubset gl n keep (length out)) out out (outcome.Refused 15)

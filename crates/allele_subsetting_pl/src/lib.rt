@@ -1,20 +1,24 @@
 // Likelihoods, AD and ALTs of some of a record's alleles. A keep list has the numbers of the alleles that are left.
-ghost use mathlib.Core.Bool.{true};
+ghost use mathlib.Core.Bool.{_&&_, true};
 ghost use mathlib.Core.Option.{Option·getD, Option·map};
 ghost use mathlib.Core.Path.{_≡_};
-ghost use Prim.Native.Nat.{_<_, _≤_};
-ghost use lib.Dec.{ltb};
+ghost use Prim.Native.Nat.{_+_, _-_, _<_, _^_, _≤_};
+ghost use lib.Dec.{leb, ltb};
 ghost use lib.ListN.{getD, getElem?, length, set};
 ghost use lib.Seq.{sets};
-ghost use Rattle.definitions.specs.AlleleSubset.{alleleCountFits, lessGreatest, likelihoodSubset, subsetFits};
+ghost use Rattle.definitions.specs.AlleleSubset.{alleleCountFits, altFields, assignedAlleles, lessGreatest, likelihoodSubset, subsetFits, subsetTo, unusedAltSubsetWithin};
 ghost use Rattle.definitions.specs.Alleles.{genotypeCount};
-ghost use Rattle.definitions.specs.Genotypes.{atMappedPairs, genotypePairs};
+ghost use Rattle.definitions.specs.Checked.{accepted};
+ghost use Rattle.definitions.specs.Genotypes.{atMappedPairs, genotypePairs, remappedAd};
 ghost use Rattle.definitions.specs.Lists.{allOf};
 ghost use Rattle.answers.specs.Answered.{Answered};
 ghost use Rattle.genotype_values.specs.Values.{mappedPlace};
-ghost use Rattle.allele_subsetting_pl.specs.Kept.{KeepList, absentLikelihood};
+ghost use Rattle.kv_write.specs.Laid.{Laid};
+ghost use Rattle.allele_subsetting_pl.specs.Kept.{KeepList, absentLikelihood, altWith, altsWith, isAssigned, onlyAssigned};
+ghost use Rattle.allele_subsetting_pl.specs.UnusedAlts.{AssignedKeep, UnusedAltsAnswered, outputs, subsetWithin, wholeRecord};
 use answers::Outcome;
 use genotype_values::MappedAt;
+use kv_text::FieldAt;
 
 // How many genotypes at most 16 alleles have.
 fn num_genotype_likelihoods(alleles: usize) -> usize
@@ -159,4 +163,301 @@ pub fn subset_log10_genotype_likelihoods(
     }
     subset_likelihoods(gl, keep, out);
     Outcome::Written(count)
+}
+
+// ---- unused ALTs
+
+// How many ALTs a list with commas has.
+fn alt_count(alts: &[u8]) -> usize
+    ensures { λ r. ⌜ r ≡ length (altFields (now (alts .entry))) ⌝ }
+{
+    if alts.len() == 0 {
+        return 0;
+    }
+    kv_text::count_fields(alts, b',')
+}
+
+// Whether an allele is REF or one that the GT names.
+fn is_assigned(gt: &[usize], allele: usize) -> bool
+    ensures { λ r. ⌜ r ≡ isAssigned (now (gt .entry)) allele ⌝ }
+{
+    if allele == 0 {
+        return true;
+    }
+    for i in 0..gt.len() {
+        let g = gt[i];
+        if g == allele {
+            return true;
+        }
+    }
+    false
+}
+
+// Puts an allele into a keep list if it is assigned, and returns how many the list then has.
+fn keep_assigned(keep: &mut [usize], count: usize, allele: usize, assigned: bool) -> usize
+    requires { ⌜ count + length (onlyAssigned assigned allele) < 2 ^ 64 ⌝ }
+    ensures { λ r. ⌜ Laid (now (keep .entry)) count (onlyAssigned assigned allele) (now (keep .exit)) r ⌝ }
+{
+    if !assigned {
+        return count;
+    }
+    let next = count + 1;
+    if count < keep.len() {
+        keep[count] = allele;
+    }
+    next
+}
+
+// The numbers of REF and of the ALTs that the GT names, as far as they fit, and how many they are.
+fn output_allele_keep_indices_from_assigned_gt(
+    alleles: usize,
+    gt: &[usize],
+    keep: &mut [usize],
+) -> usize
+    requires { ⌜ alleles ≤ 16 ⌝ }
+    ensures { λ r. ⌜ Laid (now (keep .entry)) 0 (assignedAlleles alleles (now (gt .entry))) (now (keep .exit)) r ⌝ }
+{
+    let mut count = 0;
+    for allele in 0..alleles {
+        let assigned = is_assigned(gt, allele);
+        count = keep_assigned(keep, count, allele, assigned);
+    }
+    count
+}
+
+// The place of an allele among the ALTs.
+fn alt_index(allele: usize) -> usize
+    ensures { λ r. ⌜ r ≡ allele - 1 ⌝ }
+{
+    if allele == 0 {
+        return 0;
+    }
+    allele - 1
+}
+
+// The ALT with an allele number; nothing if there is none.
+fn alt_at<'a>(alts: &'a [u8], allele: usize) -> &'a [u8]
+    ensures { λ r. ⌜ now r ≡ altWith (now (alts .entry)) allele ⌝ }
+{
+    let found = kv_text::field_at(alts, b',', alt_index(allele));
+    match found {
+        FieldAt::At(from, to) => tables::part(alts, from, to),
+        FieldAt::Absent => tables::part(alts, 0, 0),
+    }
+}
+
+// Lays the ALT with an allele number.
+fn put_alt(out: &mut [u8], at: usize, alts: &[u8], allele: usize) -> usize
+    requires { ⌜ at + length (altWith (now alts) allele) < 2 ^ 64 ⌝ }
+    ensures { λ r. ⌜ Laid (now (out .entry)) at (altWith (now (alts .entry)) allele) (now (out .exit)) r ⌝ }
+{
+    let alt = alt_at(alts, allele);
+    kv_write::put_bytes(out, at, alt)
+}
+
+// Lays the ALTs with these numbers, with commas between.
+fn put_alts(out: &mut [u8], alts: &[u8], numbers: &[usize]) -> usize
+    requires { ⌜ 0 + length (altsWith (now alts) (now numbers)) < 2 ^ 64 ⌝ }
+    ensures { λ r. ⌜ Laid (now (out .entry)) 0 (altsWith (now (alts .entry)) (now (numbers .entry))) (now (out .exit)) r ⌝ }
+{
+    if numbers.len() == 0 {
+        return 0;
+    }
+    let first = numbers[0];
+    let mut next = put_alt(out, 0, alts, first);
+    for i in 1..numbers.len() {
+        next = kv_write::put_byte(out, next, b',');
+        let allele = numbers[i];
+        next = put_alt(out, next, alts, allele);
+    }
+    next
+}
+
+// How many bytes the ALTs with these numbers take, with commas between.
+fn alts_length(alts: &[u8], numbers: &[usize]) -> usize
+    requires { ⌜ 0 + length (altsWith (now alts) (now numbers)) < 2 ^ 64 ⌝ }
+    ensures { λ r. ⌜ r ≡ length (altsWith (now (alts .entry)) (now (numbers .entry))) ⌝ }
+{
+    let mut room = [0u8; 1];
+    put_alts(&mut room[..0], alts, numbers)
+}
+
+// AD of the alleles that are left, as far as it fits.
+fn subset_ad(ad: &[u32], keep: &[usize], out: &mut [u32])
+    requires { ⌜ KeepList (now keep) ⌝ }
+    ensures { λ _. ⌜ now (out .exit) ≡ sets (now (out .entry)) 0 (remappedAd (now (keep .entry)) (now (ad .entry))) ⌝ }
+{
+    let kept = keep.len();
+    let mut map = [0u8; 16];
+    allele_map(keep, &mut map);
+    genotype_values::remap_ad(&map[..kept], ad, out);
+}
+
+// Copies likelihoods as they are.
+fn copy_likelihoods(gl: &[f64], out: &mut [f64])
+    ensures { λ _. ⌜ now (out .exit) ≡ sets (now (out .entry)) 0 (now (gl .entry)) ⌝ }
+{
+    for i in 0..gl.len() {
+        let x = gl[i];
+        likelihoods::put_value(out, i, x);
+    }
+}
+
+// Copies AD to an output that has room for it.
+fn copy_ad(ad: &[u32], out: &mut [u32])
+    requires { ⌜ length (now ad) ≤ length (now out) ⌝ }
+    ensures { λ _. ⌜ now (out .exit) ≡ sets (now (out .entry)) 0 (now (ad .entry)) ⌝ }
+{
+    for i in 0..ad.len() {
+        let x = ad[i];
+        out[i] = x;
+    }
+}
+
+// Whether each of three lengths fits its output.
+fn has_room(
+    alts: usize,
+    alts_out: usize,
+    gl: usize,
+    gl_out: usize,
+    ad: usize,
+    ad_out: usize,
+) -> bool
+    ensures { λ r. ⌜ r ≡ leb alts «alts_out» && leb gl «gl_out» && leb ad «ad_out» ⌝ }
+{
+    if alts_out < alts {
+        return false;
+    }
+    if gl_out < gl {
+        return false;
+    }
+    ad <= ad_out
+}
+
+// What `subset_unused_alts_after_merged_genotyping` answers.
+pub enum UnusedAltOutcome {
+    // How much is written of the ALTs, the likelihoods and AD.
+    Written(usize, usize, usize),
+    // The row that refuses the call.
+    Refused(usize),
+}
+
+// A record whose ALTs are all assigned, as it is. Row 14 if an output is too short.
+fn copy_record(
+    alts: &[u8],
+    gl: &[f64],
+    ad: &[u32],
+    alts_out: &mut [u8],
+    gl_out: &mut [f64],
+    ad_out: &mut [u32],
+) -> UnusedAltOutcome
+    ensures { λ r. ⌜ UnusedAltsAnswered
+        (subsetWithin (accepted (wholeRecord (now (alts .entry)) (now (gl .entry)) (now (ad .entry))))
+        (outputs (now («alts_out» .entry)) (now («gl_out» .entry)) (now («ad_out» .entry))))
+        (outputs (now («alts_out» .entry)) (now («gl_out» .entry)) (now («ad_out» .entry)))
+        (outputs (now («alts_out» .exit)) (now («gl_out» .exit)) (now («ad_out» .exit)))
+        r ⌝ }
+{
+    let alts_len = alts.len();
+    let gl_len = gl.len();
+    let ad_len = ad.len();
+    if !has_room(
+        alts_len,
+        alts_out.len(),
+        gl_len,
+        gl_out.len(),
+        ad_len,
+        ad_out.len(),
+    ) {
+        return UnusedAltOutcome::Refused(14);
+    }
+    kv_write::put_bytes(alts_out, 0, alts);
+    copy_likelihoods(gl, gl_out);
+    copy_ad(ad, ad_out);
+    UnusedAltOutcome::Written(alts_len, gl_len, ad_len)
+}
+
+// A record without the ALTs that are not in a keep list. Row 15, and 14 if an output is too short.
+fn subset_record(
+    alts: &[u8],
+    alleles: usize,
+    keep: &[usize],
+    gl: &[f64],
+    ad: &[u32],
+    alts_out: &mut [u8],
+    gl_out: &mut [f64],
+    ad_out: &mut [u32],
+) -> UnusedAltOutcome
+    requires { ⌜ AssignedKeep (now alts) alleles (now keep) ⌝ }
+    ensures { λ r. ⌜ UnusedAltsAnswered
+        (subsetWithin (subsetTo (now (keep .entry)) (altFields (now (alts .entry))) (now (gl .entry)) (now (ad .entry)))
+        (outputs (now («alts_out» .entry)) (now («gl_out» .entry)) (now («ad_out» .entry))))
+        (outputs (now («alts_out» .entry)) (now («gl_out» .entry)) (now («ad_out» .entry)))
+        (outputs (now («alts_out» .exit)) (now («gl_out» .exit)) (now («ad_out» .exit)))
+        r ⌝ }
+{
+    if !subset_fits(gl, alleles, keep) {
+        return UnusedAltOutcome::Refused(15);
+    }
+    if !all_below(keep, ad.len()) {
+        return UnusedAltOutcome::Refused(15);
+    }
+    let kept = keep.len();
+    let numbers = &keep[1..];
+    let alts_len = alts_length(alts, numbers);
+    let gl_len = num_genotype_likelihoods(kept);
+    if !has_room(
+        alts_len,
+        alts_out.len(),
+        gl_len,
+        gl_out.len(),
+        kept,
+        ad_out.len(),
+    ) {
+        return UnusedAltOutcome::Refused(14);
+    }
+    put_alts(alts_out, alts, numbers);
+    subset_likelihoods(gl, keep, gl_out);
+    subset_ad(ad, keep, ad_out);
+    UnusedAltOutcome::Written(alts_len, gl_len, kept)
+}
+
+// A record without the ALTs that the GT does not name; REF is always left. If the GT names all ALTs everything is copied as
+// it is. Row 15, and 14 if an output is too short.
+pub fn subset_unused_alts_after_merged_genotyping(
+    alts: &[u8],
+    gt: &[usize],
+    gl: &[f64],
+    ad: &[u32],
+    alts_out: &mut [u8],
+    gl_out: &mut [f64],
+    ad_out: &mut [u32],
+) -> UnusedAltOutcome
+    ensures { λ r. ⌜ UnusedAltsAnswered
+        (unusedAltSubsetWithin (now (alts .entry)) (now (gt .entry)) (now (gl .entry)) (now (ad .entry))
+        (length (now («alts_out» .entry))) (length (now («gl_out» .entry))) (length (now («ad_out» .entry))))
+        (outputs (now («alts_out» .entry)) (now («gl_out» .entry)) (now («ad_out» .entry)))
+        (outputs (now («alts_out» .exit)) (now («gl_out» .exit)) (now («ad_out» .exit)))
+        r ⌝ }
+{
+    let alt_alleles = alt_count(alts);
+    if 15 < alt_alleles {
+        return UnusedAltOutcome::Refused(15);
+    }
+    let alleles = alt_alleles + 1;
+    let mut keep = [0usize; 16];
+    let kept = output_allele_keep_indices_from_assigned_gt(alleles, gt, &mut keep);
+    if kept == alleles {
+        return copy_record(alts, gl, ad, alts_out, gl_out, ad_out);
+    }
+    subset_record(
+        alts,
+        alleles,
+        &keep[..kept],
+        gl,
+        ad,
+        alts_out,
+        gl_out,
+        ad_out,
+    )
 }
