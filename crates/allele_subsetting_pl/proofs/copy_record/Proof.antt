@@ -1,9 +1,7 @@
 -- By whether there is room.
-use Prim.Native.Nat.{_≤_}
 use borrow.Author.Needs.{needs}
 use borrow.Author.Tests.{not-false, not-true}
-use lib.ListN.{length}
-use mathlib.Core.Path.{_∙_, _≡_, refl, sym}
+use mathlib.Core.Path.{_∙_, refl, sym}
 use Rattle.allele_subsetting_pl.proofs.UnusedAlts.{answered-refused, answered-written, room-of, with-room, without-room}
 use Rattle.allele_subsetting_pl.specs.UnusedAlts.{outputs, wholeRecord}
 use Rattle.allele_subsetting_pl.proofs.copy_record.Statement.{statement}

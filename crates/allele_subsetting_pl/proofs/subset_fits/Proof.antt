@@ -1,7 +1,7 @@
 -- One test after the other.
 use borrow.Author.Needs.{needs}
 use borrow.Author.Tests.{not-false, not-true}
-use mathlib.Core.Path.{_∙_, _≡_, sym}
+use mathlib.Core.Path.{_∙_, sym}
 use Rattle.allele_subsetting_pl.proofs.Fitting.{only-alleles, other-count, out-of-range, too-many}
 use Rattle.allele_subsetting_pl.proofs.subset_fits.Statement.{statement}
 use Rattle.allele_subsetting_pl.proofs.subset_fits.Tie as tie

@@ -1,7 +1,7 @@
 -- One check after the other.
 use borrow.Author.Needs.{needs}
 use borrow.Author.Tests.{not-false, not-true}
-use mathlib.Core.Path.{_∙_, _≡_, sym}
+use mathlib.Core.Path.{_∙_, sym}
 use Rattle.allele_subsetting_pl.proofs.Fitting.{fitting, keep-list, most-alleles}
 use Rattle.allele_subsetting_pl.proofs.Subset.{count-refused, subset-long, subset-refused, subset-written}
 use Rattle.allele_subsetting_pl.proofs.subset_log10_genotype_likelihoods.Statement.{statement}

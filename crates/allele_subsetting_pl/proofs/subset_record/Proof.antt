@@ -1,14 +1,13 @@
 -- One check after the other.
-use Prim.Native.Nat.{_+_, _<_, _≤_, _^_, ℕ}
+use Prim.Native.Nat.{_+_, _<_, _^_, ℕ}
 use borrow.Author.Needs.{needs}
 use borrow.Author.Tests.{not-false, not-true}
 use lib.ListN.{length}
-use mathlib.Core.Bool.{Bool, false, true}
 use mathlib.Core.List.{List, tail}
-use mathlib.Core.Path.{_∙_, _≡_, refl, sym}
+use mathlib.Core.Path.{_∙_, sym}
 use native.Mathlib.Omega.{arith}
 use Rattle.allele_subsetting_pl.proofs.Assigned.{assigned-keep-list, kept-alts-length, keeps-ref, tail-part}
-use Rattle.allele_subsetting_pl.proofs.UnusedAlts.{StoredSubset, ad-measured, alts-measured, answered-refused, answered-written, kept-ad-are, kept-alts-are, kept-likelihoods-are, kept-record, keptRecord, likelihoods-measured, measured-room, not-fitting, refused-within, room-of, with-room, without-ad, without-room}
+use Rattle.allele_subsetting_pl.proofs.UnusedAlts.{ad-measured, alts-measured, answered-refused, answered-written, kept-ad-are, kept-alts-are, kept-likelihoods-are, kept-record, keptRecord, likelihoods-measured, measured-room, not-fitting, refused-within, room-of, with-room, without-ad, without-room}
 use Rattle.allele_subsetting_pl.specs.Kept.{altsWith}
 use Rattle.allele_subsetting_pl.specs.UnusedAlts.{AssignedKeep, outputs}
 use Rattle.allele_subsetting_pl.proofs.subset_record.Statement.{statement}
