@@ -51,9 +51,9 @@ fn main() {
             ours.sort();
             let (rust, ours) = (rust[turns / 2], ours[turns / 2]);
             println!(
-                "{shape} {samples} {sites} {} {:?} {} {} {:.2}",
+                "{shape} {samples} {sites} {} {} {} {} {:.2}",
                 text.len(),
-                list,
+                list.unwrap_or(0),
                 rust.as_micros(),
                 ours.as_micros(),
                 rust.as_secs_f64() / ours.as_secs_f64()

@@ -1,26 +1,8 @@
-//! Wintabol's proved library, as safe Rust functions over slices.
+//! Wintabol's proved library, as safe Rust functions over slices. Each takes every input; a refused call leaves its outputs as they were.
 
-mod raw {
-    extern "C" {
-        pub fn wintabol_combine(
-            cohort: *const u8,
-            cohort_len: usize,
-            clipped: bool,
-            clip: *const u8,
-            clip_len: usize,
-            has_reference: bool,
-            reference: *const u8,
-            reference_len: usize,
-            scratch: *mut u64,
-            scratch_len: usize,
-            out: *mut u8,
-            out_len: usize,
-            written: *mut usize,
-        ) -> usize;
-    }
-}
+mod raw;
 
-/// The number of the row of document 01's table that refuses a call.
+/// The number of the row of the refusal table that refuses a call (README.md).
 #[derive(Clone, Copy, Debug, PartialEq, Eq)]
 pub struct Refused(pub usize);
 
@@ -31,8 +13,11 @@ fn answer(row: usize, written: usize) -> Result<usize, Refused> {
     }
 }
 
+// SAFETY, for each call below: a pointer and a length are a slice that is borrowed until the call returns, and the proved function reads
+// and writes nothing outside its slices.
+
 /// Writes the combined list of the texts to `out` and gives back its length. `scratch` takes the breakpoints of a contig, and is
-/// zero at the end. A refused call leaves `out` as it was.
+/// zero at the end. Rows 1 to 14.
 pub fn combine(
     cohort: &[u8],
     clip: Option<&[u8]>,
@@ -42,7 +27,6 @@ pub fn combine(
 ) -> Result<usize, Refused> {
     let mut written = 0;
     let (clip_text, reference_text) = (clip.unwrap_or(&[]), reference.unwrap_or(&[]));
-    // SAFETY: each pointer and length is a slice that is borrowed until the call returns; the function reads and writes nothing else.
     let row = unsafe {
         raw::wintabol_combine(
             cohort.as_ptr(),
@@ -61,4 +45,100 @@ pub fn combine(
         )
     };
     answer(row, written)
+}
+
+/// Writes the called list of a combined list. Rows 1 to 8 and 14.
+pub fn call(list: &[u8], out: &mut [u8]) -> Result<usize, Refused> {
+    let mut written = 0;
+    let row = unsafe { raw::wintabol_call(list.as_ptr(), list.len(), out.as_mut_ptr(), out.len(), &mut written) };
+    answer(row, written)
+}
+
+/// Writes the alleles of a comma list, REF first, without their common ending. Rows 5 and 14.
+pub fn reverse_trim_alleles(alleles: &[u8], out: &mut [u8]) -> Result<usize, Refused> {
+    let mut written = 0;
+    let row = unsafe {
+        raw::wintabol_reverse_trim_alleles(alleles.as_ptr(), alleles.len(), out.as_mut_ptr(), out.len(), &mut written)
+    };
+    answer(row, written)
+}
+
+/// GQ of a list of PLs: second least minus least, at most 99.
+pub fn gq_phred_from_pl(pl: &[u32]) -> u32 {
+    unsafe { raw::wintabol_gq_phred_from_pl(pl.as_ptr(), pl.len()) }
+}
+
+/// Writes minus a tenth of each PL. Row 14.
+pub fn log10_likelihoods_from_pl(pl: &[u32], out: &mut [f64]) -> Result<usize, Refused> {
+    let mut written = 0;
+    let row = unsafe {
+        raw::wintabol_log10_likelihoods_from_pl(pl.as_ptr(), pl.len(), out.as_mut_ptr(), out.len(), &mut written)
+    };
+    answer(row, written)
+}
+
+/// Writes the likelihoods of so many alleles over those of a keep list, in its order, less the greatest. Rows 15 and 14.
+pub fn subset_log10_genotype_likelihoods(
+    gl: &[f64],
+    alleles: usize,
+    keep: &[usize],
+    out: &mut [f64],
+) -> Result<usize, Refused> {
+    let mut written = 0;
+    let row = unsafe {
+        raw::wintabol_subset_log10_genotype_likelihoods(
+            gl.as_ptr(),
+            gl.len(),
+            alleles,
+            keep.as_ptr(),
+            keep.len(),
+            out.as_mut_ptr(),
+            out.len(),
+            &mut written,
+        )
+    };
+    answer(row, written)
+}
+
+/// How many values of the ALTs, the likelihoods and AD were written.
+#[derive(Clone, Copy, Debug, PartialEq, Eq)]
+pub struct Written {
+    pub alts: usize,
+    pub gl: usize,
+    pub ad: usize,
+}
+
+/// Writes a record without the ALTs that the GT does not name: ALTs (a comma list), likelihoods and AD. Rows 15 and 14.
+pub fn subset_unused_alts(
+    alts: &[u8],
+    gt: &[usize],
+    gl: &[f64],
+    ad: &[u32],
+    alts_out: &mut [u8],
+    gl_out: &mut [f64],
+    ad_out: &mut [u32],
+) -> Result<Written, Refused> {
+    let mut written = Written { alts: 0, gl: 0, ad: 0 };
+    let row = unsafe {
+        raw::wintabol_subset_unused_alts(
+            alts.as_ptr(),
+            alts.len(),
+            gt.as_ptr(),
+            gt.len(),
+            gl.as_ptr(),
+            gl.len(),
+            ad.as_ptr(),
+            ad.len(),
+            alts_out.as_mut_ptr(),
+            alts_out.len(),
+            gl_out.as_mut_ptr(),
+            gl_out.len(),
+            ad_out.as_mut_ptr(),
+            ad_out.len(),
+            &mut written.alts,
+            &mut written.gl,
+            &mut written.ad,
+        )
+    };
+    answer(row, 0).map(|_| written)
 }

@@ -1,12 +1,19 @@
-// The library as C and Rust programs link it: numbers and slices only. Each function answers the number of the row that refuses the
-// call, 0 for none, and stores how many values it wrote.
+// The library as C and Rust programs link it: numbers and slices only. Each function that writes answers the number of the row that
+// refuses the call, 0 for none, and stores how many values it wrote.
+ghost use mathlib.Core.List.{map};
 ghost use mathlib.Core.Path.{_≡_};
 ghost use lib.ListN.{length};
+ghost use Rattle.allele_subsetting_pl.specs.UnusedAlts.{UnusedAltsAnswered, outputs};
 ghost use Rattle.answers.specs.Answered.{Answered, outcomeAnswer};
 ghost use Rattle.combine_gvcfs.specs.Combined.{Combined, textsOf};
+ghost use Rattle.definitions.specs.AlleleSubset.{likelihoodSubset, unusedAltSubsetWithin};
 ghost use Rattle.definitions.specs.CalledGenotypes.{gqFromPl};
+ghost use Rattle.definitions.specs.CalledList.{calledList};
+ghost use Rattle.definitions.specs.Checked.{within};
+ghost use Rattle.definitions.specs.Likelihoods.{log10FromPl};
 ghost use Rattle.definitions.specs.ReverseTrim.{trimmedAlleles};
-ghost use Rattle.wintabol.specs.Exported.{Exported, answer};
+ghost use Rattle.wintabol.specs.Exported.{Exported, ExportedAlts, answer, answerAlts, outcomeAlts};
+use allele_subsetting_pl::UnusedAltOutcome;
 use answers::Outcome;
 
 // An outcome as two numbers.
@@ -45,6 +52,17 @@ pub extern "C" fn wintabol_combine<'a>(
     give(outcome, written)
 }
 
+// The called list of a combined list.
+#[no_mangle]
+pub extern "C" fn wintabol_call(list: &[u8], out: &mut [u8], written: &mut usize) -> usize
+    ensures { λ r. ⌜ Exported
+        (Answered (calledList (now (list .entry)) (length (now (out .entry)))) (now (out .entry)) (now (out .exit)))
+        r (now (written .exit)) ⌝ }
+{
+    let outcome = genotype_gvcfs::call(list, out);
+    give(outcome, written)
+}
+
 // The alleles of a comma list, REF first, without their common ending.
 #[no_mangle]
 pub extern "C" fn wintabol_reverse_trim_alleles(
@@ -66,4 +84,95 @@ pub extern "C" fn wintabol_gq_phred_from_pl(pl: &[u32]) -> u32
     ensures { λ r. ⌜ r ≡ gqFromPl (now (pl .entry)) ⌝ }
 {
     genotyping::gq_phred_from_pl(pl)
+}
+
+// The log10 likelihoods of PLs.
+#[no_mangle]
+pub extern "C" fn wintabol_log10_likelihoods_from_pl(
+    pl: &[u32],
+    out: &mut [f64],
+    written: &mut usize,
+) -> usize
+    ensures { λ r. ⌜ Exported
+        (Answered (within (length (now (out .entry))) (map log10FromPl (now (pl .entry)))) (now (out .entry)) (now (out .exit)))
+        r (now (written .exit)) ⌝ }
+{
+    let outcome = likelihoods::log10_likelihoods_from_pl(pl, out);
+    give(outcome, written)
+}
+
+// Likelihoods over the alleles of a keep list.
+#[no_mangle]
+pub extern "C" fn wintabol_subset_log10_genotype_likelihoods(
+    gl: &[f64],
+    alleles: usize,
+    keep: &[usize],
+    out: &mut [f64],
+    written: &mut usize,
+) -> usize
+    ensures { λ r. ⌜ Exported
+        (Answered (likelihoodSubset (now (gl .entry)) alleles (now (keep .entry)) (length (now (out .entry)))) (now (out .entry)) (now (out .exit)))
+        r (now (written .exit)) ⌝ }
+{
+    let outcome = allele_subsetting_pl::subset_log10_genotype_likelihoods(gl, alleles, keep, out);
+    give(outcome, written)
+}
+
+// An outcome with three outputs as four numbers.
+fn give_alts(
+    outcome: UnusedAltOutcome,
+    alts: &mut usize,
+    gl: &mut usize,
+    ad: &mut usize,
+) -> usize
+    ensures { λ r. ⌜ outcomeAlts outcome ≡ answerAlts r (now (alts .exit)) (now (gl .exit)) (now (ad .exit)) ⌝ }
+{
+    match outcome {
+        UnusedAltOutcome::Written(of_alts, of_gl, of_ad) => {
+            *alts = of_alts;
+            *gl = of_gl;
+            *ad = of_ad;
+            0
+        }
+        UnusedAltOutcome::Refused(row) => {
+            *alts = 0;
+            *gl = 0;
+            *ad = 0;
+            row
+        }
+    }
+}
+
+// A record without the ALTs that the GT does not name.
+#[no_mangle]
+pub extern "C" fn wintabol_subset_unused_alts(
+    alts: &[u8],
+    gt: &[usize],
+    gl: &[f64],
+    ad: &[u32],
+    alts_out: &mut [u8],
+    gl_out: &mut [f64],
+    ad_out: &mut [u32],
+    alts_written: &mut usize,
+    gl_written: &mut usize,
+    ad_written: &mut usize,
+) -> usize
+    ensures { λ r. ⌜ ExportedAlts
+        (UnusedAltsAnswered
+        (unusedAltSubsetWithin (now (alts .entry)) (now (gt .entry)) (now (gl .entry)) (now (ad .entry))
+        (length (now («alts_out» .entry))) (length (now («gl_out» .entry))) (length (now («ad_out» .entry))))
+        (outputs (now («alts_out» .entry)) (now («gl_out» .entry)) (now («ad_out» .entry)))
+        (outputs (now («alts_out» .exit)) (now («gl_out» .exit)) (now («ad_out» .exit))))
+        r (now («alts_written» .exit)) (now («gl_written» .exit)) (now («ad_written» .exit)) ⌝ }
+{
+    let outcome = allele_subsetting_pl::subset_unused_alts_after_merged_genotyping(
+        alts,
+        gt,
+        gl,
+        ad,
+        alts_out,
+        gl_out,
+        ad_out,
+    );
+    give_alts(outcome, alts_written, gl_written, ad_written)
 }
