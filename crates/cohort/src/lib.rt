@@ -33,7 +33,7 @@ fn flag(b: bool) -> usize
 }
 
 // Stores a site's row.
-fn put_site(
+pub fn put_site(
     rows: &mut [usize],
     site: usize,
     place: SitePlace,

@@ -13,7 +13,7 @@ use kv_text::OptionalAt;
 use kv_text::ValueAt;
 
 // A number that may be missing as one number: missing is 4294967295, which no text holds.
-fn code_line(s: &[u8], at: usize, key: &[u8]) -> NumberAt
+pub fn code_line(s: &[u8], at: usize, key: &[u8]) -> NumberAt
     ensures { λ r. ⌜ LineReads (now (s .entry)) at (now (key .entry)) (orMissing number) (codeFound r) ⌝ }
 {
     let line = kv_text::optional_number_line(s, at, key);
@@ -30,7 +30,7 @@ pub enum PartAt {
     Wrong,
 }
 
-fn part_line(s: &[u8], at: usize, key: &[u8]) -> PartAt
+pub fn part_line(s: &[u8], at: usize, key: &[u8]) -> PartAt
     ensures { λ r. ⌜ LineReads (now (s .entry)) at (now (key .entry)) (orMissing numberList) (partFound (now (s .entry)) r) × PartCounted (now (s .entry)) r ⌝ }
 {
     let line = kv_text::optional_numbers_line(s, at, key);

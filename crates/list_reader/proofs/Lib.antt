@@ -1,0 +1,4 @@
+pub mod Genotype
+pub mod RecordChecks
+pub mod RecordLines
+pub mod Samples

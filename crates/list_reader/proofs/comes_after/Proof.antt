@@ -1,0 +1,57 @@
+-- By the order of the two contigs.
+use borrow.Author.Needs.{needs}
+use Rattle.definitions.specs.Lists.{byOrder}
+use Rattle.list_reader.proofs.comes_after.Statement.{statement}
+use Rattle.list_reader.proofs.comes_after.Tie as tie
+
+enum-known-previous : tie.Need-enum-known-previous
+enum-known-previous c = search needs
+
+enum-told : tie.Need-enum-told
+enum-told c = search needs
+
+returns : tie.Need-returns
+returns c = search needs
+
+part-requires : tie.Need-part-requires
+part-requires c κs = search needs
+
+compare-bytes-requires : tie.Need-compare-bytes-requires
+compare-bytes-requires c κs = search needs
+
+enum-told-2 : tie.Need-enum-told-2
+enum-told-2 c = search needs
+
+enum-told-3 : tie.Need-enum-told-3
+enum-told-3 c = search needs
+
+enum-told-4 : tie.Need-enum-told-4
+enum-told-4 c = search needs
+
+returns-2 : tie.Need-returns-2
+unfolding byOrder
+returns-2 c = rw ((c .before .before .before .before .before .previous .given .1), ← (c .before .before .before .part .ensures), ← (c .before .before .compare-bytes .ensures), (c .enum-told2 .given .1))
+
+returns-3 : tie.Need-returns-3
+unfolding byOrder
+returns-3 c = rw ((c .before .before .before .before .before .previous .given .1), ← (c .before .before .before .part .ensures), ← (c .before .before .compare-bytes .ensures), (c .enum-told3 .given .1))
+
+returns-4 : tie.Need-returns-4
+unfolding byOrder
+returns-4 c = rw ((c .before .before .before .before .before .previous .given .1), ← (c .before .before .before .part .ensures), ← (c .before .before .compare-bytes .ensures), (c .enum-told4 .given .1))
+
+pub comes-after-spec : {M : Type 1} → statement M
+comes-after-spec =
+    tie.close
+    (tie.spec
+    enum-known-previous
+    enum-told
+    returns
+    part-requires
+    compare-bytes-requires
+    enum-told-2
+    enum-told-3
+    enum-told-4
+    returns-2
+    returns-3
+    returns-4)

@@ -1,0 +1,149 @@
+-- One line after the other, each behind the one before it.
+use borrow.Author.Needs.{needs}
+use mathlib.Core.Option.{some}
+use native.Mathlib.Omega.{arith}
+use Rattle.definitions.specs.Bytes.{text}
+use Rattle.definitions.specs.Lines.{keyOf}
+use Rattle.definitions.specs.Numbers.{name, number, orMissing}
+use Rattle.kv_text.proofs.Lines.{line-within}
+use Rattle.list_reader.proofs.RecordLines.{alt-wrong, contig-wrong, end-wrong, head-read, pos-wrong, ref-wrong}
+use Rattle.list_reader.proofs.record_head.Statement.{statement}
+use Rattle.list_reader.proofs.record_head.Tie as tie
+
+slice-aggregate-name-line : tie.Need-slice-aggregate-name-line
+slice-aggregate-name-line c = search needs
+
+name-line-requires : tie.Need-name-line-requires
+name-line-requires c κs = search needs
+
+enum-known-name : tie.Need-enum-known-name
+enum-known-name c = search needs
+
+enum-told : tie.Need-enum-told
+enum-told c = search needs
+
+returns : tie.Need-returns
+unfolding keyOf text
+returns c = contig-wrong _ _ ((rw (c .enum-told .given .1) at (c .before .before .name-line .ensures)) .0)
+
+add-number-line : tie.Need-add-number-line
+add-number-line c = let h = line-within _ _ _ name _ _ ((rw (c .before .name .given .1) at (c .before .before .before .name-line .ensures)) .0) in omega arith
+
+slice-aggregate-number-line : tie.Need-slice-aggregate-number-line
+slice-aggregate-number-line c = search needs
+
+number-line-requires : tie.Need-number-line-requires
+number-line-requires c κs = search needs
+
+enum-known-first : tie.Need-enum-known-first
+enum-known-first c = search needs
+
+enum-told-2 : tie.Need-enum-told-2
+enum-told-2 c = search needs
+
+returns-2 : tie.Need-returns-2
+unfolding keyOf text
+returns-2 c = pos-wrong _ _ _ _ ((rw (c .before .before .before .before .before .name .given .1) at (c .before .before .before .before .before .before .before .name-line .ensures)) .0) (rw (c .enum-told2 .given .1) at (c .before .before .number-line .ensures))
+
+add-code-line : tie.Need-add-code-line
+add-code-line c = let h = line-within _ _ _ number _ _ (rw (c .before .first .given .1) at (c .before .before .before .number-line .ensures)) in omega arith
+
+slice-aggregate-code-line : tie.Need-slice-aggregate-code-line
+slice-aggregate-code-line c = search needs
+
+code-line-requires : tie.Need-code-line-requires
+code-line-requires c κs = search needs
+
+enum-known-last : tie.Need-enum-known-last
+enum-known-last c = search needs
+
+enum-told-3 : tie.Need-enum-told-3
+enum-told-3 c = search needs
+
+returns-3 : tie.Need-returns-3
+unfolding keyOf text
+returns-3 c = end-wrong _ _ _ _ ((rw (c .before .before .before .before .before .before .before .before .before .before .name .given .1) at (c .before .before .before .before .before .before .before .before .before .before .before .before .name-line .ensures)) .0) _ _ (rw (c .before .before .before .before .before .first .given .1) at (c .before .before .before .before .before .before .before .number-line .ensures)) (rw (c .enum-told3 .given .1) at (c .before .before .code-line .ensures))
+
+add-value-line : tie.Need-add-value-line
+add-value-line c = let h = line-within _ _ _ (orMissing number) _ _ (rw (c .before .last .given .1) at (c .before .before .before .code-line .ensures)) in omega arith
+
+slice-aggregate-value-line : tie.Need-slice-aggregate-value-line
+slice-aggregate-value-line c = search needs
+
+value-line-requires : tie.Need-value-line-requires
+value-line-requires c κs = search needs
+
+enum-known-reference : tie.Need-enum-known-reference
+enum-known-reference c = search needs
+
+enum-told-4 : tie.Need-enum-told-4
+enum-told-4 c = search needs
+
+returns-4 : tie.Need-returns-4
+unfolding keyOf text
+returns-4 c = ref-wrong _ _ _ _ ((rw (c .before .before .before .before .before .before .before .before .before .before .before .before .before .before .before .name .given .1) at (c .before .before .before .before .before .before .before .before .before .before .before .before .before .before .before .before .before .name-line .ensures)) .0) _ _ (rw (c .before .before .before .before .before .before .before .before .before .before .first .given .1) at (c .before .before .before .before .before .before .before .before .before .before .before .before .number-line .ensures)) _ _ (rw (c .before .before .before .before .before .last .given .1) at (c .before .before .before .before .before .before .before .code-line .ensures))
+    ((rw (c .enum-told4 .given .1) at (c .before .before .value-line .ensures)) .0)
+
+add-value-line-2 : tie.Need-add-value-line-2
+add-value-line-2 c = let h = line-within _ _ _ some _ _ ((rw (c .before .reference .given .1) at (c .before .before .before .value-line .ensures)) .0) in omega arith
+
+slice-aggregate-value-line-2 : tie.Need-slice-aggregate-value-line-2
+slice-aggregate-value-line-2 c = search needs
+
+value-line-requires-2 : tie.Need-value-line-requires-2
+value-line-requires-2 c κs = search needs
+
+enum-known-alternate : tie.Need-enum-known-alternate
+enum-known-alternate c = search needs
+
+enum-told-5 : tie.Need-enum-told-5
+enum-told-5 c = search needs
+
+returns-5 : tie.Need-returns-5
+unfolding keyOf text
+returns-5 c = alt-wrong _ _ _ _ ((rw (c .before .before .before .before .before .before .before .before .before .before .before .before .before .before .before .before .before .before .before .before .name .given .1) at (c .before .before .before .before .before .before .before .before .before .before .before .before .before .before .before .before .before .before .before .before .before .before .name-line .ensures)) .0) _ _ (rw (c .before .before .before .before .before .before .before .before .before .before .before .before .before .before .before .first .given .1) at (c .before .before .before .before .before .before .before .before .before .before .before .before .before .before .before .before .before .number-line .ensures)) _ _ (rw (c .before .before .before .before .before .before .before .before .before .before .last .given .1) at (c .before .before .before .before .before .before .before .before .before .before .before .before .code-line .ensures))
+    _ _ ((rw (c .before .before .before .before .before .reference .given .1) at (c .before .before .before .before .before .before .before .value-line .ensures)) .0) ((rw (c .enum-told5 .given .1) at (c .before .before .value-line2 .ensures)) .0)
+
+add-next : tie.Need-add-next
+add-next c = let h = line-within _ _ _ some _ _ ((rw (c .before .alternate .given .1) at (c .before .before .before .value-line2 .ensures)) .0) in omega (arith, h, (c .before .before .before .before .before .before .before .before .before .before .before .before .before .before .before .before .before .before .before .before .before .before .before .before .before .before .good))
+
+returns-6 : tie.Need-returns-6
+unfolding keyOf text
+returns-6 c = head-read _ _ _ _ ((rw (c .before .before .before .before .before .before .before .before .before .before .before .before .before .before .before .before .before .before .before .before .before .name .given .1) at (c .before .before .before .before .before .before .before .before .before .before .before .before .before .before .before .before .before .before .before .before .before .before .before .name-line .ensures)) .0) _ _ (rw (c .before .before .before .before .before .before .before .before .before .before .before .before .before .before .before .before .first .given .1) at (c .before .before .before .before .before .before .before .before .before .before .before .before .before .before .before .before .before .before .number-line .ensures)) _ _ (rw (c .before .before .before .before .before .before .before .before .before .before .before .last .given .1) at (c .before .before .before .before .before .before .before .before .before .before .before .before .before .code-line .ensures))
+    _ _ ((rw (c .before .before .before .before .before .before .reference .given .1) at (c .before .before .before .before .before .before .before .before .value-line .ensures)) .0) _ _ ((rw (c .before .alternate .given .1) at (c .before .before .before .value-line2 .ensures)) .0)
+
+pub record-head-spec : {M : Type 1} → statement M
+record-head-spec =
+    tie.close
+    (tie.spec
+    slice-aggregate-name-line
+    name-line-requires
+    enum-known-name
+    enum-told
+    returns
+    add-number-line
+    slice-aggregate-number-line
+    number-line-requires
+    enum-known-first
+    enum-told-2
+    returns-2
+    add-code-line
+    slice-aggregate-code-line
+    code-line-requires
+    enum-known-last
+    enum-told-3
+    returns-3
+    add-value-line
+    slice-aggregate-value-line
+    value-line-requires
+    enum-known-reference
+    enum-told-4
+    returns-4
+    add-value-line-2
+    slice-aggregate-value-line-2
+    value-line-requires-2
+    enum-known-alternate
+    enum-told-5
+    returns-5
+    add-next
+    returns-6)

@@ -1,0 +1,109 @@
+-- Sample by sample, each behind those in the table.
+use Prim.Native.Nat.{_-_}
+use borrow.Author.Needs.{needs}
+use native.Mathlib.Omega.{arith}
+use Rattle.definitions.specs.Bytes.{comma}
+use Rattle.list_reader.proofs.Samples.{Reading, reading-start, sample-next, sample-wrong, samples-end}
+use Rattle.list_reader.specs.RecordGroups.{HeadRead, SampleRead, TextRead}
+use Rattle.list_reader.proofs.record_text.Statement.{statement}
+use Rattle.list_reader.proofs.record_text.Tie as tie
+
+abbrev Inv-loop : tie.InvT-loop
+Inv-loop s at samples rows₀ head alleles alts next₀ place has-pl₀ fit₀ i₀ rows next has-pl fit i = Reading s at samples rows₀ head rows next has-pl fit i
+
+abbrev μ-loop : tie.MeasureT-loop
+μ-loop s at samples rows₀ head alleles alts next₀ place has-pl₀ fit₀ i₀ rows next has-pl fit i = samples - i
+
+record-head-requires : tie.Need-record-head-requires Inv-loop μ-loop
+record-head-requires c κs = search needs
+
+enum-known-first : tie.Need-enum-known-first Inv-loop μ-loop
+enum-known-first c = search needs
+
+enum-told : tie.Need-enum-told Inv-loop μ-loop
+enum-told c = search needs
+
+returns : tie.Need-returns Inv-loop μ-loop
+unfolding HeadRead TextRead
+returns c = (rw (c .enum-told .given .1) at (c .before .before .record-head .ensures)) _
+
+part-requires : tie.Need-part-requires Inv-loop μ-loop
+part-requires c κs = search needs
+
+count-fields-requires : tie.Need-count-fields-requires Inv-loop μ-loop
+count-fields-requires c κs = search needs
+
+loop-holds : tie.Need-loop-holds Inv-loop μ-loop
+unfolding HeadRead
+loop-holds c = reading-start _ _ _ _ _ (rw (c .before .before .before .before .before .first .given .1) at (c .before .before .before .before .before .before .before .record-head .ensures))
+
+sample-lines-requires : tie.Need-sample-lines-requires Inv-loop μ-loop
+sample-lines-requires c κs = search needs
+
+enum-known-lines : tie.Need-enum-known-lines Inv-loop μ-loop
+enum-known-lines c = search needs
+
+enum-told-2 : tie.Need-enum-told-2 Inv-loop μ-loop
+enum-told-2 c = search needs
+
+same-length : tie.Need-same-length Inv-loop μ-loop
+same-length c = (c .before .before .before .before .loop .inv .long)
+
+returns-2 : tie.Need-returns-2 Inv-loop μ-loop
+unfolding HeadRead TextRead comma
+returns-2 c = sample-wrong _ _ _ _ _ _ _ _ _ _ (c .before .before .before .before .loop .inv) (c .before .before .before .loop-test .taken) _ (rw (c .before .before .before .before .before .before .part .ensures) at (c .before .before .before .before .before .count-fields .ensures))
+    (rw (c .before .before .before .before .before .before .before .before .before .before .first .given .1) at (c .before .before .before .before .before .before .before .before .before .before .before .before .record-head .ensures)) (rw (c .enum-told2 .given .1) at (c .before .before .sample-lines .ensures))
+
+put-site-requires : tie.Need-put-site-requires Inv-loop μ-loop
+put-site-requires c κs = search needs
+
+some-pl-requires : tie.Need-some-pl-requires Inv-loop μ-loop
+some-pl-requires c κs = search needs
+
+counts-fit-requires : tie.Need-counts-fit-requires Inv-loop μ-loop
+counts-fit-requires c κs = search needs
+
+add-i : tie.Need-add-i Inv-loop μ-loop
+add-i c = omega (arith, (c .before .before .before .before .before .before .before .before .before .before .loop-test .taken), (c .before .before .before .before .before .before .before .before .before .before .before .before .before .before .before .before .before .before .before .before .before .before .fits .samples))
+
+loop-less : tie.Need-loop-less Inv-loop μ-loop
+loop-less c = search needs
+
+loop-again : tie.Need-loop-again Inv-loop μ-loop
+unfolding SampleRead comma
+loop-again c = sample-next _ _ _ _ _ _ _ _ _ _ (c .before .before .before .before .before .before .before .before .before .before .before .loop .inv) (c .before .before .before .before .before .before .before .before .before .before .loop-test .taken) _ (rw (c .before .before .before .before .before .before .before .before .before .before .before .before .before .part .ensures) at (c .before .before .before .before .before .before .before .before .before .before .before .before .count-fields .ensures))
+    _ (rw (c .before .before .before .before .before .before .before .lines .given .1) at (c .before .before .before .before .before .before .before .before .before .sample-lines .ensures)) (c .before .before .before .before .before .before .before .before .before .before .before .before .before .before .before .before .before .before .before .before .before .before .pre) _ (c .before .before .before .before .put-site .kept .0) (c .before .before .before .before .put-site .ensures) _ _ (c .before .some-pl .ensures) (c .counts-fit .ensures)
+
+same-length-2 : tie.Need-same-length-2 Inv-loop μ-loop
+same-length-2 c = search needs
+
+returns-3 : tie.Need-returns-3 Inv-loop μ-loop
+unfolding HeadRead TextRead
+returns-3 c = samples-end _ _ _ _ _ _ _ _ _ _ (c .before .loop .inv) (rw (c .before .before .before .before .before .before .before .first .given .1) at (c .before .before .before .before .before .before .before .before .before .record-head .ensures)) (c .loop-test .left)
+
+pub record-text-spec : {M : Type 1} → statement M
+record-text-spec =
+    tie.close
+    (tie.spec
+    Inv-loop
+    μ-loop
+    record-head-requires
+    enum-known-first
+    enum-told
+    returns
+    part-requires
+    count-fields-requires
+    loop-holds
+    sample-lines-requires
+    enum-known-lines
+    enum-told-2
+    same-length
+    returns-2
+    put-site-requires
+    some-pl-requires
+    counts-fit-requires
+    add-i
+    loop-less
+    loop-again
+    same-length-2
+    returns-3)

@@ -1,0 +1,154 @@
+-- One line after the other, each behind the one before it.
+use Prim.Native.Nat.{suc}
+use borrow.Author.Needs.{needs}
+use native.Mathlib.Omega.{arith}
+use Rattle.definitions.specs.Bytes.{text}
+use Rattle.definitions.specs.Lines.{keyOf}
+use Rattle.definitions.specs.ListReader.{gtOf}
+use Rattle.definitions.specs.Numbers.{number, numberList, orMissing}
+use Rattle.kv_text.proofs.Lines.{line-within}
+use Rattle.list_reader.proofs.RecordLines.{ad-wrong, dp-wrong, gq-wrong, gt-wrong, pl-wrong, sample-read}
+use Rattle.list_reader.specs.RecordGroups.{GtRead}
+use Rattle.list_reader.proofs.sample_lines.Statement.{statement}
+use Rattle.list_reader.proofs.sample_lines.Tie as tie
+
+gt-line-requires : tie.Need-gt-line-requires
+gt-line-requires c κs = search needs
+
+enum-known-genotype : tie.Need-enum-known-genotype
+enum-known-genotype c = search needs
+
+enum-told : tie.Need-enum-told
+enum-told c = search needs
+
+returns : tie.Need-returns
+unfolding GtRead
+returns c = gt-wrong _ _ _ (rw (c .enum-told .given .1) at (c .before .before .gt-line .ensures))
+
+add-code-line : tie.Need-add-code-line
+unfolding GtRead
+add-code-line c = let g = rw (c .before .genotype .given .1) at (c .before .before .before .gt-line .ensures) in
+    let h = line-within _ _ _ (orMissing (gtOf (suc (c .before .before .before .before .before .args .alts)))) _ _ (g .line) in omega arith
+
+slice-aggregate-code-line : tie.Need-slice-aggregate-code-line
+slice-aggregate-code-line c = search needs
+
+code-line-requires : tie.Need-code-line-requires
+code-line-requires c κs = search needs
+
+enum-known-quality : tie.Need-enum-known-quality
+enum-known-quality c = search needs
+
+enum-told-2 : tie.Need-enum-told-2
+enum-told-2 c = search needs
+
+returns-2 : tie.Need-returns-2
+unfolding GtRead keyOf text
+returns-2 c = let g = rw (c .before .before .before .before .before .genotype .given .1) at (c .before .before .before .before .before .before .before .gt-line .ensures) in
+    gq-wrong _ _ _ _ _ (g .line) (rw (c .enum-told2 .given .1) at (c .before .before .code-line .ensures))
+
+add-code-line-2 : tie.Need-add-code-line-2
+add-code-line-2 c = let h = line-within _ _ _ (orMissing number) _ _ (rw (c .before .quality .given .1) at (c .before .before .before .code-line .ensures)) in omega arith
+
+slice-aggregate-code-line-2 : tie.Need-slice-aggregate-code-line-2
+slice-aggregate-code-line-2 c = search needs
+
+code-line-requires-2 : tie.Need-code-line-requires-2
+code-line-requires-2 c κs = search needs
+
+enum-known-depth : tie.Need-enum-known-depth
+enum-known-depth c = search needs
+
+enum-told-3 : tie.Need-enum-told-3
+enum-told-3 c = search needs
+
+returns-3 : tie.Need-returns-3
+unfolding GtRead keyOf text
+returns-3 c = let g = rw (c .before .before .before .before .before .before .before .before .before .before .genotype .given .1) at (c .before .before .before .before .before .before .before .before .before .before .before .before .gt-line .ensures) in
+    dp-wrong _ _ _ _ _ (g .line) _ _ (rw (c .before .before .before .before .before .quality .given .1) at (c .before .before .before .before .before .before .before .code-line .ensures)) (rw (c .enum-told3 .given .1) at (c .before .before .code-line2 .ensures))
+
+add-part-line : tie.Need-add-part-line
+add-part-line c = let h = line-within _ _ _ (orMissing number) _ _ (rw (c .before .depth .given .1) at (c .before .before .before .code-line2 .ensures)) in omega arith
+
+slice-aggregate-part-line : tie.Need-slice-aggregate-part-line
+slice-aggregate-part-line c = search needs
+
+part-line-requires : tie.Need-part-line-requires
+part-line-requires c κs = search needs
+
+enum-known-depths : tie.Need-enum-known-depths
+enum-known-depths c = search needs
+
+enum-told-4 : tie.Need-enum-told-4
+enum-told-4 c = search needs
+
+returns-4 : tie.Need-returns-4
+unfolding GtRead keyOf text
+returns-4 c = let g = rw (c .before .before .before .before .before .before .before .before .before .before .before .before .before .before .before .genotype .given .1) at (c .before .before .before .before .before .before .before .before .before .before .before .before .before .before .before .before .before .gt-line .ensures) in
+    ad-wrong _ _ _ _ _ (g .line) _ _ (rw (c .before .before .before .before .before .before .before .before .before .before .quality .given .1) at (c .before .before .before .before .before .before .before .before .before .before .before .before .code-line .ensures)) _ _ (rw (c .before .before .before .before .before .depth .given .1) at (c .before .before .before .before .before .before .before .code-line2 .ensures)) ((rw (c .enum-told4 .given .1) at (c .before .before .part-line .ensures)) .0)
+
+add-part-line-2 : tie.Need-add-part-line-2
+add-part-line-2 c = let h = line-within _ _ _ (orMissing numberList) _ _ ((rw (c .before .depths .given .1) at (c .before .before .before .part-line .ensures)) .0) in omega arith
+
+slice-aggregate-part-line-2 : tie.Need-slice-aggregate-part-line-2
+slice-aggregate-part-line-2 c = search needs
+
+part-line-requires-2 : tie.Need-part-line-requires-2
+part-line-requires-2 c κs = search needs
+
+enum-known-likelihoods : tie.Need-enum-known-likelihoods
+enum-known-likelihoods c = search needs
+
+enum-told-5 : tie.Need-enum-told-5
+enum-told-5 c = search needs
+
+returns-5 : tie.Need-returns-5
+unfolding GtRead keyOf text
+returns-5 c = let g = rw (c .before .before .before .before .before .before .before .before .before .before .before .before .before .before .before .before .before .before .before .before .genotype .given .1) at (c .before .before .before .before .before .before .before .before .before .before .before .before .before .before .before .before .before .before .before .before .before .before .gt-line .ensures) in
+    let depths = rw (c .before .before .before .before .before .depths .given .1) at (c .before .before .before .before .before .before .before .part-line .ensures) in
+    pl-wrong _ _ _ _ _ (g .line) _ _ (rw (c .before .before .before .before .before .before .before .before .before .before .before .before .before .before .before .quality .given .1) at (c .before .before .before .before .before .before .before .before .before .before .before .before .before .before .before .before .before .code-line .ensures)) _ _ (rw (c .before .before .before .before .before .before .before .before .before .before .depth .given .1) at (c .before .before .before .before .before .before .before .before .before .before .before .before .code-line2 .ensures)) _ _ _ (depths .0) (depths .1) ((rw (c .enum-told5 .given .1) at (c .before .before .part-line2 .ensures)) .0)
+
+add-next : tie.Need-add-next
+add-next c = let h = line-within _ _ _ (orMissing numberList) _ _ ((rw (c .before .likelihoods .given .1) at (c .before .before .before .part-line2 .ensures)) .0) in omega (arith, h, (c .before .before .before .before .before .before .before .before .before .before .before .before .before .before .before .before .before .before .before .before .before .before .before .before .before .good))
+
+returns-6 : tie.Need-returns-6
+unfolding GtRead keyOf text
+returns-6 c = let g = rw (c .before .before .before .before .before .before .before .before .before .before .before .before .before .before .before .before .before .before .before .before .before .genotype .given .1) at (c .before .before .before .before .before .before .before .before .before .before .before .before .before .before .before .before .before .before .before .before .before .before .before .gt-line .ensures) in
+    let depths = rw (c .before .before .before .before .before .before .depths .given .1) at (c .before .before .before .before .before .before .before .before .part-line .ensures) in
+    let likelihoods = rw (c .before .likelihoods .given .1) at (c .before .before .before .part-line2 .ensures) in
+    sample-read _ _ _ _ _ (g .line) _ _ (rw (c .before .before .before .before .before .before .before .before .before .before .before .before .before .before .before .before .quality .given .1) at (c .before .before .before .before .before .before .before .before .before .before .before .before .before .before .before .before .before .before .code-line .ensures)) _ _ (rw (c .before .before .before .before .before .before .before .before .before .before .before .depth .given .1) at (c .before .before .before .before .before .before .before .before .before .before .before .before .before .code-line2 .ensures)) _ _ _ (depths .0) (depths .1) _ _ _ (likelihoods .0) (likelihoods .1)
+
+pub sample-lines-spec : {M : Type 1} → statement M
+sample-lines-spec =
+    tie.close
+    (tie.spec
+    gt-line-requires
+    enum-known-genotype
+    enum-told
+    returns
+    add-code-line
+    slice-aggregate-code-line
+    code-line-requires
+    enum-known-quality
+    enum-told-2
+    returns-2
+    add-code-line-2
+    slice-aggregate-code-line-2
+    code-line-requires-2
+    enum-known-depth
+    enum-told-3
+    returns-3
+    add-part-line
+    slice-aggregate-part-line
+    part-line-requires
+    enum-known-depths
+    enum-told-4
+    returns-4
+    add-part-line-2
+    slice-aggregate-part-line-2
+    part-line-requires-2
+    enum-known-likelihoods
+    enum-told-5
+    returns-5
+    add-next
+    returns-6)
