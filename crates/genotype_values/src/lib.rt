@@ -21,7 +21,7 @@ use diploid_pairs::PairAt;
 use kv_write::OptionalNumber;
 
 // The value at a place; 0 if there is none.
-fn value_at(values: &[u32], place: usize) -> u32
+pub fn value_at(values: &[u32], place: usize) -> u32
     ensures { λ r. ⌜ r ≡ getD (now (values .entry)) place 0 ⌝ }
 {
     if place < values.len() {
@@ -32,7 +32,7 @@ fn value_at(values: &[u32], place: usize) -> u32
 }
 
 // Stores a value, if there is room at the place.
-fn put_value(out: &mut [u32], place: usize, x: u32)
+pub fn put_value(out: &mut [u32], place: usize, x: u32)
     ensures { λ _. ⌜ now (out .exit) ≡ set (now (out .entry)) place x ⌝ }
 {
     if place < out.len() {

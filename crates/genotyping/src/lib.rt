@@ -8,14 +8,15 @@ ghost use Rattle.definitions.specs.CalledGenotypes.{gqFromPl};
 ghost use Rattle.definitions.specs.Genotypes.{least};
 ghost use Rattle.definitions.specs.Lists.{filterBy};
 
-fn lesser(a: u32, b: u32) -> u32
+// The lesser of two PLs.
+pub fn lesser(a: u32, b: u32) -> u32
     ensures { λ r. ⌜ r ≡ min a b ⌝ }
 {
     if a < b { a } else { b }
 }
 
 // The least PL; 0 if there is none.
-fn least_pl(pl: &[u32]) -> u32
+pub fn least_pl(pl: &[u32]) -> u32
     ensures { λ r. ⌜ r ≡ least (now (pl .entry)) ⌝ }
 {
     if pl.len() == 0 {

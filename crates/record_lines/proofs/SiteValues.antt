@@ -70,7 +70,7 @@ pub record Front (values after : List ℕ) (r : ℕ) : Type 0 where
 filled : {values before after : List ℕ} {r : ℕ} → Filled values before after r → length values ≤ length before → Front values after r
 filled p room = record { front = filled-front p room; within = filled-within p room; long = filled-length p room }
 
-numbers-front : (list before : List ℕ) {after : List ℕ} {r : ℕ} → IfThere (λ ns. length ns ≤ length before) (numberList list)
+pub numbers-front : (list before : List ℕ) {after : List ℕ} {r : ℕ} → IfThere (λ ns. length ns ≤ length before) (numberList list)
     → r ≡ length (numbersOf list) → after ≡ sets before 0 (firstNumbers (fieldsOf comma list)) → Front (numbersOf list) after r
 numbers-front list before {after} {r} room count laid = go (numberList list) (first-numbers list) room count
   where
