@@ -3,93 +3,13 @@
 // A file longer than 65,536 bytes is refused with 2. An absent cohort.kv is an empty text; an absent clip.kv or reference.kv is not lent.
 // A file that is there and can't be read gets a line on standard error, and nothing is printed. The exit status is 0 all the same: a Rattle
 // program has no other.
-ghost use Prim.Native.Nat.{_≤_};
-ghost use lib.ListN.{length};
 use answers::Outcome;
-use libc::ENOENT;
-use libc::STDOUT_FILENO;
-
-// ---- the files
-
-// What came of reading a file: how many bytes it has, or why there is no text of it.
-enum FileRead {
-    Text(usize),
-    Absent,
-    TooLong,
-    Failed,
-}
-
-// One read behind the bytes that are there.
-fn read_behind(fd: i32, buffer: &mut [u8], count: usize) -> isize
-    requires { ⌜ count ≤ length (now buffer) ⌝ }
-{
-    libc::read(fd, &mut buffer[count..])
-}
-
-// Reads an open file to its end. It must end before the buffer does.
-fn read_to_end(fd: i32, name: &[u8], buffer: &mut [u8]) -> FileRead {
-    let mut count = 0;
-    while count < buffer.len() {
-        let got = read_behind(fd, buffer, count);
-        if got < 0 {
-            os::fail(name);
-            return FileRead::Failed;
-        }
-        let more = io::count(got, &buffer[count..]);
-        if more == 0 {
-            return FileRead::Text(count);
-        }
-        count += more;
-    }
-    FileRead::TooLong
-}
-
-// Reads the file with this name.
-fn read_file(name: &[u8], buffer: &mut [u8]) -> FileRead {
-    let fd = os::open_read(name);
-    if fd < 0 {
-        if os::errno() == ENOENT {
-            return FileRead::Absent;
-        }
-        os::fail(name);
-        return FileRead::Failed;
-    }
-    let read = read_to_end(fd, name, buffer);
-    libc::close(fd);
-    read
-}
-
-fn is_failed(read: FileRead) -> bool {
-    match read {
-        FileRead::Failed => true,
-        _ => false,
-    }
-}
-
-fn is_too_long(read: FileRead) -> bool {
-    match read {
-        FileRead::TooLong => true,
-        _ => false,
-    }
-}
-
-// Whether there is a text to lend.
-fn is_lent(read: FileRead) -> bool {
-    match read {
-        FileRead::Text(_) => true,
-        _ => false,
-    }
-}
-
-// The text that was read into a buffer, or an empty one.
-fn text<'a>(read: FileRead, buffer: &'a [u8]) -> &'a [u8] {
-    match read {
-        FileRead::Text(count) => tables::part(buffer, 0, count),
-        _ => tables::part(buffer, 0, 0),
-    }
-}
-
-// ---- the answer
+use files::FileRead;
+use files::is_failed;
+use files::is_text;
+use files::is_too_long;
+use files::read_file;
+use files::text;
 
 // The answer for the files that were read: the length of each comes before all else.
 fn combine_files<'a>(
@@ -107,25 +27,13 @@ fn combine_files<'a>(
     }
     combine_gvcfs::combine(
         text(of_cohort, cohort),
-        is_lent(of_clip),
+        is_text(of_clip),
         text(of_clip, clip),
-        is_lent(of_reference),
+        is_text(of_reference),
         text(of_reference, reference),
         scratch,
         list,
     )
-}
-
-// Prints the list, or the refusal. The answer is whether all of it was written.
-fn print_outcome(outcome: Outcome, list: &[u8]) -> bool {
-    match outcome {
-        Outcome::Written(count) => io::write_all(STDOUT_FILENO, tables::part(list, 0, count)),
-        Outcome::Refused(number) => {
-            io::write_all(STDOUT_FILENO, b"refused=")
-                && io::print_decimal(STDOUT_FILENO, number as u64)
-                && io::write_all(STDOUT_FILENO, b"\n")
-        }
-    }
 }
 
 fn main() {
@@ -150,7 +58,5 @@ fn main() {
         &mut scratch,
         &mut list,
     );
-    if !print_outcome(outcome, &list) {
-        os::fail(b"standard output");
-    }
+    files::print_outcome(outcome, &list);
 }

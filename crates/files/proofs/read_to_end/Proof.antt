@@ -4,8 +4,8 @@ use borrow.Author.Needs.{needs}
 use lib.ListN.{length}
 use mathlib.Core.Path.{_≡_, refl}
 use native.Mathlib.Omega.{arith}
-use Rattle.combine.proofs.read_to_end.Statement.{statement}
-use Rattle.combine.proofs.read_to_end.Tie as tie
+use Rattle.files.proofs.read_to_end.Statement.{statement}
+use Rattle.files.proofs.read_to_end.Tie as tie
 
 abbrev Inv-loop : tie.InvT-loop
 Inv-loop fd name buffer₀ count₀ buffer count = (length buffer ≡ length buffer₀) × (count ≤ length buffer)

@@ -3,8 +3,8 @@ use Prim.Native.Nat.{_-_}
 use lib.ListN.{length}
 use mathlib.Core.Path.{_≡_, refl}
 use native.Mathlib.Omega.{arith}
-use Rattle.replay_combine.proofs.is_set.Statement.{statement}
-use Rattle.replay_combine.proofs.is_set.Tie as tie
+use Rattle.test_cases.proofs.is_set.Statement.{statement}
+use Rattle.test_cases.proofs.is_set.Tie as tie
 
 abbrev Inv-loop : tie.InvT-loop
 Inv-loop bytes i₀ i-end i = i-end ≡ length bytes

@@ -1,0 +1,5 @@
+pub mod MissingGroups
+pub mod LaidRecord
+pub mod Walking
+pub mod WrittenCalled
+pub mod ReadHeader

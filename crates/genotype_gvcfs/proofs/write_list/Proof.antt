@@ -1,0 +1,35 @@
+-- The header, then the called records behind it.
+use borrow.Author.Needs.{needs}
+use native.Mathlib.Omega.{arith}
+use Rattle.genotype_gvcfs.proofs.WrittenCalled.{count-low, list-written, writing}
+use Rattle.genotype_gvcfs.proofs.write_list.Statement.{statement}
+use Rattle.genotype_gvcfs.proofs.write_list.Tie as tie
+
+cast-put-header : tie.Need-cast-put-header
+cast-put-header c = omega (arith, count-low ((c .before .before .before .before .pre .0)))
+
+put-header-requires : tie.Need-put-header-requires
+put-header-requires c κs = (c .before .before .before .before .before .pre .0 .header)
+
+walk-records-requires : tie.Need-walk-records-requires
+walk-records-requires c κs = writing ((c .before .before .before .before .before .before .before .before .before .before .pre .0)) _ ((c .before .before .before .before .before .before .before .before .before .before .pre .1)) (c .before .before .before .before .put-header .ensures)
+
+same-length : tie.Need-same-length
+same-length c = search needs
+
+same-length-2 : tie.Need-same-length-2
+same-length-2 c = search needs
+
+returns : tie.Need-returns
+returns c = λ m exact. list-written m _ ((c .before .before .before .before .before .before .before .before .before .before .before .before .before .before .before .pre .1)) (c .before .before .before .before .before .before .before .before .before .put-header .ensures) _ (c .before .before .before .before .walk-records .ensures) exact
+
+pub write-list-spec : {M : Type 1} → statement M
+write-list-spec =
+    tie.close
+    (tie.spec
+    cast-put-header
+    put-header-requires
+    walk-records-requires
+    same-length
+    same-length-2
+    returns)
