@@ -14,6 +14,7 @@ from pathlib import Path
 
 sys.dont_write_bytecode = True
 from make_cohort_cases import Lines, Refused, check, header, model, name, number, numbers
+from make_replay_cases import printed
 
 ROOM, INPUT_ROOM = 65536, 524288  # what the program has room for
 COVERED = {f"refused {n}" for n in (*range(1, 9), 14)} | {"a record is dropped", "several records", "no records", "64 samples", "16 alleles", "*", "missing value"}
@@ -238,12 +239,6 @@ def checked(title, answer, text, room):
     if found != answer and not (answer is None and isinstance(found, bytes)):
         sys.exit(f"{title}: {answer} was expected, the rules in code say {found}")
     return found, shown
-
-
-def printed(title, answer):
-    if isinstance(answer, int):
-        return f"{title} refused={answer}\n".encode()
-    return f"{title} written={len(answer)}\n".encode() + answer
 
 
 def main():
