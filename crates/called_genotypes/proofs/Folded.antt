@@ -19,10 +19,10 @@ use Rattle.definitions.specs.CalledGenotypes.{nonRefPls, normalizedPl, plWithou
 use Rattle.definitions.specs.CalledList.{withoutIndex}
 use Rattle.definitions.specs.Genotypes.{AllelePair, genotypeIndexAny, genotypePairs, least}
 use Rattle.definitions.specs.Lists.{filterBy, numbersFrom}
-use Rattle.diploid_pairs.proofs.Places.{there-pair}
+use Rattle.diploid_pairs.proofs.Places.{pair-at-place, pair-there, same-pair, there-pair}
 use Rattle.diploid_pairs.specs.Pairs.{pairOf}
 use Rattle.diploid_pairs.specs.declared.PairAt.the-variants.{NoPair, Pair}
-use Rattle.genotype_values.proofs.Mapped.{count-is, product-bound}
+use Rattle.genotype_values.proofs.Mapped.{count-is, noPair, product-bound}
 use Rattle.genotype_values.specs.Remapped.{Filled}
 use Rattle.kv_write.proofs.Laying.{laid-append}
 use Rattle.kv_write.specs.Laid.{Laid}
@@ -32,6 +32,13 @@ use Rattle.laws.proofs.Members.{append-at-left, append-at-right, at-below, filt
 use Rattle.laws.proofs.SoundValues.{GenotypeBelow}
 use Rattle.sample_alleles.proofs.Readings.{rest}
 use Rattle.called_genotypes.specs.Values.{PlWithout, foldedPl, isDropped, retainedAllele, retainedPlAt}
+
+-- a value of the pair at a place of n alleles
+pub value-there : (f : AllelePair → ℕ) (n place : ℕ) → n ≤ 16 → place < genotypeCount n
+    → Option·getD (Option·map f (getElem? (genotypePairs 16) place)) 0 ≡ f (getD (genotypePairs n) place noPair)
+value-there f n place l h =
+    let there = pair-there n (pair-at-place n place h) in
+    rw (← same-pair n 16 place l h, there, getD-some (genotypePairs n) place noPair there)
 
 -- two functions that agree on each element
 pub map-same : {A B : Type 0} (f g : A → B) {l : List A} → Every (λ a. f a ≡ g a) l → map f l ≡ map g l
