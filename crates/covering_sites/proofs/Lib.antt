@@ -1,5 +1,5 @@
 pub mod Same
-pub mod Kept
+pub mod Filtered
 pub mod Filled
 pub mod Grouped
 pub mod Search

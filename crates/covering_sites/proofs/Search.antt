@@ -13,7 +13,7 @@ use Rattle.definitions.specs.Lists.{firstWhere, numbersFrom}
 use Rattle.kv_text.specs.Fields.{between}
 use Rattle.kv_write.proofs.Laying.{Left, done, left-length, one, recast, start}
 use Rattle.laws.proofs.Members.{length-numbers, member-numbers}
-use Rattle.covering_sites.proofs.Kept.{numbers-end, numbers-next}
+use Rattle.covering_sites.proofs.Filtered.{numbers-end, numbers-next}
 use Rattle.covering_sites.proofs.Same.{filterMap-few, filterMap-same}
 use Rattle.covering_sites.specs.Covering.{Found, coveringRows, rowCovers}
 use Rattle.covering_sites.specs.Runs.{Runs, runAt}

@@ -23,7 +23,7 @@ pub record Runs (list bounds : List ℕ) (samples : ℕ) (run : ℕ → List ℕ
   pub each : (x : ℕ) → x < samples → runAt list bounds x ≡ run x
   pub whole : take (getD bounds samples 0) list ≡ flatMap run (numbersFrom 0 samples)
 
--- a number, or nothing if it is not kept
-abbrev pub keptOf : Bool → ℕ → List ℕ
-keptOf true n = n ∷ []
-keptOf false n = []
+-- a number, or nothing if the test fails
+abbrev pub onlyWhen : Bool → ℕ → List ℕ
+onlyWhen true n = n ∷ []
+onlyWhen false n = []

@@ -1,13 +1,14 @@
 -- A sample's site among those found, and the lines of the samples from one on.
-use Prim.Native.Nat.{_+_, _-_, _<_, _^_, _≤_, suc, ℕ}
-use lib.Dec.{eqb}
-use lib.ListN.{drop, drop-of-length-le, getD, length, length-map}
-use lib.Seq.{drop-cons}
-use mathlib.Core.Bool.{Bool, cond, false, true}
-use mathlib.Core.List.{List, [], _++_, flatMap, map}
-use mathlib.Core.Option.{Option·map, none, some}
-use mathlib.Core.Path.{_∙_, _≡_, ap, sym}
-use native.Mathlib.Nat.{sub-zero}
+use Prim.Native.Nat.{_+_, _-_, _<_, _^_, _≤_, suc, zero, ℕ}
+use borrow.Author.Tests.{le-ltb, lt-ltb, ltb-false, ltb-true}
+use lib.Dec.{eqb, ltb}
+use lib.ListN.{drop, drop-of-length-le, getD, length, length-map, length-replicate, replicate, take}
+use lib.Seq.{drop-cons, length-take-le}
+use mathlib.Core.Bool.{Bool, false, true}
+use mathlib.Core.List.{List, [], _++_, _∷_, flatMap, map, map-append}
+use mathlib.Core.Option.{Option, Option·getD, Option·map, none, some}
+use mathlib.Core.Path.{_∙_, _≡_, ap, refl, sym}
+use native.Mathlib.Nat.{add-zero, sub-zero}
 use native.Mathlib.Numerals.{add-one}
 use native.Mathlib.Omega.{arith}
 use Rattle.definitions.specs.Bytes.{comma, fieldsOf}
@@ -15,87 +16,156 @@ use Rattle.definitions.specs.Cohort.{Site}
 use Rattle.definitions.specs.Genotypes.{SampleData, dataOfSample, missingData, siteData}
 use Rattle.definitions.specs.Lists.{firstWhere, numbersFrom}
 use Rattle.definitions.specs.Printed.{printedSampleData}
-use Rattle.laws.proofs.Every.{every-all, every-member, every-of-map}
-use Rattle.laws.proofs.Members.{first-found, first-map, length-numbers}
+use Rattle.found_sites.proofs.OwnSites.{own-length}
+use Rattle.found_sites.specs.Own.{ownSite, ownSites}
+use Rattle.laws.proofs.Every.{Every, also, every-all, every-member, every-of-map, nothing}
+use Rattle.laws.proofs.Members.{first-found, first-map, flatMap-append, length-numbers, numbers-append}
 use Rattle.laws.proofs.SampleDataSound.{sample-data-sound}
+use Rattle.laws.proofs.SoundInput.{SoundSite}
 use Rattle.record_laws.proofs.Lengths.{all-data-few}
 use Rattle.sample_alleles.specs.Readings.{allelesIn}
-use Rattle.tables.specs.Tables.{alleleSpelled, column, siteAt}
-use Rattle.record_lines.specs.Samples.{SamplePrintable, SamplesPrintable, SitePrintable, dataFound, printedSamples}
-
--- ---- the search
-
-module _ (p : ℕ → Bool) (l : List ℕ) (i : ℕ) where
-  -- the first of those from i on is the first of all
-  abbrev pub Searching : Type 0
-  Searching = firstWhere p (drop i l) ≡ firstWhere p l
-
-  module _ (h : i < length l) where
-    from-here : firstWhere p (drop i l) ≡ cond (p (getD l i 0)) (some (getD l i 0)) (firstWhere p (drop (i + 1) l))
-    unfolding firstWhere
-    from-here = rw (add-one i, drop-cons l i 0 h)
-
-    pub search-here : p (getD l i 0) ≡ true → Searching → some (getD l i 0) ≡ firstWhere p l
-    search-here e s = sym (rw e at from-here) ∙ s
-
-    pub search-next : p (getD l i 0) ≡ false → Searching → firstWhere p (drop (i + 1) l) ≡ firstWhere p l
-    search-next e s = sym (rw e at from-here) ∙ s
-
-  pub search-end : length l ≤ i → Searching → none ≡ firstWhere p l
-  unfolding firstWhere
-  search-end h s = sym (ap (firstWhere p) (drop-of-length-le l h)) ∙ s
+use Rattle.tables.proofs.Parts.{column-past}
+use Rattle.tables.specs.Tables.{alleleSpelled, siteAt}
+use Rattle.record_lines.specs.Samples.{OwnPrintable, SamplePrintable, SamplesPrintable, SitePrintable, SomePrintable, dataFound, dataOwn, printedOwn, printedSamples, printedSome}
 
 -- ---- a sample by its site
 
-module _ (s rows found : List ℕ) (sample : ℕ) where
-  abbrev its : ℕ → Bool
-  its site = eqb (column 0 rows site) sample
+-- a sound site's number is one of the table's
+pub sound-row : (s rows : List ℕ) (site : ℕ) → SoundSite (siteAt s rows site) → site < length rows
+unfolding siteAt
+sound-row s rows site h = go (ltb site (length rows)) refl
+  where
+    go : (t : Bool) → ltb site (length rows) ≡ t → site < length rows
+    go true e = ltb-true site (length rows) e
+    go false e = let past = ltb-false site (length rows) e in absurd (omega (arith, h .from-one, column-past 2 rows site (omega arith)))
 
-  first-found-site : firstWhere (λ (z : Site). eqb (z .sample) sample) (map (siteAt s rows) found)
-      ≡ Option·map (siteAt s rows) (firstWhere its found)
-  unfolding siteAt
-  first-found-site = first-map (siteAt s rows) (λ (z : Site). eqb (z .sample) sample) found
+module _ (s rows : List ℕ) (position : ℕ) (ref alts : List ℕ) where
+  pub data-of-row : {own : ℕ} → own < length rows → dataOwn s rows position ref alts own ≡ siteData ref (allelesIn alts) position (siteAt s rows own)
+  unfolding dataOwn
+  data-of-row {own} h = rw (lt-ltb own (length rows) h)
 
-  pub data-of-site : (position : ℕ) (ref alts : List ℕ) {site : ℕ} → firstWhere its found ≡ some site
-      → dataFound s rows found position ref alts sample ≡ siteData ref (allelesIn alts) position (siteAt s rows site)
-  unfolding dataOfSample
-  data-of-site position ref alts e = rw (first-found-site, e)
+  pub data-of-no-row : {own : ℕ} → length rows ≤ own → dataOwn s rows position ref alts own ≡ missingData
+  unfolding dataOwn
+  data-of-no-row {own} h = rw (le-ltb own (length rows) h)
 
-  pub data-of-none : (position : ℕ) (ref alts : List ℕ) → firstWhere its found ≡ none
-      → dataFound s rows found position ref alts sample ≡ missingData
-  unfolding dataOfSample
-  data-of-none position ref alts e = rw (first-found-site, e)
+  -- what the call for a site asks
+  pub site-printable : {own at : ℕ} → SamplePrintable s rows own position ref alts at → own < length rows → SitePrintable s rows own position ref alts at
+  site-printable p h = record { sound = p .sound h; few = p .few; fits = rw (data-of-row h) at (p .fits) }
 
-  -- what the call for that site asks
-  pub site-printable : (position : ℕ) (ref alts : List ℕ) {site at : ℕ} → SamplePrintable s rows sample found position ref alts at
-      → firstWhere its found ≡ some site → SitePrintable s rows site position ref alts at
-  site-printable position ref alts p e = record {
-    sound = every-member (first-found _ _ (first-found-site ∙ ap (Option·map (siteAt s rows)) e) .0) (p .sound);
+  module _ (found : List ℕ) (sound : Every SoundSite (map (siteAt s rows) found)) (sample : ℕ) where
+    first-found-site : firstWhere (λ (z : Site). eqb (z .sample) sample) (map (siteAt s rows) found) ≡ Option·map (siteAt s rows) (ownSite rows found sample)
+    unfolding siteAt
+    first-found-site = first-map (siteAt s rows) (λ (z : Site). eqb (z .sample) sample) found
+
+    found-sound : {site : ℕ} → ownSite rows found sample ≡ some site → SoundSite (siteAt s rows site)
+    found-sound e = every-member (first-found _ _ (first-found-site ∙ ap (Option·map (siteAt s rows)) e) .0) sound
+
+    -- the entry of the sample says its site
+    pub data-of-own : {own : ℕ} → own ≡ Option·getD (ownSite rows found sample) (length rows)
+        → (dataOwn s rows position ref alts own ≡ dataFound s rows found position ref alts sample) × (own < length rows → SoundSite (siteAt s rows own))
+    unfolding dataOfSample
+    data-of-own {own} e = go (ownSite rows found sample) refl
+      where
+        go : (o : Option ℕ) → ownSite rows found sample ≡ o
+            → (dataOwn s rows position ref alts own ≡ dataFound s rows found position ref alts sample) × (own < length rows → SoundSite (siteAt s rows own))
+        go (some site) f =
+            let r : site < length rows = sound-row s rows site (found-sound f) in
+            let is : own ≡ site = e ∙ ap (λ (o : Option ℕ). Option·getD o (length rows)) f in
+            rw is (data-of-row r ∙ sym (rw (first-found-site, f)), λ _. found-sound f)
+        go none f =
+            let is : own ≡ length rows = e ∙ ap (λ (o : Option ℕ). Option·getD o (length rows)) f in
+            (data-of-no-row (omega arith) ∙ sym (rw (first-found-site, f)), λ h. absurd (omega arith))
+
+-- the entries of the samples from `first` on, of which none had a site
+module _ (s rows : List ℕ) (position : ℕ) (ref alts found : List ℕ) (sound : Every SoundSite (map (siteAt s rows) found)) where
+  abbrev entries : ℕ → ℕ → List ℕ
+  entries first n = ownSites rows found first (replicate n (length rows))
+
+  pub own-data : (n count first : ℕ) → count ≤ n
+      → map (dataOwn s rows position ref alts) (take count (entries first n)) ≡ map (dataFound s rows found position ref alts) (numbersFrom first count)
+  unfolding ownSites numbersFrom
+  own-data n zero first h = refl
+  own-data zero (suc count) first h = absurd (omega arith)
+  own-data (suc n) (suc count) first h =
+      let here = data-of-own s rows position ref alts found sound first refl .0 in
+      let rest = own-data n count (suc first) (omega arith) in
+      λ i. here i ∷ rest i
+
+  pub own-sound : (n count first : ℕ) → count ≤ n → Every (λ x. x < length rows → SoundSite (siteAt s rows x)) (take count (entries first n))
+  unfolding ownSites
+  own-sound n zero first h = nothing
+  own-sound zero (suc count) first h = absurd (omega arith)
+  own-sound (suc n) (suc count) first h = also (data-of-own s rows position ref alts found sound first refl .1) (own-sound n count (suc first) (omega arith))
+
+-- the front of the entries of 64 samples
+module _ {s rows : List ℕ} {first count : ℕ} {found : List ℕ} {position : ℕ} {ref alts : List ℕ} {at : ℕ} (p : SomePrintable s rows first count found position ref alts at)
+    {own : List ℕ} (e : own ≡ ownSites rows found first (replicate 64 (length rows))) where
+  pub some-count : count ≡ length (take count own)
+  some-count =
+      let long = ap length e ∙ own-length rows found first (replicate 64 (length rows)) ∙ length-replicate 64 (length rows) in
+      sym (length-take-le count own (omega (arith, p .some-samples)))
+
+  pub some-lines : printedOwn s rows position ref alts (take count own) ≡ printedSome s rows first count found position ref alts
+  unfolding printedOwn
+  some-lines = rw e (ap (flatMap printedSampleData) (own-data s rows position ref alts found (p .sound) 64 count first (p .some-samples)))
+
+  pub some-printable : OwnPrintable s rows (take count own) position ref alts at
+  some-printable = record {
+    sound = rw e (own-sound s rows position ref alts found (p .sound) 64 count first (p .some-samples));
     few = p .few;
-    fits = rw (data-of-site position ref alts e) at (p .fits);
+    fits = rw some-lines (p .fits);
   }
+
+-- ---- some samples by the numbers of their sites
+
+module _ (s rows : List ℕ) (position : ℕ) (ref alts own : List ℕ) where
+  pub own-next : (i : ℕ) → i < length own → printedOwn s rows position ref alts (drop i own)
+      ≡ printedSampleData (dataOwn s rows position ref alts (getD own i 0)) ++ printedOwn s rows position ref alts (drop (i + 1) own)
+  unfolding printedOwn flatMap
+  own-next i h = rw (add-one i, drop-cons own i 0 h)
+
+  pub own-none : (i : ℕ) → length own ≤ i → printedOwn s rows position ref alts (drop i own) ≡ []
+  unfolding printedOwn flatMap
+  own-none i h = rw (drop-of-length-le own h)
 
 -- ---- the samples
 
-module _ (data′ : ℕ → SampleData) (samples : ℕ) where
-  -- the lines of those from a sample on
+module _ (data′ : ℕ → SampleData) (first count : ℕ) where
+  -- the lines of those from the x-th on
   unfoldable pub linesFrom : ℕ → List ℕ
-  linesFrom x = flatMap printedSampleData (map data′ (numbersFrom x (samples - x)))
+  linesFrom x = flatMap printedSampleData (map data′ (numbersFrom (first + x) (count - x)))
 
-  pub lines-all : linesFrom 0 ≡ flatMap printedSampleData (map data′ (numbersFrom 0 samples))
+  pub lines-all : linesFrom 0 ≡ flatMap printedSampleData (map data′ (numbersFrom first count))
   unfolding linesFrom
-  lines-all = rw sub-zero
+  lines-all = rw (sub-zero, add-zero)
 
-  pub lines-next : (x : ℕ) → x < samples → linesFrom x ≡ printedSampleData (data′ x) ++ linesFrom (x + 1)
+  pub lines-next : (x : ℕ) → x < count → linesFrom x ≡ printedSampleData (data′ (first + x)) ++ linesFrom (x + 1)
   unfolding linesFrom numbersFrom flatMap
   lines-next x h =
-      let n : samples - x ≡ suc (samples - (x + 1)) = omega arith in
-      let m : suc x ≡ x + 1 = omega arith in
+      let n : count - x ≡ suc (count - (x + 1)) = omega arith in
+      let m : suc (first + x) ≡ first + (x + 1) = omega arith in
       rw n (rw m)
 
-  pub lines-none : (x : ℕ) → samples ≤ x → linesFrom x ≡ []
+  -- the lines of some of them, and of the others
+  lines-some : (x n : ℕ) → x + n ≤ count → linesFrom x ≡ flatMap printedSampleData (map data′ (numbersFrom (first + x) n)) ++ linesFrom (x + n)
+  unfolding linesFrom
+  lines-some x n h =
+      let m : count - x ≡ n + (count - (x + n)) = omega arith in
+      let k : first + (x + n) ≡ first + x + n = omega arith in
+      rw (m, k, numbers-append (first + x) n (count - (x + n)))
+      (ap (flatMap printedSampleData) (map-append data′ (numbersFrom (first + x) n) (numbersFrom (first + x + n) (count - (x + n))))
+      ∙ flatMap-append printedSampleData (map data′ (numbersFrom (first + x) n)) (map data′ (numbersFrom (first + x + n) (count - (x + n)))))
+
+  pub lines-none : (x : ℕ) → count ≤ x → linesFrom x ≡ []
   unfolding linesFrom numbersFrom flatMap
-  lines-none x h = let n : samples - x ≡ 0 = omega arith in rw n
+  lines-none x h = let n : count - x ≡ 0 = omega arith in rw n
+
+-- of all samples, the lines of some from the x-th on
+pub lines-of-some : (data′ : ℕ → SampleData) (count n : ℕ) {x first : ℕ} → first ≡ x → x + n ≤ count
+    → linesFrom data′ 0 count x ≡ flatMap printedSampleData (map data′ (numbersFrom first n)) ++ linesFrom data′ 0 count (x + n)
+lines-of-some data′ count n {x} {first} e h =
+    let z : 0 + x ≡ first = omega arith in
+    lines-some data′ 0 count x n h ∙ rw z
 
 -- the offset behind them fits
 pub samples-fit : {s rows : List ℕ} {samples : ℕ} {found alts : List ℕ} {at : ℕ} (position : ℕ) (ref : List ℕ)

@@ -2,17 +2,15 @@
 // Sites stand in a table, `rows`, over the cohort's text, `s`; `found` are the numbers of the sites that cover the record's
 // position. `reference` is REF of the record, and `alts` are its ALTs, with commas.
 ghost use mathlib.Core.Path.{_≡_};
-ghost use Prim.Native.Nat.{_≤_};
-ghost use lib.Dec.{eqb};
-ghost use Rattle.definitions.specs.Lists.{firstWhere};
+ghost use Prim.Native.Nat.{_≤_, min};
 ghost use Rattle.definitions.specs.Numbers.{maxNumber};
 ghost use Rattle.definitions.specs.Printed.{printedSampleData};
 ghost use Rattle.kv_write.specs.Laid.{Laid};
 ghost use Rattle.kv_write.specs.Optional.{optionOf};
-ghost use Rattle.tables.specs.Tables.{column};
 ghost use Rattle.record_lines.specs.Head.{HeadFits, endFrom, headOf};
-ghost use Rattle.record_lines.specs.Samples.{SamplePrintable, SamplesPrintable, SitePrintable, dataFound, printedSamples, printedSite, siteFound};
+ghost use Rattle.record_lines.specs.Samples.{OwnPrintable, SamplePrintable, SamplesPrintable, SitePrintable, SomePrintable, dataOwn, printedOwn, printedSamples, printedSite, printedSome};
 use bio_ids::GenomePosition;
+use bio_ids::SampleIndex;
 use kv_write::OptionalNumber;
 
 // END of a record: its last position, if that is past its first.
@@ -92,31 +90,58 @@ pub fn put_site_data(
     )
 }
 
-// A sample's site among those found, if it has one.
-enum FoundSite {
-    At(usize),
-    Nothing,
-}
-
-// The first of the found sites that is the sample's.
-fn found_site(rows: &[usize], found: &[usize], sample: usize) -> FoundSite
-    ensures { λ r. ⌜ siteFound r ≡ firstWhere (λ site. eqb (column 0 (now (rows .entry)) site) sample) (now (found .entry)) ⌝ }
-{
-    for i in 0..found.len() {
-        let site = found[i];
-        let owner = tables::sample_of(rows, site).get();
-        if owner == sample {
-            return FoundSite::At(site);
-        }
-    }
-    FoundSite::Nothing
-}
-
-// Lays what the record says of a sample.
+// Lays what the record says of a sample by the number of its site; a number past the table's is none.
 fn put_sample(
     s: &[u8],
     rows: &[usize],
-    sample: usize,
+    own: usize,
+    position: GenomePosition,
+    reference: &[u8],
+    alts: &[u8],
+    out: &mut [u8],
+    at: usize,
+) -> usize
+    requires { ⌜ SamplePrintable (now s) (now rows) own (position .0) (now reference) (now alts) at ⌝ }
+    ensures { λ r. ⌜ Laid (now (out .entry)) at
+        (printedSampleData (dataOwn (now (s .entry)) (now (rows .entry)) (position .0) (now (reference .entry)) (now (alts .entry)) own))
+        (now (out .exit)) r ⌝ }
+{
+    if own < rows.len() {
+        return put_site_data(s, rows, own, position, reference, alts, out, at);
+    }
+    genotype_values::put_missing_data(out, at)
+}
+
+// Lays what the record says of each of some samples by the numbers of their sites.
+fn put_own_samples(
+    s: &[u8],
+    rows: &[usize],
+    own: &[usize],
+    position: GenomePosition,
+    reference: &[u8],
+    alts: &[u8],
+    out: &mut [u8],
+    at: usize,
+) -> usize
+    requires { ⌜ OwnPrintable (now s) (now rows) (now own) (position .0) (now reference) (now alts) at ⌝ }
+    ensures { λ r. ⌜ Laid (now (out .entry)) at
+        (printedOwn (now (s .entry)) (now (rows .entry)) (position .0) (now (reference .entry)) (now (alts .entry)) (now (own .entry)))
+        (now (out .exit)) r ⌝ }
+{
+    let mut next = at;
+    for i in 0..own.len() {
+        let site = own[i];
+        next = put_sample(s, rows, site, position, reference, alts, out, next);
+    }
+    next
+}
+
+// Lays what the record says of each of so many samples from one on, at most 64.
+fn put_some_samples(
+    s: &[u8],
+    rows: &[usize],
+    first: SampleIndex,
+    count: usize,
     found: &[usize],
     position: GenomePosition,
     reference: &[u8],
@@ -124,16 +149,21 @@ fn put_sample(
     out: &mut [u8],
     at: usize,
 ) -> usize
-    requires { ⌜ SamplePrintable (now s) (now rows) sample (now found) (position .0) (now reference) (now alts) at ⌝ }
+    requires { ⌜ SomePrintable (now s) (now rows) (first .0) count (now found) (position .0) (now reference) (now alts) at ⌝ }
     ensures { λ r. ⌜ Laid (now (out .entry)) at
-        (printedSampleData (dataFound (now (s .entry)) (now (rows .entry)) (now (found .entry)) (position .0) (now (reference .entry)) (now (alts .entry)) sample))
+        (printedSome (now (s .entry)) (now (rows .entry)) (first .0) count (now (found .entry)) (position .0) (now (reference .entry)) (now (alts .entry)))
         (now (out .exit)) r ⌝ }
 {
-    let own = found_site(rows, found, sample);
-    match own {
-        FoundSite::At(site) => { put_site_data(s, rows, site, position, reference, alts, out, at) }
-        FoundSite::Nothing => genotype_values::put_missing_data(out, at),
-    }
+    let mut own = [rows.len(); 64];
+    found_sites::own_sites(rows, found, first, &mut own);
+    put_own_samples(s, rows, &own[..count], position, reference, alts, out, at)
+}
+
+// So many, but at most 64.
+fn at_most_64(count: usize) -> usize
+    ensures { λ r. ⌜ r ≡ min count 64 ⌝ }
+{
+    if count < 64 { count } else { 64 }
 }
 
 // Lays what the record says of each of so many samples.
@@ -154,8 +184,23 @@ pub fn put_samples(
         (now (out .exit)) r ⌝ }
 {
     let mut next = at;
-    for sample in 0..samples {
-        next = put_sample(s, rows, sample, found, position, reference, alts, out, next);
+    let mut sample = 0;
+    while sample < samples {
+        let first = SampleIndex::new(sample);
+        let count = at_most_64(samples - sample);
+        next = put_some_samples(
+            s,
+            rows,
+            first,
+            count,
+            found,
+            position,
+            reference,
+            alts,
+            out,
+            next,
+        );
+        sample += count;
     }
     next
 }

@@ -1,63 +1,34 @@
--- By whether a site of the sample is found.
+-- By whether the number is one of the table's.
 use borrow.Author.Needs.{needs}
-use mathlib.Core.Path.{sym}
-use Rattle.record_lines.proofs.FoundSites.{data-of-none, data-of-site, site-printable}
-use Rattle.record_lines.specs.Samples.{siteFound}
+use Rattle.record_lines.proofs.FoundSites.{data-of-no-row, data-of-row, site-printable}
 use Rattle.record_lines.proofs.put_sample.Statement.{statement}
 use Rattle.record_lines.proofs.put_sample.Tie as tie
 
-found-site-requires : tie.Need-found-site-requires
-found-site-requires c κs = search needs
-
-enum-known-own : tie.Need-enum-known-own
-enum-known-own c = search needs
-
 put-site-data-requires : tie.Need-put-site-data-requires
-unfolding siteFound
-put-site-data-requires c κs = let args = (c .before .before .before .before .before .before .before .before .before .before .before .args) in
-    let e = sym (rw (c .before .before .own .given .1) at (c .before .before .before .before .found-site .ensures)) in
-    site-printable (args .s .now) (args .rows .now) (args .found .now) (args .sample) (args .position .0) (args .reference .now) (args .alts .now) (c .before .before .before .before .before .before .before .before .before .before .before .pre) e
-
-enum-told : tie.Need-enum-told
-enum-told c = search needs
-
-put-missing-data-requires : tie.Need-put-missing-data-requires
-unfolding siteFound
-put-missing-data-requires c κs = let args = (c .before .before .before .before .before .before .before .before .before .before .args) in
-    let e = sym (rw (c .before .enum-told .given .1) at (c .before .before .before .found-site .ensures)) in
-    rw (data-of-none (args .s .now) (args .rows .now) (args .found .now) (args .sample) (args .position .0) (args .reference .now) (args .alts .now) e) at
-    ((c .before .before .before .before .before .before .before .before .before .before .pre .fits))
+put-site-data-requires c κs = site-printable _ _ _ _ _ (c .before .before .before .before .before .before .before .pre) ((c .before .if1 .taken))
 
 same-length : tie.Need-same-length
 same-length c = search needs
 
 returns : tie.Need-returns
-unfolding siteFound
-returns c = let args = (c .before .before .before .before .before .before .before .before .before .before .before .before .before .before .args) in
-    let e = sym (rw (c .before .before .before .before .before .own .given .1) at (c .before .before .before .before .before .before .before .found-site .ensures)) in
-    rw (data-of-site (args .s .now) (args .rows .now) (args .found .now) (args .sample) (args .position .0) (args .reference .now) (args .alts .now) e)
-    (c .before .before .put-site-data .ensures)
+returns c = rw (data-of-row ((c .before .before .before .before .before .before .before .before .before .before .args .s .now)) ((c .before .before .before .before .before .before .before .before .before .before .args .rows .now)) ((c .before .before .before .before .before .before .before .before .before .before .args .position .0)) ((c .before .before .before .before .before .before .before .before .before .before .args .reference .now)) ((c .before .before .before .before .before .before .before .before .before .before .args .alts .now)) ((c .before .before .before .before .if1 .taken))) ((c .before .before .put-site-data .ensures))
+
+put-missing-data-requires : tie.Need-put-missing-data-requires
+put-missing-data-requires c κs = rw (data-of-no-row ((c .before .before .before .before .before .before .before .args .s .now)) ((c .before .before .before .before .before .before .before .args .rows .now)) ((c .before .before .before .before .before .before .before .args .position .0)) ((c .before .before .before .before .before .before .before .args .reference .now)) ((c .before .before .before .before .before .before .before .args .alts .now)) ((c .before .if1 .left))) at ((c .before .before .before .before .before .before .before .pre .fits))
 
 same-length-2 : tie.Need-same-length-2
 same-length-2 c = search needs
 
 returns-2 : tie.Need-returns-2
-unfolding siteFound
-returns-2 c = let args = (c .before .before .before .before .before .before .before .before .before .before .before .before .before .args) in
-    let e = sym (rw (c .before .before .before .before .enum-told .given .1) at (c .before .before .before .before .before .before .found-site .ensures)) in
-    rw (data-of-none (args .s .now) (args .rows .now) (args .found .now) (args .sample) (args .position .0) (args .reference .now) (args .alts .now) e)
-    (c .before .before .put-missing-data .ensures)
+returns-2 c = rw (data-of-no-row ((c .before .before .before .before .before .before .before .before .before .before .args .s .now)) ((c .before .before .before .before .before .before .before .before .before .before .args .rows .now)) ((c .before .before .before .before .before .before .before .before .before .before .args .position .0)) ((c .before .before .before .before .before .before .before .before .before .before .args .reference .now)) ((c .before .before .before .before .before .before .before .before .before .before .args .alts .now)) ((c .before .before .before .before .if1 .left))) ((c .before .before .put-missing-data .ensures))
 
 pub put-sample-spec : {M : Type 1} → statement M
 put-sample-spec =
     tie.close
     (tie.spec
-    found-site-requires
-    enum-known-own
     put-site-data-requires
-    enum-told
-    put-missing-data-requires
     same-length
     returns
+    put-missing-data-requires
     same-length-2
     returns-2)

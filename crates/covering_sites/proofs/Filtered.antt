@@ -10,13 +10,13 @@ use native.Mathlib.Omega.{arith}
 use Rattle.definitions.specs.Lists.{filterBy, numbersFrom}
 use Rattle.kv_write.proofs.Laying.{Left, done, left-length, recast, several, start}
 use Rattle.kv_write.specs.Laid.{Laid}
-use Rattle.covering_sites.specs.Runs.{keptOf}
+use Rattle.covering_sites.specs.Runs.{onlyWhen}
 
-filter-next : (p : ℕ → Bool) (x : ℕ) (l : List ℕ) → filterBy p (x ∷ l) ≡ keptOf (p x) x ++ filterBy p l
+filter-next : (p : ℕ → Bool) (x : ℕ) (l : List ℕ) → filterBy p (x ∷ l) ≡ onlyWhen (p x) x ++ filterBy p l
 unfolding filterBy
 filter-next p x l = go (p x)
   where
-    go : (b : Bool) → cond b (x ∷ filterBy p l) (filterBy p l) ≡ keptOf b x ++ filterBy p l
+    go : (b : Bool) → cond b (x ∷ filterBy p l) (filterBy p l) ≡ onlyWhen b x ++ filterBy p l
     go true = refl
     go false = refl
 
@@ -34,19 +34,19 @@ module _ {p : ℕ → Bool} {out₀ : List ℕ} {at : ℕ} {all : List ℕ} wher
     pub keep-as : {rest rest′ : List ℕ} → rest ≡ rest′ → Keeping p out₀ at all out next rest → Keeping p out₀ at all out next rest′
     keep-as e k = rw (← e) k
 
-    module _ {x : ℕ} {rest : List ℕ} (k : Keeping p out₀ at all out next (x ∷ rest)) {kept : Bool} (e : kept ≡ p x) where
+    module _ {x : ℕ} {rest : List ℕ} (k : Keeping p out₀ at all out next (x ∷ rest)) {test : Bool} (e : test ≡ p x) where
       -- what the call that stores the next number requires
-      pub keep-room : next + length (keptOf kept x) ≤ length out
+      pub keep-room : next + length (onlyWhen test x) ≤ length out
       keep-room = rw e (omega (
         arith,
         k .room,
         k .left .place,
         left-length (k .left),
         ap length (filter-next p x rest),
-        length-append (keptOf (p x) x) (filterBy p rest),
+        length-append (onlyWhen (p x) x) (filterBy p rest),
       ))
 
-      pub keep-next : {out′ : List ℕ} {next′ : ℕ} → Laid out next (keptOf kept x) out′ next′ → Keeping p out₀ at all out′ next′ rest
+      pub keep-next : {out′ : List ℕ} {next′ : ℕ} → Laid out next (onlyWhen test x) out′ next′ → Keeping p out₀ at all out′ next′ rest
       keep-next l = record { left = several (rw (e) at l) (recast (filter-next p x rest) (k .left)); room = k .room }
 
     pub keep-end : Keeping p out₀ at all out next [] → Laid out₀ at (filterBy p all) out next

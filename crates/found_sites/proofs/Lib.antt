@@ -1,0 +1,4 @@
+pub mod Entries
+pub mod OwnSites
+pub mod Again
+pub mod LocalArray
