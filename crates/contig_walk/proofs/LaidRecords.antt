@@ -1,6 +1,6 @@
 -- The record of an interval as it is laid: its ALTs as text, its samples' lines, and what the steps of `coalescing` ask of it.
 use Prim.Native.Nat.{_*_, _+_, _<_, _^_, _≤_, suc, ℕ}
-use borrow.Author.Tests.{eq-eqb, le-ltb, ne-eqb}
+use borrow.Author.Tests.{le-ltb}
 use lib.Dec.{eqb}
 use lib.ListN.{drop, length, length-append, length-map, take}
 use lib.Seq.{length-take-le, sets, take-at, take-length}
@@ -57,8 +57,8 @@ contig-named {s} {rows} on =
     rw (on .name) (every-member {a = on .first} (numbers-member 0 (length sites) (omega arith) (omega (arith, on .known))) all .contig)
 
 module _ {s rows : List ℕ} {samples : ℕ} {reference contig : List ℕ} {first last : ℕ} {place : RefAt} {number : ℕ} {found alts : List ℕ}
-    {pending : Pending} {held : List ℕ} {at : ℕ}
-    (r : LayReady s rows samples reference contig first last place number found alts pending held at) where
+    {pending : Pending} {held fresh : List ℕ} {at : ℕ}
+    (r : LayReady s rows samples reference contig first last place number found alts pending held fresh at) where
   -- ---- the ALTs
 
   text-is : writtenAlleles (recordAlts (r .on) first (r .to)) ≡ alts
@@ -87,18 +87,9 @@ module _ {s rows : List ℕ} {samples : ℕ} {reference contig : List ℕ} {firs
   }
 
   -- a block, by the number of ALTs and the length of REF
-  by-numbers : isBlock (laidRecord r .alleles) ≡ (eqb number 1 && eqb (length (recordRef (r .on) first (r .to))) 1)
+  pub by-numbers : isBlock (laidRecord r .alleles) ≡ (eqb number 1 && eqb (length (recordRef (r .on) first (r .to))) 1)
   unfolding isBlock onlyNonRef
   by-numbers = rw (sound-alleles .non-ref, ← r .to .number, and-true (eqb number 1))
-
-  pub other-number : (number ≡ 1 → ⊥) → isBlock (laidRecord r .alleles) ≡ false
-  other-number h = by-numbers ∙ rw (ne-eqb number 1 h)
-
-  pub other-length : number ≡ 1 → (length (recordRef (r .on) first (r .to)) ≡ 1 → ⊥) → isBlock (laidRecord r .alleles) ≡ false
-  other-length e h = by-numbers ∙ rw (eq-eqb number 1 e, ne-eqb (length (recordRef (r .on) first (r .to))) 1 h)
-
-  pub is-a-block : number ≡ 1 → length (recordRef (r .on) first (r .to)) ≡ 1 → isBlock (laidRecord r .alleles) ≡ true
-  is-a-block e h = by-numbers ∙ rw (eq-eqb number 1 e, eq-eqb (length (recordRef (r .on) first (r .to))) 1 h)
 
   -- ---- a block
 
@@ -116,16 +107,17 @@ module _ {s rows : List ℕ} {samples : ℕ} {reference contig : List ℕ} {firs
     pub lines-few : length (flatMap printedSampleData (recordData (r .on) first (r .to))) ≤ 8192
     lines-few = omega (arith, all-block-data-few (every-map (λ v d. d .sound) derived), samples-count, r .on .loaded .few)
 
-    -- they fit an array of 8,192 bytes, and stand at its front
+    -- they fit a list of 8,192 bytes, and stand at its front
     pub record FreshLines (after : List ℕ) (len : ℕ) : Type 0 where
       pub within : len ≤ length after
       pub exact : len ≡ length (take len after)
       pub lines : take len after ≡ flatMap printedSampleData (recordData (r .on) first (r .to))
 
-    pub fresh-lines : (fresh after : List ℕ) (len : ℕ) → length fresh ≡ 8192
+    pub fresh-lines : (after : List ℕ) (len : ℕ)
         → Laid fresh 0 (printedSamples s rows samples found first (recordRef (r .on) first (r .to)) alts) after len → FreshLines after len
-    fresh-lines fresh after len e l =
+    fresh-lines after len l =
         let few = lines-few in
+        let room = r .fresh-room in
         let count : len ≡ length (flatMap printedSampleData (recordData (r .on) first (r .to))) = l .next ∙ zero-add _ ∙ ap length samples-are in
         let same : length after ≡ length fresh = laid-length l in
         let within : len ≤ length after = omega arith in
@@ -137,14 +129,14 @@ module _ {s rows : List ℕ} {samples : ℕ} {reference contig : List ℕ} {firs
           lines = rw front (take-at _ _ len (sym count));
         }
 
-    pub new-block : (fresh : List ℕ) → fresh ≡ flatMap printedSampleData (recordData (r .on) first (r .to))
-        → HeldBlock s rows samples reference contig fresh first last place (length fresh) (laidRecord r)
-    new-block fresh e = record {
+    pub new-block : (lines : List ℕ) → lines ≡ flatMap printedSampleData (recordData (r .on) first (r .to))
+        → HeldBlock s rows samples reference contig lines first last place (length lines) (laidRecord r)
+    new-block lines e = record {
       values = recordData (r .on) first (r .to);
       record-is = block-record contig (record { first = first; last = last }) (recordAlleles (r .on) first (r .to)) (recordData (r .on) first (r .to)) block;
       derived = derived;
       all-samples = samples-count;
-      printed = take-length fresh ∙ e;
+      printed = take-length lines ∙ e;
       one-letter = block-is (laidRecord r .alleles) block .1;
       ordered = r .ordered;
       in-range = r .in-range;

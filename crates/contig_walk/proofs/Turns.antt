@@ -38,9 +38,9 @@ front-within {n} l e = omega (arith, length-take n l)
 text-front : (t alts : List ℕ) (len : ℕ) → t ≡ between alts 0 len → t ≡ take len alts
 text-front t alts len e = e ∙ rw (sub-zero len)
 
-module _ {s rows : List ℕ} {samples : ℕ} {clipped : Bool} {clip : List ℕ} {lent : Bool} {reference contig chosen bounds : List ℕ}
-    {first last : ℕ} {pending : Pending} {held : List ℕ} {at : ℕ}
-    (ready : TurnReady s rows samples clipped clip lent reference contig chosen bounds first last pending held at) where
+module _ {s rows : List ℕ} {samples : ℕ} {clipped : Bool} {clip : List ℕ} {lent : Bool} {reference contig chosen from bounds : List ℕ}
+    {first last : ℕ} {pending : Pending} {held fresh found₀ alts₀ : List ℕ} {at : ℕ}
+    (ready : TurnReady s rows samples clipped clip lent reference contig chosen from bounds first last pending held fresh found₀ alts₀ at) where
   abbrev on : OnContig s rows samples lent reference contig
   on = ready .runs .on
 
@@ -71,7 +71,7 @@ module _ {s rows : List ℕ} {samples : ℕ} {clipped : Bool} {clip : List ℕ} 
       }
 
       unfoldable pub lay-ready : (text : List ℕ) → text ≡ between alts 0 len
-          → LayReady s rows samples reference contig first last place number (take n found) text pending held at
+          → LayReady s rows samples reference contig first last place number (take n found) text pending held fresh at
       lay-ready text e =
           let i = ready .sound in-clip some-covering in
           record {
@@ -82,12 +82,13 @@ module _ {s rows : List ℕ} {samples : ℕ} {clipped : Bool} {clip : List ℕ} 
             ordered = i .ordered;
             in-range = i .in-range;
             fits = ready .fits;
-            room = ready .room;
+            room = ready .room .for-held;
+            fresh-room = ready .room .for-fresh;
           }
 
-module _ {s rows : List ℕ} {samples : ℕ} {clipped : Bool} {clip : List ℕ} {lent : Bool} {reference contig chosen bounds : List ℕ}
-    {first last : ℕ} {pending : Pending} {held : List ℕ} {at : ℕ}
-    (ready : TurnReady s rows samples clipped clip lent reference contig chosen bounds first last pending held at)
+module _ {s rows : List ℕ} {samples : ℕ} {clipped : Bool} {clip : List ℕ} {lent : Bool} {reference contig chosen from bounds : List ℕ}
+    {first last : ℕ} {pending : Pending} {held fresh found₀ alts₀ : List ℕ} {at : ℕ}
+    (ready : TurnReady s rows samples clipped clip lent reference contig chosen from bounds first last pending held fresh found₀ alts₀ at)
     (waiting : Option Record) (d₀ bytes : List ℕ) (records : ℕ)
     (h : Holds s rows samples reference contig held pending waiting) where
   abbrev on′ : OnContig s rows samples lent reference contig

@@ -16,6 +16,8 @@ use Rattle.coalescing.specs.Steps.{Progress}
 use Rattle.coalescing.specs.declared.Pending.{Pending}
 use Rattle.coalescing.specs.declared.Pending.the-variants.{Nothing}
 use Rattle.coalescing.specs.declared.Stepped.{Stepped}
+use Rattle.covering_sites.proofs.Ended.{ended-later, ended-skipped, ended-start}
+use Rattle.covering_sites.specs.Ended.{Ended, Replaced, behindEnded}
 use Rattle.definitions.specs.Checked.{Checked, accepted, refused}
 use Rattle.definitions.specs.CombinedList.{recordIntervals}
 use Rattle.definitions.specs.CoveringSites.{coveringSites}
@@ -33,7 +35,7 @@ use Rattle.record_laws.proofs.Coalescing.{at-end, at-end-pending}
 use Rattle.record_laws.proofs.Walking.{here, recordsFrom, walk-end, walk-start, walk-turn, withInterval}
 use Rattle.record_laws.specs.Pending.{finish, mergedContig}
 use Rattle.contig_walk.proofs.LaidRecords.{contig-named}
-use Rattle.contig_walk.specs.Laying.{TurnReady, Turns}
+use Rattle.contig_walk.specs.Laying.{TurnReady, TurnRoom, Turns}
 use Rattle.contig_walk.specs.Walk.{ContigWalked, WalkReady}
 use Rattle.contig_walk.specs.declared.Turned.the-variants as turned
 use Rattle.contig_walk.specs.declared.Walked.the-variants as walked
@@ -76,9 +78,26 @@ module _ {s rows : List ℕ} {samples : ℕ} {clipped : Bool} {clip : List ℕ} 
       (intervals-sound (on .loaded .input) (on .loaded .sound) contig)
 
   -- a breakpoint is past the one before it, and so at least 1
-  pub next-place : (k : ℕ) → k + 1 < length places → 1 ≤ getD places (k + 1) 0
+  past-place : (k : ℕ) → k + 1 < length places → getD places k 0 < getD places (k + 1) 0
   unfolding breakpoints
-  next-place k more = let h = ascends places k (subst (Pairwise _<_) (sym (ready .all-places)) (ascending-numbers _)) more in omega arith
+  past-place k more = ascends places k (subst (Pairwise _<_) (sym (ready .all-places)) (ascending-numbers _)) more
+
+  pub next-place : (k : ℕ) → k + 1 < length places → 1 ≤ getD places (k + 1) 0
+  next-place k more = omega (arith, past-place k more)
+
+  -- ---- where the searches begin
+
+  pub search-start : {from₀ from : List ℕ} → samples ≤ length from₀ → Replaced from₀ from samples (λ x. getD bounds x 0)
+      → Ended rows chosen bounds from samples (getD places 0 0)
+  search-start = ended-start (ready .runs .in-runs .bounded)
+
+  module _ (k : ℕ) {from₀ from : List ℕ} (e : Ended rows chosen bounds from₀ samples (getD places k 0)) (first : ℕ) (f : first ≡ getD places k 0)
+      (r : Replaced from₀ from samples (λ x. behindEnded rows chosen first (getD from₀ x 0) (getD bounds (x + 1) 0))) where
+    pub search-here : Ended rows chosen bounds from samples first
+    search-here = ended-skipped (rw f e) r
+
+    pub search-later : k + 1 < length places → Ended rows chosen bounds from samples (getD places (k + 1) 0)
+    search-later more = ended-later (omega (arith, past-place k more)) search-here
 
   module _ (d₀ bytes : List ℕ) (records : ℕ) where
     bytes-are : (done laid : List Record) → bytes ++ flatMap printedRecord (done ++ laid) ≡ bytes ++ flatMap printedRecord done ++ flatMap printedRecord laid
@@ -153,12 +172,14 @@ module _ {s rows : List ℕ} {samples : ℕ} {clipped : Bool} {clip : List ℕ} 
       end-fits = holds-fits s rows samples reference contig held (state .pending) (w .waiting) (state .at) (w .holds) (on .loaded .few)
           (contig-named on .not-too-long) (omega (arith, w .progress .measured .at-is))
 
-      unfoldable pub turn-ready : (first last : ℕ) → k + 1 < length places → first ≡ getD places k 0 → last ≡ getD places (k + 1) 0 - 1 → 8192 ≤ length held
-          → TurnReady s rows samples clipped clip lent reference contig chosen bounds first last (state .pending) held (state .at)
-      turn-ready first last more f l room = record {
+      unfoldable pub turn-ready : {from fresh found alts : List ℕ} (first last : ℕ) → k + 1 < length places → first ≡ getD places k 0 → last ≡ getD places (k + 1) 0 - 1
+          → Ended rows chosen bounds from samples first → TurnRoom samples held fresh found alts
+          → TurnReady s rows samples clipped clip lent reference contig chosen from bounds first last (state .pending) held fresh found alts (state .at)
+      turn-ready first last more f l ended room = record {
         runs = ready .runs;
         clip-given = ready .clip-given;
         sound = λ inside covered. rw (f, l) (interval-sound k more (rw (f, l) at inside) (rw f at covered));
+        ended = ended;
         fits = end-fits;
         room = room;
       }

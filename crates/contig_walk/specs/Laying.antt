@@ -9,6 +9,7 @@ use Rattle.coalescing.specs.Held.{Holds, PendingFits}
 use Rattle.coalescing.specs.Steps.{Progress}
 use Rattle.coalescing.specs.declared.Pending.{Pending}
 use Rattle.coalescing.specs.declared.Stepped.{Stepped}
+use Rattle.covering_sites.specs.Ended.{Ended}
 use Rattle.definitions.specs.Checked.{Checked, refused}
 use Rattle.definitions.specs.ClipAndReference.{LetterChoice}
 use Rattle.definitions.specs.CombinedList.{Input}
@@ -18,7 +19,7 @@ use Rattle.definitions.specs.Numbers.{maxNumber}
 use Rattle.definitions.specs.Printed.{printedRecord}
 use Rattle.definitions.specs.Records.{Record, endOf}
 use Rattle.merged_records.proofs.Records.{recordAlleles, recordData}
-use Rattle.merged_records.specs.Found.{RecordTo}
+use Rattle.merged_records.specs.Found.{RecordRoom, RecordTo}
 use Rattle.laws.proofs.IntervalsSound.{SoundInterval}
 use Rattle.merged_records.specs.Loaded.{ContigRuns, OnContig}
 use Rattle.merged_ref.specs.declared.RefAt.{RefAt}
@@ -30,7 +31,7 @@ use Rattle.contig_walk.specs.declared.Turned.the-variants as turned
 
 -- the record was found, its interval is sound, and what is held back can be laid
 pub record LayReady (s rows : List ℕ) (samples : ℕ) (reference contig : List ℕ) (first last : ℕ) (place : RefAt) (number : ℕ) (found alts : List ℕ)
-    (pending : Pending) (held : List ℕ) (at : ℕ) : Type 0 where
+    (pending : Pending) (held fresh : List ℕ) (at : ℕ) : Type 0 where
   pub lent : Bool
   pub on : OnContig s rows samples lent reference contig
   pub sites : ℕ
@@ -39,11 +40,12 @@ pub record LayReady (s rows : List ℕ) (samples : ℕ) (reference contig : List
   pub in-range : last ≤ maxNumber
   pub fits : PendingFits s rows reference contig held pending at
   pub room : 8192 ≤ length held
+  pub fresh-room : 8192 ≤ length fresh
 
 module _ {s rows : List ℕ} {samples : ℕ} {reference contig : List ℕ} {first last : ℕ} {place : RefAt} {number : ℕ} {found alts : List ℕ}
-    {pending : Pending} {held : List ℕ} {at : ℕ} where
+    {pending : Pending} {held fresh : List ℕ} {at : ℕ} where
   -- the record
-  abbrev pub laidRecord : LayReady s rows samples reference contig first last place number found alts pending held at → Record
+  abbrev pub laidRecord : LayReady s rows samples reference contig first last place number found alts pending held fresh at → Record
   laidRecord r = record {
     contig = contig;
     pos = first;
@@ -52,15 +54,22 @@ module _ {s rows : List ℕ} {samples : ℕ} {reference contig : List ℕ} {firs
     sampleData = recordData (r .on) first (r .to);
   }
 
--- what a turn of the walk is lent: the contig, the clip, an interval that is sound if it has a record, and what is held back
-pub record TurnReady (s rows : List ℕ) (samples : ℕ) (clipped : Bool) (clip : List ℕ) (lent : Bool) (reference contig chosen bounds : List ℕ)
-    (first last : ℕ) (pending : Pending) (held : List ℕ) (at : ℕ) : Type 0 where
+-- the lists that a turn of the walk fills are long enough
+pub record TurnRoom (samples : ℕ) (held fresh found alts : List ℕ) : Type 0 where
+  pub for-held : 8192 ≤ length held
+  pub for-fresh : 8192 ≤ length fresh
+  pub for-record : RecordRoom samples found alts
+
+-- what a turn of the walk is lent: the contig, the clip, an interval that is sound if it has a record, where the searches begin, and what is held back
+pub record TurnReady (s rows : List ℕ) (samples : ℕ) (clipped : Bool) (clip : List ℕ) (lent : Bool) (reference contig chosen from bounds : List ℕ)
+    (first last : ℕ) (pending : Pending) (held fresh found alts : List ℕ) (at : ℕ) : Type 0 where
   pub runs : ContigRuns s rows samples lent reference contig chosen bounds
   pub clip-given : ClipGiven clipped clip (runs .on .loaded .input)
   pub sound : inClip contig (runs .on .loaded .input .clip) (record { first = first; last = last }) ≡ true
       → 0 < length (coveringSites (runs .on .loaded .input .cohort) contig first) → SoundInterval (record { first = first; last = last })
+  pub ended : Ended rows chosen bounds from samples first
   pub fits : PendingFits s rows reference contig held pending at
-  pub room : 8192 ≤ length held
+  pub room : TurnRoom samples held fresh found alts
 
 -- the records that are laid now, and the one that waits: all goes on with them as it would have gone on with the interval
 pub record TurnTo (x : Input) (choose : LetterChoice) (s rows : List ℕ) (samples : ℕ) (reference contig held out : List ℕ) (first last : ℕ)

@@ -1,5 +1,8 @@
 // The intervals of a contig one after the other: their records, coalesced and laid.
 ghost use Prim.Native.Nat.{ℕ};
+ghost use lib.Dec.{eqb};
+ghost use lib.ListN.{length};
+ghost use mathlib.Core.Bool.{_&&_, true};
 ghost use mathlib.Core.List.{List};
 ghost use mathlib.Core.Option.{Option};
 ghost use mathlib.Core.Path.{_≡_};
@@ -9,8 +12,8 @@ ghost use Rattle.definitions.specs.Alleles.{isBlock};
 ghost use Rattle.definitions.specs.CombinedList.{Input};
 ghost use Rattle.definitions.specs.Intervals.{inClip};
 ghost use Rattle.definitions.specs.Records.{Record};
-ghost use mathlib.Core.Bool.{true};
 ghost use Rattle.merged_records.specs.Loaded.{chosenLetters};
+ghost use Rattle.merged_ref.specs.Answers.{refBytes};
 ghost use Rattle.contig_walk.specs.Laying.{LayReady, TurnReady, Turns, laidRecord};
 ghost use Rattle.contig_walk.specs.Walk.{Begun, ClipGiven, ContigWalked, WalkReady};
 use bio_ids::GenomePosition;
@@ -40,30 +43,20 @@ fn lay_block<'a>(
     alts: &[u8],
     pending: Pending,
     held: &mut [u8],
+    fresh: &mut [u8],
     out: &mut [u8],
     at: usize,
     count: usize,
 ) -> Stepped
-    requires { ⌜ ((r : LayReady (now s) (now rows) samples (now reference) (now contig) (first .0) (last .0) place number (now found) (now alts) pending (now held) at) × (isBlock (laidRecord r .alleles) ≡ true)) ⌝ }
-    ensures { λ r. ⌜ ((ready : LayReady (now (s .entry)) (now (rows .entry)) samples (now (reference .entry)) (now (contig .entry)) (first .0) (last .0) place number (now (found .entry)) (now (alts .entry)) pending (now (held .entry)) at)
+    requires { ⌜ ((r : LayReady (now s) (now rows) samples (now reference) (now contig) (first .0) (last .0) place number (now found) (now alts) pending (now held) (now fresh) at) × (isBlock (laidRecord r .alleles) ≡ true)) ⌝ }
+    ensures { λ r. ⌜ ((ready : LayReady (now (s .entry)) (now (rows .entry)) samples (now (reference .entry)) (now (contig .entry)) (first .0) (last .0) place number (now (found .entry)) (now (alts .entry)) pending (now (held .entry)) (now (fresh .entry)) at)
         (block : isBlock (laidRecord ready .alleles) ≡ true) (waiting : Option Record) (d₀ bytes : List ℕ) (records : ℕ)
         → Holds (now (s .entry)) (now (rows .entry)) samples (now (reference .entry)) (now (contig .entry)) (now (held .entry)) pending waiting
         → Progress d₀ bytes records (now (out .entry)) at count
         → StepTo (now (s .entry)) (now (rows .entry)) samples (now (reference .entry)) (now (contig .entry)) (now (held .exit)) (now (out .exit)) waiting (laidRecord ready) d₀ bytes records r) ⌝ }
 {
-    let mut fresh = [0u8; 8192];
     let allele = merged_ref::ref_bytes(s, rows, reference, place);
-    let len = record_lines::put_samples(
-        s,
-        rows,
-        samples,
-        found,
-        first,
-        allele,
-        alts,
-        &mut fresh,
-        0,
-    );
+    let len = record_lines::put_samples(s, rows, samples, found, first, allele, alts, fresh, 0);
     coalescing::step_block(
         s,
         rows,
@@ -81,6 +74,23 @@ fn lay_block<'a>(
     )
 }
 
+// Whether a record with this REF and so many ALTs is a block: REF is one letter, and the only ALT is <NON_REF>.
+fn is_block<'a>(
+    s: &'a [u8],
+    rows: &[usize],
+    reference: &'a [u8],
+    place: RefAt,
+    number: usize,
+) -> bool
+    ensures { λ r. ⌜ r ≡ (eqb number 1 && eqb (length (refBytes (now (s .entry)) (now (rows .entry)) (now (reference .entry)) place)) 1) ⌝ }
+{
+    if number != 1 {
+        return false;
+    }
+    let allele = merged_ref::ref_bytes(s, rows, reference, place);
+    allele.len() == 1
+}
+
 // Lays the record of an interval behind the one that is held back, or joins it to that one, or holds it.
 fn lay_record<'a>(
     s: &'a [u8],
@@ -96,64 +106,47 @@ fn lay_record<'a>(
     alts: &[u8],
     pending: Pending,
     held: &mut [u8],
+    fresh: &mut [u8],
     out: &mut [u8],
     at: usize,
     count: usize,
 ) -> Stepped
-    requires { ⌜ LayReady (now s) (now rows) samples (now reference) (now contig) (first .0) (last .0) place number (now found) (now alts) pending (now held) at ⌝ }
-    ensures { λ r. ⌜ ((ready : LayReady (now (s .entry)) (now (rows .entry)) samples (now (reference .entry)) (now (contig .entry)) (first .0) (last .0) place number (now (found .entry)) (now (alts .entry)) pending (now (held .entry)) at)
+    requires { ⌜ LayReady (now s) (now rows) samples (now reference) (now contig) (first .0) (last .0) place number (now found) (now alts) pending (now held) (now fresh) at ⌝ }
+    ensures { λ r. ⌜ ((ready : LayReady (now (s .entry)) (now (rows .entry)) samples (now (reference .entry)) (now (contig .entry)) (first .0) (last .0) place number (now (found .entry)) (now (alts .entry)) pending (now (held .entry)) (now (fresh .entry)) at)
         (waiting : Option Record) (d₀ bytes : List ℕ) (records : ℕ)
         → Holds (now (s .entry)) (now (rows .entry)) samples (now (reference .entry)) (now (contig .entry)) (now (held .entry)) pending waiting
         → Progress d₀ bytes records (now (out .entry)) at count
         → StepTo (now (s .entry)) (now (rows .entry)) samples (now (reference .entry)) (now (contig .entry)) (now (held .exit)) (now (out .exit)) waiting (laidRecord ready) d₀ bytes records r) ⌝ }
 {
-    if number != 1 {
-        return coalescing::step_record(
+    if is_block(s, rows, reference, place, number) {
+        return lay_block(
             s,
             rows,
             samples,
             reference,
             contig,
             first,
+            last,
             place,
+            number,
             found,
             alts,
             pending,
             held,
+            fresh,
             out,
             at,
             count,
         );
     }
-    let allele = merged_ref::ref_bytes(s, rows, reference, place);
-    if allele.len() != 1 {
-        return coalescing::step_record(
-            s,
-            rows,
-            samples,
-            reference,
-            contig,
-            first,
-            place,
-            found,
-            alts,
-            pending,
-            held,
-            out,
-            at,
-            count,
-        );
-    }
-    lay_block(
+    coalescing::step_record(
         s,
         rows,
         samples,
         reference,
         contig,
         first,
-        last,
         place,
-        number,
         found,
         alts,
         pending,
@@ -197,17 +190,21 @@ fn walk_interval<'a>(
     reference: &'a [u8],
     contig: &[u8],
     chosen: &[usize],
+    from: &[usize],
     bounds: &[usize],
     first: GenomePosition,
     last: GenomePosition,
     pending: Pending,
     held: &mut [u8],
+    fresh: &mut [u8],
+    found: &mut [usize],
+    alts: &mut [u8],
     out: &mut [u8],
     at: usize,
     count: usize,
 ) -> Turned
-    requires { ⌜ TurnReady (now s) (now rows) samples clipped (now clip) lent (now reference) (now contig) (now chosen) (now bounds) (first .0) (last .0) pending (now held) at ⌝ }
-    ensures { λ r. ⌜ ((ready : TurnReady (now (s .entry)) (now (rows .entry)) samples clipped (now (clip .entry)) lent (now (reference .entry)) (now (contig .entry)) (now (chosen .entry)) (now (bounds .entry)) (first .0) (last .0) pending (now (held .entry)) at)
+    requires { ⌜ TurnReady (now s) (now rows) samples clipped (now clip) lent (now reference) (now contig) (now chosen) (now from) (now bounds) (first .0) (last .0) pending (now held) (now fresh) (now found) (now alts) at ⌝ }
+    ensures { λ r. ⌜ ((ready : TurnReady (now (s .entry)) (now (rows .entry)) samples clipped (now (clip .entry)) lent (now (reference .entry)) (now (contig .entry)) (now (chosen .entry)) (now (from .entry)) (now (bounds .entry)) (first .0) (last .0) pending (now (held .entry)) (now (fresh .entry)) (now (found .entry)) (now (alts .entry)) at)
         (waiting : Option Record) (d₀ bytes : List ℕ) (records : ℕ)
         → Holds (now (s .entry)) (now (rows .entry)) samples (now (reference .entry)) (now (contig .entry)) (now (held .entry)) pending waiting
         → Progress d₀ bytes records (now (out .entry)) at count
@@ -217,8 +214,6 @@ fn walk_interval<'a>(
     if !kept(clipped, clip, contig, first, last) {
         return Turned::To(same);
     }
-    let mut found = [0usize; 64];
-    let mut alts = [0u8; 4096];
     let here = merged_records::record_at(
         s,
         rows,
@@ -227,16 +222,17 @@ fn walk_interval<'a>(
         reference,
         contig,
         chosen,
+        from,
         bounds,
         first,
-        &mut found,
-        &mut alts,
+        found,
+        alts,
     );
     match here {
         RecordAt::NoSites => Turned::To(same),
         RecordAt::Refused(row) => Turned::Refused(row),
         RecordAt::Record(n, place, len, number) => {
-            let text = tables::part(&alts, 0, len);
+            let text = tables::part(alts, 0, len);
             let step = lay_record(
                 s,
                 rows,
@@ -251,6 +247,7 @@ fn walk_interval<'a>(
                 text,
                 pending,
                 held,
+                fresh,
                 out,
                 at,
                 count,
@@ -283,6 +280,11 @@ pub fn walk_contig<'a>(
         → ContigWalked (ready .runs .on .loaded .input) (chosenLetters (ready .runs .on .loaded)) (now (contig .entry)) d₀ bytes records (now (out .exit)) r) ⌝ }
 {
     let mut held = [0u8; 8192];
+    let mut fresh = [0u8; 8192];
+    let mut found = [0usize; 64];
+    let mut alts = [0u8; 4096];
+    let mut from = [0usize; 64];
+    covering_sites::start_search(bounds, samples, &mut from);
     let mut state = Stepped {
         pending: Pending::Nothing,
         at,
@@ -292,6 +294,7 @@ pub fn walk_contig<'a>(
     while k + 1 < places.len() {
         let first = GenomePosition::new_1based(places[k]);
         let last = GenomePosition::new_1based(places[k + 1] - 1);
+        covering_sites::skip_ended(rows, chosen, bounds, samples, first, &mut from);
         let pending = state.pending;
         let turn = walk_interval(
             s,
@@ -303,11 +306,15 @@ pub fn walk_contig<'a>(
             reference,
             contig,
             chosen,
+            &from,
             bounds,
             first,
             last,
             pending,
             &mut held,
+            &mut fresh,
+            &mut found,
+            &mut alts,
             out,
             state.at,
             state.count,

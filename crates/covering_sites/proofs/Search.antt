@@ -20,13 +20,13 @@ use Rattle.covering_sites.specs.Runs.{Runs, runAt}
 
 -- ---- one run
 
-part-next : (l : List ℕ) (i to : ℕ) → i < to → to ≤ length l → between l i to ≡ getD l i 0 ∷ between l (i + 1) to
+pub part-next : (l : List ℕ) (i to : ℕ) → i < to → to ≤ length l → between l i to ≡ getD l i 0 ∷ between l (i + 1) to
 part-next l i to h k =
     let n : to - i ≡ suc (to - (i + 1)) = omega arith in
     let b : i < length l = omega arith in
     rw (n, drop-cons l i 0 b, ← add-one i)
 
-part-end : (l : List ℕ) (i to : ℕ) → to ≤ i → between l i to ≡ []
+pub part-end : (l : List ℕ) (i to : ℕ) → to ≤ i → between l i to ≡ []
 part-end l i to h = let n : to - i ≡ 0 = omega arith in rw n
 
 module _ (q : ℕ → Bool) (chosen : List ℕ) (from to : ℕ) where

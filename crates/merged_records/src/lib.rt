@@ -1,6 +1,7 @@
 // The record at a position: the sites that cover it, REF and the ALTs, in lists that the caller lends.
 ghost use Prim.Native.Nat.{_≤_};
 ghost use lib.ListN.{length, take};
+ghost use Rattle.covering_sites.specs.Ended.{Ended};
 ghost use Rattle.merged_alleles.specs.SoundSites.{SoundSites};
 ghost use Rattle.merged_ref.specs.Answers.{refBytes};
 ghost use Rattle.merged_records.specs.Found.{AltsFound, Over, RecordFound, RecordRoom};
@@ -69,7 +70,8 @@ fn record_over<'a>(
     }
 }
 
-// The record of a contig at a position, from the contig's sites in runs by sample.
+// The record of a contig at a position, from the contig's sites in runs by sample, each searched from a place behind sites that ended
+// before the position.
 pub fn record_at<'a>(
     s: &'a [u8],
     rows: &[usize],
@@ -78,16 +80,17 @@ pub fn record_at<'a>(
     reference: &'a [u8],
     contig: &[u8],
     chosen: &[usize],
+    from: &[usize],
     bounds: &[usize],
     position: GenomePosition,
     found: &mut [usize],
     alts: &mut [u8],
 ) -> RecordAt
-    requires { ⌜ ContigRuns (now s) (now rows) samples lent (now reference) (now contig) (now chosen) (now bounds) × RecordRoom samples (now found) (now alts) ⌝ }
+    requires { ⌜ ContigRuns (now s) (now rows) samples lent (now reference) (now contig) (now chosen) (now bounds) × RecordRoom samples (now found) (now alts) × Ended (now rows) (now chosen) (now bounds) (now from) samples (position .0) ⌝ }
     ensures { λ r. ⌜ ((at : ContigRuns (now (s .entry)) (now (rows .entry)) samples lent (now (reference .entry)) (now (contig .entry)) (now (chosen .entry)) (now (bounds .entry)))
         → RecordFound (at .on) (position .0) (λ n. take n (now (found .exit))) (now (alts .exit)) r) ⌝ }
 {
-    let n = covering_sites::covering_sites(rows, chosen, bounds, samples, position, found);
+    let n = covering_sites::covering_sites(rows, chosen, from, bounds, samples, position, found);
     if n == 0 {
         return RecordAt::NoSites;
     }

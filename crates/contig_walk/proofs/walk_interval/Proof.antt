@@ -14,14 +14,8 @@ kept-requires c κs = search needs
 returns : tie.Need-returns
 returns c = λ ready waiting d₀ bytes records h p. turn-clipped ready waiting d₀ bytes records h (sym ((c .before .kept .ensures) _ (ready .clip-given)) ∙ not-true _ (c .if1 .taken)) _ _ p
 
-slice-aggregate-record-at : tie.Need-slice-aggregate-record-at
-slice-aggregate-record-at c = search needs
-
-slice-aggregate-record-at-2 : tie.Need-slice-aggregate-record-at-2
-slice-aggregate-record-at-2 c = search needs
-
 record-at-requires : tie.Need-record-at-requires
-record-at-requires c κs = ((c .before .before .before .before .before .before .before .before .before .before .before .before .before .pre .runs), record { for-sites = omega (arith, (c .before .before .before .before .before .before .before .before .before .before .before .before .before .pre .runs .on .loaded .few)); for-alts = omega arith })
+record-at-requires c κs = ((c .before .before .before .before .before .before .before .before .before .before .before .before .before .before .before .before .before .pre .runs), (c .before .before .before .before .before .before .before .before .before .before .before .before .before .before .before .before .before .pre .room .for-record), (c .before .before .before .before .before .before .before .before .before .before .before .before .before .before .before .before .before .pre .ended))
 
 enum-told : tie.Need-enum-told
 enum-told c = search needs
@@ -32,33 +26,21 @@ enum-known-here c = search needs
 enum-known-here-2 : tie.Need-enum-known-here-2
 enum-known-here-2 c = search needs
 
-slice-aggregate-part : tie.Need-slice-aggregate-part
-slice-aggregate-part c = search needs
-
 part-requires : tie.Need-part-requires
 part-requires c κs = search needs
 
-array-share-prefix-found : tie.Need-array-share-prefix-found
+slice-reshare-prefix-lay-record : tie.Need-slice-reshare-prefix-lay-record
 unfolding RecordFound
-array-share-prefix-found c = let f = rw ((c .before .before .before .here2 .given .1)) at ((c .before .before .before .before .before .before .before .record-at .ensures) ((c .before .before .before .before .before .before .before .before .before .before .before .before .before .before .before .before .before .before .before .before .before .pre .runs))) in front-within _ (f .all)
+slice-reshare-prefix-lay-record c = let f = rw (c .before .before .before .here2 .given .1) at ((c .before .before .before .before .before .before .before .before .before .record-at .ensures) (c .before .before .before .before .before .before .before .before .before .before .before .before .before .before .before .before .before .before .before .before .before .before .before .before .before .before .before .pre .runs)) in front-within _ (f .all)
 
 slice-aggregate-lay-record : tie.Need-slice-aggregate-lay-record
 unfolding RecordFound
-slice-aggregate-lay-record c = let f = rw ((c .before .before .before .before .here2 .given .1)) at ((c .before .before .before .before .before .before .before .before .record-at .ensures) ((c .before .before .before .before .before .before .before .before .before .before .before .before .before .before .before .before .before .before .before .before .before .before .pre .runs))) in f .all
+slice-aggregate-lay-record c = let f = rw (c .before .before .before .before .here2 .given .1) at ((c .before .before .before .before .before .before .before .before .before .before .record-at .ensures) (c .before .before .before .before .before .before .before .before .before .before .before .before .before .before .before .before .before .before .before .before .before .before .before .before .before .before .before .before .pre .runs)) in f .all
 
 lay-record-requires : tie.Need-lay-record-requires
 unfolding RecordFound
-lay-record-requires c κs = let f = rw ((c .before .before .before .before .before .before .here2 .given .1)) at ((c .before .before .before .before .before .before .before .before .before .before .record-at .ensures) ((c .before .before .before .before .before .before .before .before .before .before .before .before .before .before .before .before .before .before .before .before .before .before .before .before .pre .runs))) in
-    lay-ready (c .before .before .before .before .before .before .before .before .before .before .before .before .before .before .before .before .before .before .before .before .before .before .before .before .pre) (sym ((c .before .before .before .before .before .before .before .before .before .before .before .before .before .before .kept .ensures) _ ((c .before .before .before .before .before .before .before .before .before .before .before .before .before .before .before .before .before .before .before .before .before .before .before .before .pre .clip-given))) ∙ not-false _ (c .before .before .before .before .before .before .before .before .before .before .before .before .before .if1 .left)) _ _ _ _ _ _ f _ ((c .before .before .before .part .ensures))
-
-returns-2 : tie.Need-returns-2
-unfolding RecordFound
-returns-2 c = λ ready waiting d₀ bytes records h p. turn-bare ready waiting d₀ bytes records h (sym ((c .before .before .before .before .before .before .before .before .kept .ensures) _ (ready .clip-given)) ∙ not-false _ (c .before .before .before .before .before .before .before .if1 .left)) (rw ((c .enum-told .given .1)) at ((c .before .before .before .before .record-at .ensures) (ready .runs))) _ _ p
-
-returns-3 : tie.Need-returns-3
-unfolding RecordFound
-returns-3 c = λ ready waiting d₀ bytes records h p. let f = rw ((c .before .here .given .1)) at ((c .before .before .before .before .before .record-at .ensures) (ready .runs)) in
-    turn-none ready waiting d₀ bytes records h (sym ((c .before .before .before .before .before .before .before .before .before .kept .ensures) _ (ready .clip-given)) ∙ not-false _ (c .before .before .before .before .before .before .before .before .if1 .left)) _ (f .0) (f .1) _
+lay-record-requires c κs = let f = rw (c .before .before .before .before .before .before .before .here2 .given .1) at ((c .before .before .before .before .before .before .before .before .before .before .before .before .before .record-at .ensures) (c .before .before .before .before .before .before .before .before .before .before .before .before .before .before .before .before .before .before .before .before .before .before .before .before .before .before .before .before .before .before .before .pre .runs)) in
+    lay-ready (c .before .before .before .before .before .before .before .before .before .before .before .before .before .before .before .before .before .before .before .before .before .before .before .before .before .before .before .before .before .before .before .pre) (sym ((c .before .before .before .before .before .before .before .before .before .before .before .before .before .before .before .before .before .kept .ensures) _ (c .before .before .before .before .before .before .before .before .before .before .before .before .before .before .before .before .before .before .before .before .before .before .before .before .before .before .before .before .before .before .before .pre .clip-given)) ∙ not-false _ (c .before .before .before .before .before .before .before .before .before .before .before .before .before .before .before .before .if1 .left)) _ _ _ _ _ _ f _ (c .before .before .before .before .part .ensures)
 
 same-length : tie.Need-same-length
 same-length c = search needs
@@ -66,11 +48,41 @@ same-length c = search needs
 same-length-2 : tie.Need-same-length-2
 same-length-2 c = search needs
 
+returns-2 : tie.Need-returns-2
+unfolding RecordFound
+returns-2 c = λ ready waiting d₀ bytes records h p. turn-bare ready waiting d₀ bytes records h (sym ((c .before .before .before .before .before .before .before .before .before .before .kept .ensures) _ (ready .clip-given)) ∙ not-false _ (c .before .before .before .before .before .before .before .before .before .if1 .left)) (rw (c .enum-told .given .1) at ((c .before .before .before .before .before .before .record-at .ensures) (ready .runs))) _ _ p
+
+same-length-3 : tie.Need-same-length-3
+same-length-3 c = search needs
+
+same-length-4 : tie.Need-same-length-4
+same-length-4 c = search needs
+
+returns-3 : tie.Need-returns-3
+unfolding RecordFound
+returns-3 c = λ ready waiting d₀ bytes records h p. let f = rw (c .before .here .given .1) at ((c .before .before .before .before .before .before .before .record-at .ensures) (ready .runs)) in
+    turn-none ready waiting d₀ bytes records h (sym ((c .before .before .before .before .before .before .before .before .before .before .before .kept .ensures) _ (ready .clip-given)) ∙ not-false _ (c .before .before .before .before .before .before .before .before .before .before .if1 .left)) _ (f .0) (f .1) _
+
+same-length-5 : tie.Need-same-length-5
+same-length-5 c = search needs
+
+same-length-6 : tie.Need-same-length-6
+same-length-6 c = search needs
+
+same-length-7 : tie.Need-same-length-7
+same-length-7 c = search needs
+
+same-length-8 : tie.Need-same-length-8
+same-length-8 c = search needs
+
+same-length-9 : tie.Need-same-length-9
+same-length-9 c = search needs
+
 returns-4 : tie.Need-returns-4
 unfolding RecordFound
-returns-4 c = λ ready waiting d₀ bytes records h p. let f = rw ((c .before .before .before .before .before .before .before .before .before .before .before .here2 .given .1)) at ((c .before .before .before .before .before .before .before .before .before .before .before .before .before .before .before .record-at .ensures) (ready .runs)) in
-    let inside = sym ((c .before .before .before .before .before .before .before .before .before .before .before .before .before .before .before .before .before .before .before .kept .ensures) _ (ready .clip-given)) ∙ not-false _ (c .before .before .before .before .before .before .before .before .before .before .before .before .before .before .before .before .before .before .if1 .left) in
-    turn-laid ready waiting d₀ bytes records h inside _ _ _ _ _ _ f _ ((c .before .before .before .before .before .before .before .before .part .ensures)) _ _ _ ((c .before .before .before .before .lay-record .ensures) (lay-ready ready inside _ _ _ _ _ _ f _ ((c .before .before .before .before .before .before .before .before .part .ensures))) waiting d₀ bytes records h p)
+returns-4 c = λ ready waiting d₀ bytes records h p. let f = rw (c .before .before .before .before .before .before .before .before .before .before .before .before .before .before .here2 .given .1) at ((c .before .before .before .before .before .before .before .before .before .before .before .before .before .before .before .before .before .before .before .before .record-at .ensures) (ready .runs)) in
+    let inside = sym ((c .before .before .before .before .before .before .before .before .before .before .before .before .before .before .before .before .before .before .before .before .before .before .before .before .kept .ensures) _ (ready .clip-given)) ∙ not-false _ (c .before .before .before .before .before .before .before .before .before .before .before .before .before .before .before .before .before .before .before .before .before .before .before .if1 .left) in
+    turn-laid ready waiting d₀ bytes records h inside _ _ _ _ _ _ f _ (c .before .before .before .before .before .before .before .before .before .before .before .part .ensures) _ _ _ ((c .before .before .before .before .before .before .lay-record .ensures) (lay-ready ready inside _ _ _ _ _ _ f _ (c .before .before .before .before .before .before .before .before .before .before .before .part .ensures)) waiting d₀ bytes records h p)
 
 pub walk-interval-spec : {M : Type 1} → statement M
 walk-interval-spec =
@@ -78,19 +90,23 @@ walk-interval-spec =
     (tie.spec
     kept-requires
     returns
-    slice-aggregate-record-at
-    slice-aggregate-record-at-2
     record-at-requires
     enum-told
     enum-known-here
     enum-known-here-2
-    slice-aggregate-part
     part-requires
-    array-share-prefix-found
+    slice-reshare-prefix-lay-record
     slice-aggregate-lay-record
     lay-record-requires
-    returns-2
-    returns-3
     same-length
     same-length-2
+    returns-2
+    same-length-3
+    same-length-4
+    returns-3
+    same-length-5
+    same-length-6
+    same-length-7
+    same-length-8
+    same-length-9
     returns-4)

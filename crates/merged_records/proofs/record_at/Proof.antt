@@ -6,7 +6,7 @@ use Rattle.merged_records.proofs.record_at.Statement.{statement}
 use Rattle.merged_records.proofs.record_at.Tie as tie
 
 covering-sites-requires : tie.Need-covering-sites-requires
-covering-sites-requires c κs = ((c .before .before .before .before .before .before .before .before .before .pre .0 .in-runs .bounded), (c .before .before .before .before .before .before .before .before .before .pre .1 .for-sites))
+covering-sites-requires c κs = ((c .before .before .before .before .before .before .before .before .before .before .pre .0 .in-runs .bounded), ((c .before .before .before .before .before .before .before .before .before .before .pre .2), (c .before .before .before .before .before .before .before .before .before .before .pre .1 .for-sites)))
 
 same-length : tie.Need-same-length
 same-length c = search needs
@@ -16,13 +16,13 @@ unfolding RecordFound
 returns c = λ at. let f = (c .before .before .before .covering-sites .ensures) _ (at .in-runs) in none-covering (at .on) _ _ (c .if1 .taken) (f .count)
 
 slice-reshare-prefix-record-over : tie.Need-slice-reshare-prefix-record-over
-slice-reshare-prefix-record-over c = fits-in ((c .before .before .before .before .before .before .before .before .before .before .before .before .before .pre .0 .on)) _ _ _ _ ((c .before .before .before .before .before .before .before .before .before .before .before .before .before .pre .1 .for-sites)) ((c .before .before .before .covering-sites .ensures) _ ((c .before .before .before .before .before .before .before .before .before .before .before .before .before .pre .0 .in-runs))) ((c .before .before .before .covering-sites .kept .1 .1 .1 .1 .1 .0))
+slice-reshare-prefix-record-over c = fits-in (c .before .before .before .before .before .before .before .before .before .before .before .before .before .before .pre .0 .on) _ _ _ _ (c .before .before .before .before .before .before .before .before .before .before .before .before .before .before .pre .1 .for-sites) ((c .before .before .before .covering-sites .ensures) _ (c .before .before .before .before .before .before .before .before .before .before .before .before .before .before .pre .0 .in-runs)) (c .before .before .before .covering-sites .kept .1 .1 .1 .1 .1 .1 .0)
 
 slice-aggregate-record-over : tie.Need-slice-aggregate-record-over
-slice-aggregate-record-over c = exactly ((c .before .before .before .before .before .before .before .before .before .before .before .before .before .before .pre .0 .on)) _ _ _ _ ((c .before .before .before .before .before .before .before .before .before .before .before .before .before .before .pre .1 .for-sites)) ((c .before .before .before .before .covering-sites .ensures) _ ((c .before .before .before .before .before .before .before .before .before .before .before .before .before .before .pre .0 .in-runs))) ((c .before .before .before .before .covering-sites .kept .1 .1 .1 .1 .1 .0))
+slice-aggregate-record-over c = exactly (c .before .before .before .before .before .before .before .before .before .before .before .before .before .before .before .pre .0 .on) _ _ _ _ (c .before .before .before .before .before .before .before .before .before .before .before .before .before .before .before .pre .1 .for-sites) ((c .before .before .before .before .covering-sites .ensures) _ (c .before .before .before .before .before .before .before .before .before .before .before .before .before .before .before .pre .0 .in-runs)) (c .before .before .before .before .covering-sites .kept .1 .1 .1 .1 .1 .1 .0)
 
 record-over-requires : tie.Need-record-over-requires
-record-over-requires c κs = ((c .before .before .before .before .before .before .before .before .before .before .before .before .before .before .before .pre .1 .for-alts), over-them ((c .before .before .before .before .before .before .before .before .before .before .before .before .before .before .before .pre .0 .on)) _ _ _ _ ((c .before .before .before .before .before .before .before .before .before .before .before .before .before .before .before .pre .1 .for-sites)) ((c .before .before .before .before .before .covering-sites .ensures) _ ((c .before .before .before .before .before .before .before .before .before .before .before .before .before .before .before .pre .0 .in-runs))) (c .before .before .if1 .left))
+record-over-requires c κs = ((c .before .before .before .before .before .before .before .before .before .before .before .before .before .before .before .before .pre .1 .for-alts), over-them (c .before .before .before .before .before .before .before .before .before .before .before .before .before .before .before .before .pre .0 .on) _ _ _ _ (c .before .before .before .before .before .before .before .before .before .before .before .before .before .before .before .before .pre .1 .for-sites) ((c .before .before .before .before .before .covering-sites .ensures) _ (c .before .before .before .before .before .before .before .before .before .before .before .before .before .before .before .before .pre .0 .in-runs)) (c .before .before .if1 .left))
 
 same-length-2 : tie.Need-same-length-2
 same-length-2 c = search needs
@@ -33,7 +33,7 @@ same-length-3 c = search needs
 returns-2 : tie.Need-returns-2
 unfolding over-them
 returns-2 c = λ at. let f = (c .before .before .before .before .before .before .before .before .covering-sites .ensures) _ (at .in-runs) in
-    at-front (at .on) _ _ _ (exactly (at .on) _ _ _ _ ((c .before .before .before .before .before .before .before .before .before .before .before .before .before .before .before .before .before .before .pre .1 .for-sites)) f ((c .before .before .before .before .before .before .before .before .covering-sites .kept .1 .1 .1 .1 .1 .0))) _ _ ((c .before .before .record-over .ensures) (over-them (at .on) _ _ _ _ ((c .before .before .before .before .before .before .before .before .before .before .before .before .before .before .before .before .before .before .pre .1 .for-sites)) f (c .before .before .before .before .before .if1 .left)))
+    at-front (at .on) _ _ _ (exactly (at .on) _ _ _ _ (c .before .before .before .before .before .before .before .before .before .before .before .before .before .before .before .before .before .before .before .pre .1 .for-sites) f (c .before .before .before .before .before .before .before .before .covering-sites .kept .1 .1 .1 .1 .1 .1 .0)) _ _ ((c .before .before .record-over .ensures) (over-them (at .on) _ _ _ _ (c .before .before .before .before .before .before .before .before .before .before .before .before .before .before .before .before .before .before .before .pre .1 .for-sites) f (c .before .before .before .before .before .if1 .left)))
 
 pub record-at-spec : {M : Type 1} → statement M
 record-at-spec =
