@@ -1,6 +1,6 @@
 pub mod Ascending
-pub mod Collecting
 pub mod ContigSites
-pub mod Past
+pub mod Gathering
+pub mod Insertion
 pub mod Rows
 pub mod Spans

@@ -6,16 +6,12 @@ use mathlib.Core.Bool.{Bool, _&&_, _||_, cond, false, true}
 use mathlib.Core.List.{List, [], _++_, _∷_, flatMap}
 use mathlib.Core.Option.{some}
 use mathlib.Core.Path.{_≡_, refl, subst}
-use native.Mathlib.Omega.{arith}
-use Rattle.clip_and_reference.proofs.Groups.{SpansFrom, groupsAt, first-group, no-more, none-faulty}
+use Rattle.clip_and_reference.proofs.Groups.{SpansFrom, first-group, no-more, none-faulty}
 use Rattle.clip_and_reference.specs.Groups.{GroupFaulty, GroupTo}
 use Rattle.definitions.specs.Bytes.{sameBytes}
 use Rattle.definitions.specs.ClipAndReference.{Span, spanOf}
 use Rattle.definitions.specs.Intervals.{Interval, inClip, spanBreakpoints, spansOn}
 use Rattle.definitions.specs.Lists.{anyOf, filterBy}
-use Rattle.laws.proofs.Checked.{each-read-back}
-use Rattle.laws.proofs.Every.{Every, also, every-filter, every-flatMap, every-map, every-of-each, nothing}
-use Rattle.laws.proofs.SoundInput.{SoundSpan, span-sound}
 
 -- ---- spans passed
 
@@ -52,12 +48,6 @@ module _ (clip : List ℕ) {R : List Span → List Span → Type 0} where
     pub rest-end : length clip ≤ at → (spans : List Span) → SpansFrom clip 0 spans → R spans []
     rest-end h spans from = let (rest, f, r) = p .rest spans from in subst (R spans) (no-more spanOf clip f h) r
 
--- every span is in range
-pub spans-sound : (clip : List ℕ) (spans : List Span) → SpansFrom clip 0 spans → Every SoundSpan spans
-unfolding groupsAt
-spans-sound clip spans from =
-    every-of-each (λ before c h. h) (each-read-back (λ before c. SoundSpan c) (λ _. spanOf) [] spans _ (λ before. span-sound) (from .all))
-
 -- ---- what a span gives
 
 module _ (contig : List ℕ) where
@@ -80,13 +70,6 @@ module _ (contig : List ℕ) where
       go : (b : Bool) → flatMap spanBreakpoints (cond b (c ∷ others) others) ≡ cond b (c .start ∷ suc (c .end) ∷ []) [] ++ flatMap spanBreakpoints others
       go true = refl
       go false = refl
-
-  pub spans-from-one : (spans : List Span) → Every SoundSpan spans → Every (λ x. 1 ≤ x) (ofSpans spans)
-  unfolding spansOn spanBreakpoints
-  spans-from-one spans h = every-flatMap spanBreakpoints (every-map each (every-filter _ _ h))
-    where
-      each : (c : Span) → SoundSpan c → Every (λ x. 1 ≤ x) (spanBreakpoints c)
-      each c k = let b : 1 ≤ suc (c .end) = omega arith in also (k .from-one) (also b nothing)
 
   module _ (i : Interval) where
     pub clip-none : inClip contig (some []) i ≡ false
