@@ -1,7 +1,7 @@
 // Runs `combine_gvcfs::combine` over the cases on standard input, and prints what each gave.
 //
-// A case is a line `cohort clip reference lent places room name`, and behind its LF the three texts, with as many bytes as the first three fields
-// say. `lent` is 1 if the clip is lent, 2 if the reference, 3 if both. The call is lent so many places of scratch and so many bytes of output, at
+// A case is a line `cohort clip reference given places room name`, and behind its LF the three texts, with as many bytes as the first three fields
+// say. `given` is 1 if the clip is lent, 2 if the reference, 3 if both. The call is lent so many places of scratch and so many bytes of output, at
 // most 8,192 and 65,536. The input ends at 524,288 bytes.
 //
 // For each case a line: the name, and `refused=1` or `written=40`, and the list behind it. Before the call all of scratch and output is set. A line
@@ -60,12 +60,12 @@ fn run<'a>(
 ) {
     set_places(scratch);
     set_bytes(out);
-    let lent = number_field(line, 3);
+    let given = number_field(line, 3);
     let outcome = combine_gvcfs::combine(
         cohort,
-        lent % 2 == 1,
+        given % 2 == 1,
         clip,
-        2 <= lent,
+        2 <= given,
         reference,
         scratch,
         out,

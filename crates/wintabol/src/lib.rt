@@ -48,7 +48,15 @@ pub extern "C" fn wintabol_combine<'a>(
         (Combined (textsOf (now (cohort .entry)) clipped (now (clip .entry)) «has_reference» (now (reference .entry))) (now (scratch .entry)) (now (scratch .exit)) (now (out .entry)) (now (out .exit)))
         r (now (written .exit)) ⌝ }
 {
-    let outcome = combine_gvcfs::combine(cohort, clipped, clip, has_reference, reference, scratch, out);
+    let outcome = combine_gvcfs::combine(
+        cohort,
+        clipped,
+        clip,
+        has_reference,
+        reference,
+        scratch,
+        out,
+    );
     give(outcome, written)
 }
 
@@ -119,12 +127,7 @@ pub extern "C" fn wintabol_subset_log10_genotype_likelihoods(
 }
 
 // An outcome with three outputs as four numbers.
-fn give_alts(
-    outcome: UnusedAltOutcome,
-    alts: &mut usize,
-    gl: &mut usize,
-    ad: &mut usize,
-) -> usize
+fn give_alts(outcome: UnusedAltOutcome, alts: &mut usize, gl: &mut usize, ad: &mut usize) -> usize
     ensures { λ r. ⌜ outcomeAlts outcome ≡ answerAlts r (now (alts .exit)) (now (gl .exit)) (now (ad .exit)) ⌝ }
 {
     match outcome {
