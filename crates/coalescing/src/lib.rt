@@ -105,10 +105,7 @@ pub fn count_pending(count: usize, pending: Pending) -> usize
     let Pending::Block(_, _, _, _) = pending else {
         return count;
     };
-    if count < 4294967295 {
-        return count + 1;
-    }
-    4294967295
+    list_header::count_more(count)
 }
 
 // Lays a record that is no block: contig, POS, REF, ALTs and the lines of its samples.

@@ -14,7 +14,8 @@ use Rattle.definitions.specs.Records.{Record}
 use Rattle.laws.proofs.Checked.{then-refused}
 use Rattle.laws.proofs.Every.{every-at}
 use Rattle.laws.proofs.Members.{flatMap-append}
-use Rattle.combine_gvcfs.specs.Contigs.{AllReady, OneReady, RecordsLaid, RecordsWalked, allRecords, recordsOn}
+use Rattle.combine_gvcfs.specs.Contigs.{AllReady, OneReady, allRecords, recordsOn}
+use Rattle.contig_walk.specs.Walk.{RecordsLaid, RecordsWalked}
 use Rattle.coalescing.specs.Steps.{Progress}
 use Rattle.contig_walk.specs.declared.Walked.{Walked}
 use Rattle.contig_walk.specs.declared.Walked.the-variants as walked
@@ -50,8 +51,8 @@ module _ (of-contig : ℕ → Checked (List Record)) (contigs : List ℕ) where
 
 -- ---- the loop
 
-module _ {s rows : List ℕ} {samples : ℕ} {clipped : Bool} {clip : List ℕ} {lent : Bool} {reference contigs order bounds out₀ : List ℕ} {at₀ : ℕ}
-    (ready : AllReady s rows samples clipped clip lent reference contigs order bounds out₀ at₀) (places : ℕ) where
+module _ {s rows : List ℕ} {samples : ℕ} {clipped : Bool} {clip : List ℕ} {referenced : Bool} {reference contigs order bounds out₀ : List ℕ} {at₀ : ℕ}
+    (ready : AllReady s rows samples clipped clip referenced reference contigs order bounds out₀ at₀) (places : ℕ) where
   -- some records are laid, and those of the contigs from here on are left
   pub record Going (out : List ℕ) (at count c : ℕ) : Type 0 where
     pub done : List Record
@@ -77,7 +78,7 @@ module _ {s rows : List ℕ} {samples : ℕ} {clipped : Bool} {clip : List ℕ} 
     }
 
     module _ (h : c < length contigs) where
-      pub one-ready : OneReady s rows samples clipped clip lent reference (getD contigs c 0) order bounds out at count
+      pub one-ready : OneReady s rows samples clipped clip referenced reference (getD contigs c 0) order bounds out at count
       one-ready = record {
         tables = ready .tables;
         is-first = every-at c 0 h (ready .firsts);
@@ -90,7 +91,7 @@ module _ {s rows : List ℕ} {samples : ℕ} {clipped : Bool} {clip : List ℕ} 
       -- what walking over one contig says
       abbrev pub OneSays : ℕ → List ℕ → Walked → Type 0
       OneSays scratch out′ w =
-          (r : OneReady s rows samples clipped clip lent reference (getD contigs c 0) order bounds out at count)
+          (r : OneReady s rows samples clipped clip referenced reference (getD contigs c 0) order bounds out at count)
           → RecordsWalked (recordsOn (r .tables) scratch (getD contigs c 0)) (r .d₀) (r .bytes) (r .records) out′ w
 
       pub going-next : (out′ : List ℕ) (at′ count′ scratch : ℕ) {w : Walked} → scratch ≡ places → w ≡ walked.To at′ count′

@@ -44,8 +44,8 @@ use Rattle.combine_gvcfs.specs.Combined.{CallLoaded, CohortHeld, Combine
 pub equal-few : {a b : ℕ} → a ≡ b → a ≤ b
 equal-few e = omega arith
 
-module _ {s names rows : List ℕ} {samples sites : ℕ} {clipped : Bool} {clip : List ℕ} {lent : Bool} {reference : List ℕ}
-    (call : CallLoaded s names rows samples sites clipped clip lent reference) where
+module _ {s names rows : List ℕ} {samples sites : ℕ} {clipped : Bool} {clip : List ℕ} {referenced : Bool} {reference : List ℕ}
+    (call : CallLoaded s names rows samples sites clipped clip referenced reference) where
   -- sites are few
   pub sites-few : sites ≤ maxSites
   sites-few = omega (arith, call .all-sites, call .loaded .sound .cohort .few-sites)
@@ -69,7 +69,7 @@ module _ {s names rows : List ℕ} {samples sites : ℕ} {clipped : Bool} {clip 
     firsts-are = rw (o .counted, all-stored) (take-append-seam (o .firsts) _)
 
     module _ {order runs : List ℕ} (few : length order ≤ maxSites) (g : Runs order runs samples (sampleSites rows sites)) where
-      pub list-ready : ListReady s names rows samples clipped clip lent reference (take n firsts) order runs
+      pub list-ready : ListReady s names rows samples clipped clip referenced reference (take n firsts) order runs
       list-ready = record {
         tables = record { loaded = call .loaded; clip-given = call .clip-given; grouped = rw (← call .all-sites) g; few = few };
         in-order = rw firsts-are (o .names);
@@ -79,7 +79,7 @@ module _ {s names rows : List ℕ} {samples sites : ℕ} {clipped : Bool} {clip 
       }
 
       pub loaded-answered : (scratch : ℕ) {out out′ : List ℕ} {r : Outcome}
-          → ((ready : ListReady s names rows samples clipped clip lent reference (take n firsts) order runs)
+          → ((ready : ListReady s names rows samples clipped clip referenced reference (take n firsts) order runs)
           → Answered (listWithin (ready .tables .loaded) scratch (length out)) out out′ r)
           → Answered (listWithin (call .loaded) scratch (length out)) out out′ r
       unfolding list-ready
@@ -89,18 +89,18 @@ module _ {s names rows : List ℕ} {samples sites : ℕ} {clipped : Bool} {clip 
 
 module _ {A : Type 0} (read : List Line → Checked A) (s : List ℕ) where
   -- its groups, if it is there
-  pub record Optional (lent : Bool) : Type 0 where
+  pub record Optional (given : Bool) : Type 0 where
     pub groups : List A
-    pub all : optionalGroups read (onlyIf lent s) ≡ accepted (onlyIf lent groups)
-    pub from : lent ≡ true → GroupsFrom read s 0 groups
+    pub all : optionalGroups read (onlyIf given s) ≡ accepted (onlyIf given groups)
+    pub from : given ≡ true → GroupsFrom read s 0 groups
 
-  pub optional-in-order : (lent : Bool) → isAccepted (optionalGroups read (onlyIf lent s)) ≡ true → Optional lent
+  pub optional-in-order : (given : Bool) → isAccepted (optionalGroups read (onlyIf given s)) ≡ true → Optional given
   unfolding onlyIf optionalGroups
   optional-in-order true h = let (groups, e, from) = in-order read s h in record { groups = groups; all = e; from = λ _. from }
   optional-in-order false h = record { groups = []; all = refl; from = λ e. clash e refl }
 
-  pub optional-refused : (lent : Bool) → isAccepted (optionalGroups read (onlyIf lent s)) ≡ false
-      → optionalGroups read (onlyIf lent s) ≡ refused 9
+  pub optional-refused : (given : Bool) → isAccepted (optionalGroups read (onlyIf given s)) ≡ false
+      → optionalGroups read (onlyIf given s) ≡ refused 9
   unfolding onlyIf optionalGroups isAccepted
   optional-refused true h = not-in-order read s h
   optional-refused false h = clash {b = true} refl h
@@ -122,25 +122,25 @@ texts-refused {t} e same = record {
   answered = answered-refused (then-refused _ _ e) same;
 }
 
-module _ (cohort : List ℕ) (clipped : Bool) (clip : List ℕ) (lent : Bool) (reference : List ℕ) where
+module _ (cohort : List ℕ) (clipped : Bool) (clip : List ℕ) (referenced : Bool) (reference : List ℕ) where
   -- a text is too long
-  too-long : (fits cohort && missingOr fits (onlyIf clipped clip) && missingOr fits (onlyIf lent reference)) ≡ false
-      → inputOf (textsOf cohort clipped clip lent reference) ≡ refused 2
+  too-long : (fits cohort && missingOr fits (onlyIf clipped clip) && missingOr fits (onlyIf referenced reference)) ≡ false
+      → inputOf (textsOf cohort clipped clip referenced reference) ≡ refused 2
   unfolding inputOf
   too-long e = not-required 2 _ _ e
 
-  pub cohort-long : missingOr fits (onlyIf true cohort) ≡ false → inputOf (textsOf cohort clipped clip lent reference) ≡ refused 2
+  pub cohort-long : missingOr fits (onlyIf true cohort) ≡ false → inputOf (textsOf cohort clipped clip referenced reference) ≡ refused 2
   unfolding missingOr onlyIf
   cohort-long e = too-long (rw e)
 
-  pub clip-long : missingOr fits (onlyIf clipped clip) ≡ false → inputOf (textsOf cohort clipped clip lent reference) ≡ refused 2
+  pub clip-long : missingOr fits (onlyIf clipped clip) ≡ false → inputOf (textsOf cohort clipped clip referenced reference) ≡ refused 2
   clip-long e = too-long (rw e (go (fits cohort)))
     where
-      go : (b : Bool) → (b && false && missingOr fits (onlyIf lent reference)) ≡ false
+      go : (b : Bool) → (b && false && missingOr fits (onlyIf referenced reference)) ≡ false
       go true = refl
       go false = refl
 
-  pub reference-long : missingOr fits (onlyIf lent reference) ≡ false → inputOf (textsOf cohort clipped clip lent reference) ≡ refused 2
+  pub reference-long : missingOr fits (onlyIf referenced reference) ≡ false → inputOf (textsOf cohort clipped clip referenced reference) ≡ refused 2
   reference-long e = too-long (rw e (go (fits cohort) (missingOr fits (onlyIf clipped clip))))
     where
       go : (b d : Bool) → (b && d && false) ≡ false
@@ -149,49 +149,49 @@ module _ (cohort : List ℕ) (clipped : Bool) (clip : List ℕ) (lent : Bool) (r
       go false d = refl
 
   pub none-long : missingOr fits (onlyIf true cohort) ≡ true → missingOr fits (onlyIf clipped clip) ≡ true
-      → missingOr fits (onlyIf lent reference) ≡ true → TextsFit cohort clipped clip lent reference
+      → missingOr fits (onlyIf referenced reference) ≡ true → TextsFit cohort clipped clip referenced reference
   unfolding missingOr onlyIf
   none-long e f g = rw (e, f, g)
 
-  module _ (fit : TextsFit cohort clipped clip lent reference) where
+  module _ (fit : TextsFit cohort clipped clip referenced reference) where
     -- the cohort is refused
-    pub cohort-refused : {row : ℕ} → fittingCohort cohort ≡ refused row → inputOf (textsOf cohort clipped clip lent reference) ≡ refused row
+    pub cohort-refused : {row : ℕ} → fittingCohort cohort ≡ refused row → inputOf (textsOf cohort clipped clip referenced reference) ≡ refused row
     unfolding inputOf fittingCohort
     cohort-refused e =
-        let (short, _, _) = all-three (fits cohort) (missingOr fits (onlyIf clipped clip)) (missingOr fits (onlyIf lent reference)) fit in
+        let (short, _, _) = all-three (fits cohort) (missingOr fits (onlyIf clipped clip)) (missingOr fits (onlyIf referenced reference)) fit in
         required 2 _ _ fit (then-refused _ _ (sym (required 2 _ (cohortOf cohort) short refl) ∙ e))
 
     pub cohort-held : {names₀ names rows₀ rows : List ℕ} {samples sites : ℕ} → 2 * maxSamples ≤ length names
-        → CohortTo cohort names₀ names rows₀ rows samples sites → CohortHeld cohort names rows samples sites clipped clip lent reference
+        → CohortTo cohort names₀ names rows₀ rows samples sites → CohortHeld cohort names rows samples sites clipped clip referenced reference
     unfolding fittingCohort
     cohort-held room c = after-required _ _ _ (c .value) λ short e.
         record { all-fit = fit; value = e; table = c .table; few = c .few-samples; in-table = omega (arith, c .few-samples) }
 
 -- ---- texts in order
 
-module _ {s names rows : List ℕ} {samples sites : ℕ} {clipped : Bool} {clip : List ℕ} {lent : Bool} {reference : List ℕ}
-    (held : CohortHeld s names rows samples sites clipped clip lent reference) where
+module _ {s names rows : List ℕ} {samples sites : ℕ} {clipped : Bool} {clip : List ℕ} {referenced : Bool} {reference : List ℕ}
+    (held : CohortHeld s names rows samples sites clipped clip referenced reference) where
   texts : Texts
-  texts = textsOf s clipped clip lent reference
+  texts = textsOf s clipped clip referenced reference
 
-  pub clip-refused : isAccepted (optionalGroups spanOf (onlyIf clipped clip)) ≡ false → inputOf (textsOf s clipped clip lent reference) ≡ refused 9
+  pub clip-refused : isAccepted (optionalGroups spanOf (onlyIf clipped clip)) ≡ false → inputOf (textsOf s clipped clip referenced reference) ≡ refused 9
   unfolding inputOf
   clip-refused e = required 2 _ _ (held .all-fit) (then _ _ (held .value) (then-refused _ _ (optional-refused spanOf clip clipped e)))
 
   module _ (c : Optional spanOf clip clipped) where
-    pub reference-refused : isAccepted (optionalGroups segmentOf (onlyIf lent reference)) ≡ false
-        → inputOf (textsOf s clipped clip lent reference) ≡ refused 9
+    pub reference-refused : isAccepted (optionalGroups segmentOf (onlyIf referenced reference)) ≡ false
+        → inputOf (textsOf s clipped clip referenced reference) ≡ refused 9
     unfolding inputOf
     reference-refused e =
         required 2 _ _ (held .all-fit)
-        (then _ _ (held .value) (then _ _ (c .all) (then-refused _ _ (optional-refused segmentOf reference lent e))))
+        (then _ _ (held .value) (then _ _ (c .all) (then-refused _ _ (optional-refused segmentOf reference referenced e))))
 
-    module _ (r : Optional segmentOf reference lent) where
+    module _ (r : Optional segmentOf reference referenced) where
       input : Input
       input = record {
         cohort = record { names = namesIn s names samples; sites = sitesIn s rows sites };
         clip = onlyIf clipped (c .groups);
-        reference = onlyIf lent (r .groups);
+        reference = onlyIf referenced (r .groups);
       }
 
       input-read : inputOf texts ≡ accepted input
@@ -206,7 +206,7 @@ module _ {s names rows : List ℕ} {samples sites : ℕ} {clipped : Bool} {clip 
       unfolding sitesIn
       sites-length = sym (length-map (numbersFrom 0 sites) (siteAt s rows) ∙ length-numbers 0 sites)
 
-      pub call-loaded : CallLoaded s names rows samples sites clipped clip lent reference
+      pub call-loaded : CallLoaded s names rows samples sites clipped clip referenced reference
       unfolding input
       call-loaded =
           let sound = input-sound texts input input-read .sound in
@@ -233,16 +233,16 @@ module _ {s names rows : List ℕ} {samples sites : ℕ} {clipped : Bool} {clip 
 
       choice-for : ChoiceFor texts (firstLetter (r .groups))
       unfolding ChoiceFor texts onlyIf
-      choice-for segments e = go lent (accepted-same (sym (r .all) ∙ e))
+      choice-for segments e = go referenced (accepted-same (sym (r .all) ∙ e))
         where
           go : (b : Bool) → onlyIf b (r .groups) ≡ some segments → ChoiceFrom segments (firstLetter (r .groups))
           go true e = let same : r .groups ≡ segments = cc in rw (← same) (first-letter (r .groups))
           go false e = let z : _≡_ {A = ℕ} 0 1 = cc in absurd (omega arith)
 
       pub texts-answered : (scratch : ℕ) {out out′ : List ℕ} {o : Outcome}
-          → ((call : CallLoaded s names rows samples sites clipped clip lent reference)
+          → ((call : CallLoaded s names rows samples sites clipped clip referenced reference)
           → Answered (listWithin (call .loaded) scratch (length out)) out out′ o)
-          → TextsAnswered (textsOf s clipped clip lent reference) scratch out out′ o
+          → TextsAnswered (textsOf s clipped clip referenced reference) scratch out out′ o
       unfolding call-loaded texts combinedList
       texts-answered scratch {out = out} {out′ = out′} {o = o} says = record {
         choose = firstLetter (r .groups);

@@ -30,8 +30,8 @@ use Rattle.merged_records.specs.Loaded.{ContigRuns, chosenLetters}
 use Rattle.record_laws.specs.Pending.{mergedContig}
 use Rattle.tables.proofs.SameContig.{same-contig}
 use Rattle.tables.specs.Tables.{column, partAt, siteAt}
-use Rattle.combine_gvcfs.specs.Contigs.{Grouped, IsFirst, RecordsWalked, givenClip, recordsOn}
-use Rattle.contig_walk.specs.Walk.{ClipGiven, ContigWalked, WalkReady}
+use Rattle.combine_gvcfs.specs.Contigs.{Grouped, IsFirst, givenClip, recordsOn}
+use Rattle.contig_walk.specs.Walk.{ClipGiven, RecordsWalked, WalkReady}
 use Rattle.coalescing.specs.Steps.{Progress}
 use Rattle.contig_walk.specs.declared.Walked.{Walked}
 use Rattle.contig_walk.specs.declared.Walked.the-variants as walked
@@ -94,8 +94,8 @@ progress-low p = omega (arith, p .measured .at-is)
 
 -- ---- a contig
 
-module _ {s rows : List ℕ} {samples : ℕ} {clipped : Bool} {clip : List ℕ} {lent : Bool} {reference order bounds : List ℕ}
-    (g : Grouped s rows samples clipped clip lent reference order bounds) {first : ℕ} (f : IsFirst g first) where
+module _ {s rows : List ℕ} {samples : ℕ} {clipped : Bool} {clip : List ℕ} {referenced : Bool} {reference order bounds : List ℕ}
+    (g : Grouped s rows samples clipped clip referenced reference order bounds) {first : ℕ} (f : IsFirst g first) where
   sites : List Site
   sites = g .loaded .input .cohort .sites
 
@@ -119,7 +119,7 @@ module _ {s rows : List ℕ} {samples : ℕ} {clipped : Bool} {clip : List ℕ} 
     end-exactly = taken-exactly _ chosen end-within
 
     module _ {contig : List ℕ} (e : contig ≡ partAt 7 8 s rows first) where
-      pub in-contig-runs : ContigRuns s rows samples lent reference contig chosen parts
+      pub in-contig-runs : ContigRuns s rows samples referenced reference contig chosen parts
       in-contig-runs = record {
         on = record { loaded = g .loaded; first = first; known = f .known; own = f .own; name = e };
         in-runs = r;
@@ -150,26 +150,22 @@ module _ {s rows : List ℕ} {samples : ℕ} {clipped : Bool} {clip : List ℕ} 
           (h in-range (given .spans) (rw t (given .from)))
 
       module _ {places : List ℕ} (all : places ≡ breakpoints (g .loaded .input .cohort .sites) (g .loaded .input .clip) contig) where
-        pub walk-ready : WalkReady s rows samples clipped clip lent reference contig chosen parts places
+        pub walk-ready : WalkReady s rows samples clipped clip referenced reference contig chosen parts places
         unfolding in-contig-runs
         walk-ready = record { runs = in-contig-runs; clip-given = g .clip-given; all-places = all }
 
         -- behind row 10 the records are those of the walk over the contig
         pub one-walked : (out out′ : List ℕ) (at count scratch : ℕ) (w : Walked)
             → length (breakpoints (g .loaded .input .cohort .sites) (g .loaded .input .clip) contig) ≤ scratch
-            → ((ready : WalkReady s rows samples clipped clip lent reference contig chosen parts places) (d₀ bytes : List ℕ) (records : ℕ)
+            → ((ready : WalkReady s rows samples clipped clip referenced reference contig chosen parts places) (d₀ bytes : List ℕ) (records : ℕ)
             → Progress d₀ bytes records out at count
-            → ContigWalked (ready .runs .on .loaded .input) (chosenLetters (ready .runs .on .loaded)) contig d₀ bytes records out′ w)
+            → RecordsWalked (mergedContig (ready .runs .on .loaded .input) (chosenLetters (ready .runs .on .loaded)) contig) d₀ bytes records out′ w)
             → (d₀ bytes : List ℕ) (records : ℕ) → Progress d₀ bytes records out at count
             → RecordsWalked (recordsOn g scratch first) d₀ bytes records out′ w
-        unfolding ContigWalked RecordsWalked walk-ready in-contig-runs
-        one-walked out out′ at count scratch w enough says d₀ bytes records progress = go w (says walk-ready d₀ bytes records progress)
-          where
-            go : (w : Walked) → ContigWalked (g .loaded .input) (chosenLetters (g .loaded)) contig d₀ bytes records out′ w
-                → RecordsWalked (recordsOn g scratch first) d₀ bytes records out′ w
-            go (walked.To at′ count′) w =
-                record { list = w .list; merged = rw (← e) (enough-places _ _ _ _ enough ∙ w .merged); progress = w .progress }
-            go (walked.Refused row) w = rw (← e) (enough-places _ _ _ _ enough ∙ w)
+        unfolding walk-ready in-contig-runs
+        one-walked out out′ at count scratch w enough says d₀ bytes records progress =
+            let same : recordsOn g scratch first ≡ mergedContig (g .loaded .input) (chosenLetters (g .loaded)) contig = rw (← e) (enough-places _ _ _ _ enough) in
+            rw same (says walk-ready d₀ bytes records progress)
 
   pub one-refused : {contig : List ℕ} (d₀ bytes : List ℕ) (records : ℕ) (out : List ℕ) {places : ℕ} → contig ≡ partAt 7 8 s rows first
       → places < length (breakpoints (g .loaded .input .cohort .sites) (g .loaded .input .clip) contig)

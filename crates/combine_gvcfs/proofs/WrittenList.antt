@@ -33,7 +33,8 @@ use Rattle.merged_records.specs.Loaded.{Loaded, chosenLetters}
 use Rattle.record_laws.proofs.Lengths.{mostHeader, mostRecord, record-few}
 use Rattle.tables.specs.Tables.{namesIn}
 use Rattle.combine_gvcfs.specs.Combined.{ListReady, Measurement, listTo, listWithin}
-use Rattle.combine_gvcfs.specs.Contigs.{AllReady, RecordsLaid, RecordsWalked, allRecords}
+use Rattle.combine_gvcfs.specs.Contigs.{AllReady, allRecords}
+use Rattle.contig_walk.specs.Walk.{RecordsLaid, RecordsWalked}
 use Rattle.contig_walk.specs.declared.Walked.the-variants as walked
 use Rattle.contig_walk.specs.declared.Walked.{Walked}
 
@@ -48,10 +49,10 @@ nothing-left (x ∷ part) out e = absurd (omega arith)
 
 -- ---- the records of an input are few, and so are their bytes
 
-module _ {s rows : List ℕ} {samples : ℕ} {lent : Bool} {reference : List ℕ} (l : Loaded s rows samples lent reference) where
+module _ {s rows : List ℕ} {samples : ℕ} {referenced : Bool} {reference : List ℕ} (l : Loaded s rows samples referenced reference) where
   letters-chosen : IfThere (λ r. ChoiceFrom r (chosenLetters l)) (l .input .reference)
   unfolding onlyIf
-  letters-chosen = rw (l .reference-is) (go lent)
+  letters-chosen = rw (l .reference-is) (go referenced)
     where
       go : (b : Bool) → IfThere (λ r. ChoiceFrom r (chosenLetters l)) (onlyIf b (l .segments))
       go true = first-letter (l .segments)
@@ -70,9 +71,9 @@ module _ {s rows : List ℕ} {samples : ℕ} {lent : Bool} {reference : List ℕ
 
 -- ---- the first pass
 
-module _ {s names rows : List ℕ} {samples : ℕ} {clipped : Bool} {clip : List ℕ} {lent : Bool} {reference contigs order bounds : List ℕ}
-    (ready : ListReady s names rows samples clipped clip lent reference contigs order bounds) where
-  pub measuring : AllReady s rows samples clipped clip lent reference contigs order bounds [] 0
+module _ {s names rows : List ℕ} {samples : ℕ} {clipped : Bool} {clip : List ℕ} {referenced : Bool} {reference contigs order bounds : List ℕ}
+    (ready : ListReady s names rows samples clipped clip referenced reference contigs order bounds) where
+  pub measuring : AllReady s rows samples clipped clip referenced reference contigs order bounds [] 0
   measuring = record {
     tables = ready .tables;
     names = ready .in-order;
@@ -84,7 +85,7 @@ module _ {s names rows : List ℕ} {samples : ℕ} {clipped : Bool} {clip : List
 
   -- what walking over the contigs says
   abbrev pub WalkSays : List ℕ → ℕ → ℕ → List ℕ → Walked → Type 0
-  WalkSays out at scratch out′ w = (r : AllReady s rows samples clipped clip lent reference contigs order bounds out at)
+  WalkSays out at scratch out′ w = (r : AllReady s rows samples clipped clip referenced reference contigs order bounds out at)
       → RecordsWalked (allRecords (r .tables) scratch) (r .d₀) (r .bytes) 0 out′ w
 
   module _ {scratch scratch₁ : ℕ} (part : List ℕ) {w : Walked} (same : scratch₁ ≡ scratch) (says : WalkSays [] 0 scratch part w) where
@@ -93,7 +94,7 @@ module _ {s names rows : List ℕ} {samples : ℕ} {clipped : Bool} {clip : List
     list-refused room e = then-refused _ _ (then-refused _ _ (rw e at (says measuring)))
 
     pub measurement : {len count : ℕ} → w ≡ walked.To len count
-        → Measurement s names rows samples clipped clip lent reference contigs order bounds scratch₁ len count
+        → Measurement s names rows samples clipped clip referenced reference contigs order bounds scratch₁ len count
     unfolding RecordsWalked measuring
     measurement {len} {count} e =
         let laid : RecordsLaid (allRecords (ready .tables) scratch) [] [] 0 part len count = rw e at (says measuring) in
@@ -108,7 +109,7 @@ module _ {s names rows : List ℕ} {samples : ℕ} {clipped : Bool} {clip : List
         }
 
     pub list-answered : {len count : ℕ} (out out₁ out₂ : List ℕ) (r : Outcome) → w ≡ walked.To len count → out₁ ≡ out
-        → ((m : Measurement s names rows samples clipped clip lent reference contigs order bounds scratch₁ len count)
+        → ((m : Measurement s names rows samples clipped clip referenced reference contigs order bounds scratch₁ len count)
         → Answered (within (length out₁) (listTo m)) out₁ out₂ r)
         → Answered (listWithin (ready .tables .loaded) scratch (length out)) out out₂ r
     unfolding measurement listOf
@@ -121,8 +122,8 @@ module _ {s names rows : List ℕ} {samples : ℕ} {clipped : Bool} {clip : List
 
 -- ---- the second pass
 
-module _ {s names rows : List ℕ} {samples : ℕ} {clipped : Bool} {clip : List ℕ} {lent : Bool} {reference contigs order bounds : List ℕ}
-    {scratch len count : ℕ} (m : Measurement s names rows samples clipped clip lent reference contigs order bounds scratch len count) where
+module _ {s names rows : List ℕ} {samples : ℕ} {clipped : Bool} {clip : List ℕ} {referenced : Bool} {reference contigs order bounds : List ℕ}
+    {scratch len count : ℕ} (m : Measurement s names rows samples clipped clip referenced reference contigs order bounds scratch len count) where
   pub count-low : count ≤ 2147483647
   count-low = omega (arith, m .count-is, records-counted (m .ready .tables .loaded) scratch (m .records) (m .merged))
 
@@ -158,7 +159,7 @@ module _ {s names rows : List ℕ} {samples : ℕ} {clipped : Bool} {clip : List
 
     -- there is room, and the list is written over the part that it takes
     pub fitting-answered : {written : List ℕ} (out : List ℕ) → r + len ≤ length (part ++ out)
-        → ((m : Measurement s names rows samples clipped clip lent reference contigs order bounds scratch len count)
+        → ((m : Measurement s names rows samples clipped clip referenced reference contigs order bounds scratch len count)
         → length (take (r + len) (part ++ out)) ≡ length (listTo m) → written ≡ listTo m)
         → Answered (within (length out) (listTo m)) out (written ++ drop (r + len) (part ++ out)) (outcome.Written (r + len))
     fitting-answered {written} out h writes =
@@ -168,7 +169,7 @@ module _ {s names rows : List ℕ} {samples : ℕ} {clipped : Bool} {clip : List
         answered-written (is-within (listTo m) room) list-length (rw (all, empty, list-length))
 
   module _ (out : List ℕ) (small : length out ≤ limit) {out₁ : List ℕ} {at : ℕ} (header : Laid out 0 headerOf out₁ at) where
-    pub writing : AllReady s rows samples clipped clip lent reference contigs order bounds out₁ at
+    pub writing : AllReady s rows samples clipped clip referenced reference contigs order bounds out₁ at
     writing = record {
       tables = m .ready .tables;
       names = m .ready .in-order;

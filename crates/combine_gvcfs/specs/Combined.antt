@@ -28,8 +28,8 @@ use Rattle.contig_walk.specs.Walk.{ClipGiven}
 
 -- the texts of a call
 abbrev pub textsOf : List ℕ → Bool → List ℕ → Bool → List ℕ → Texts
-textsOf cohort clipped clip lent reference =
-    record { cohort = cohort; clip = onlyIf clipped clip; reference = onlyIf lent reference }
+textsOf cohort clipped clip referenced reference =
+    record { cohort = cohort; clip = onlyIf clipped clip; reference = onlyIf referenced reference }
 
 -- the answer for these texts, with some choice of reference letters
 pub record TextsAnswered (texts : Texts) (scratch : ℕ) (out out′ : List ℕ) (r : Outcome) : Type 0 where
@@ -49,12 +49,12 @@ pub record Combined (texts : Texts) (scratch scratch′ out out′ : List ℕ) (
 
 -- no text is too long
 abbrev pub TextsFit : List ℕ → Bool → List ℕ → Bool → List ℕ → Type 0
-TextsFit cohort clipped clip lent reference =
-    (fits cohort && missingOr fits (onlyIf clipped clip) && missingOr fits (onlyIf lent reference)) ≡ true
+TextsFit cohort clipped clip referenced reference =
+    (fits cohort && missingOr fits (onlyIf clipped clip) && missingOr fits (onlyIf referenced reference)) ≡ true
 
 -- and the tables hold the cohort
-pub record CohortHeld (s names rows : List ℕ) (samples sites : ℕ) (clipped : Bool) (clip : List ℕ) (lent : Bool) (reference : List ℕ) : Type 0 where
-  pub all-fit : TextsFit s clipped clip lent reference
+pub record CohortHeld (s names rows : List ℕ) (samples sites : ℕ) (clipped : Bool) (clip : List ℕ) (referenced : Bool) (reference : List ℕ) : Type 0 where
+  pub all-fit : TextsFit s clipped clip referenced reference
   pub value : cohortOf s ≡ accepted (record { names = namesIn s names samples; sites = sitesIn s rows sites })
   pub table : SiteRows s rows (sitesIn s rows sites)
   pub few : samples ≤ maxSamples
@@ -63,37 +63,37 @@ pub record CohortHeld (s names rows : List ℕ) (samples sites : ℕ) (clipped :
 -- ---- texts in order
 
 -- the tables hold the cohort, and clip and reference are in order
-pub record CallLoaded (s names rows : List ℕ) (samples sites : ℕ) (clipped : Bool) (clip : List ℕ) (lent : Bool) (reference : List ℕ) : Type 0 where
-  pub loaded : Loaded s rows samples lent reference
+pub record CallLoaded (s names rows : List ℕ) (samples sites : ℕ) (clipped : Bool) (clip : List ℕ) (referenced : Bool) (reference : List ℕ) : Type 0 where
+  pub loaded : Loaded s rows samples referenced reference
   pub clip-given : ClipGiven clipped clip (loaded .input)
   pub header : HeaderNames s names samples
   pub names-are : loaded .input .cohort .names ≡ namesIn s names samples
   pub all-sites : sites ≡ length (loaded .input .cohort .sites)
 
 -- the list of an input, if there is so much room
-abbrev pub listWithin : {s rows : List ℕ} {samples : ℕ} {lent : Bool} {reference : List ℕ}
-    → Loaded s rows samples lent reference → ℕ → ℕ → Checked (List ℕ)
+abbrev pub listWithin : {s rows : List ℕ} {samples : ℕ} {referenced : Bool} {reference : List ℕ}
+    → Loaded s rows samples referenced reference → ℕ → ℕ → Checked (List ℕ)
 listWithin l scratch room = listOf (l .input) (chosenLetters l) scratch >>= within room
 
 -- the same with the sites grouped by sample, and the contigs by their first sites, in byte order of name
-pub record ListReady (s names rows : List ℕ) (samples : ℕ) (clipped : Bool) (clip : List ℕ) (lent : Bool) (reference contigs order bounds : List ℕ) : Type 0 where
-  pub tables : Grouped s rows samples clipped clip lent reference order bounds
+pub record ListReady (s names rows : List ℕ) (samples : ℕ) (clipped : Bool) (clip : List ℕ) (referenced : Bool) (reference contigs order bounds : List ℕ) : Type 0 where
+  pub tables : Grouped s rows samples clipped clip referenced reference order bounds
   pub in-order : map (partAt 7 8 s rows) contigs ≡ contigsOf (tables .loaded .input .cohort .sites)
   pub firsts : Every (IsFirst tables) contigs
   pub header : HeaderNames s names samples
   pub names-are : tables .loaded .input .cohort .names ≡ namesIn s names samples
 
 -- and with all records, which were measured
-pub record Measurement (s names rows : List ℕ) (samples : ℕ) (clipped : Bool) (clip : List ℕ) (lent : Bool) (reference contigs order bounds : List ℕ)
+pub record Measurement (s names rows : List ℕ) (samples : ℕ) (clipped : Bool) (clip : List ℕ) (referenced : Bool) (reference contigs order bounds : List ℕ)
     (scratch len count : ℕ) : Type 0 where
-  pub ready : ListReady s names rows samples clipped clip lent reference contigs order bounds
+  pub ready : ListReady s names rows samples clipped clip referenced reference contigs order bounds
   pub records : List Record
   pub merged : allRecords (ready .tables) scratch ≡ accepted records
   pub len-is : len ≡ length (flatMap printedRecord records)
   pub count-is : count ≡ length records
 
 -- the list of those records
-abbrev pub listTo : {s names rows : List ℕ} {samples : ℕ} {clipped : Bool} {clip : List ℕ} {lent : Bool}
+abbrev pub listTo : {s names rows : List ℕ} {samples : ℕ} {clipped : Bool} {clip : List ℕ} {referenced : Bool}
     {reference contigs order bounds : List ℕ} {scratch len count : ℕ}
-    → Measurement s names rows samples clipped clip lent reference contigs order bounds scratch len count → List ℕ
+    → Measurement s names rows samples clipped clip referenced reference contigs order bounds scratch len count → List ℕ
 listTo m = printedList (m .ready .tables .loaded .input .cohort .names) (m .records)

@@ -1,38 +1,35 @@
 -- What walking over contigs, one after the other, finds and lays.
-use Prim.Native.Nat.{_+_, _<_, _≤_, ℕ}
+use Prim.Native.Nat.{_<_, _≤_, ℕ}
 use lib.ListN.{length}
 use mathlib.Core.Bool.{Bool, cond}
-use mathlib.Core.List.{List, [], _++_, flatMap, map}
+use mathlib.Core.List.{List, [], map}
 use mathlib.Core.Path.{_≡_}
 use Rattle.covering_sites.specs.Covering.{sampleSites}
 use Rattle.covering_sites.specs.Runs.{Runs}
-use Rattle.definitions.specs.Checked.{Checked, accepted, refused}
+use Rattle.definitions.specs.Checked.{Checked}
 use Rattle.definitions.specs.CombinedList.{combinedRecords, contigRecords}
 use Rattle.definitions.specs.Intervals.{contigsOf}
 use Rattle.definitions.specs.Limits.{maxSites}
-use Rattle.definitions.specs.Printed.{printedRecord}
 use Rattle.definitions.specs.Records.{Record}
 use Rattle.laws.proofs.Every.{Every}
 use Rattle.merged_records.specs.Loaded.{Loaded, chosenLetters}
 use Rattle.tables.specs.Tables.{column, partAt}
 use Rattle.contig_walk.specs.Walk.{ClipGiven}
 use Rattle.coalescing.specs.Steps.{Progress}
-use Rattle.contig_walk.specs.declared.Walked.{Walked}
-use Rattle.contig_walk.specs.declared.Walked.the-variants as walked
 
 -- a clip that is left out is an empty text
 abbrev pub givenClip : Bool → List ℕ → List ℕ
 givenClip clipped clip = cond clipped clip []
 
 -- tables and texts that hold an input, and the numbers of the sites grouped by sample
-pub record Grouped (s rows : List ℕ) (samples : ℕ) (clipped : Bool) (clip : List ℕ) (lent : Bool) (reference order bounds : List ℕ) : Type 0 where
-  pub loaded : Loaded s rows samples lent reference
+pub record Grouped (s rows : List ℕ) (samples : ℕ) (clipped : Bool) (clip : List ℕ) (referenced : Bool) (reference order bounds : List ℕ) : Type 0 where
+  pub loaded : Loaded s rows samples referenced reference
   pub clip-given : ClipGiven clipped clip (loaded .input)
   pub grouped : Runs order bounds samples (sampleSites rows (length (loaded .input .cohort .sites)))
   pub few : length order ≤ maxSites
 
-module _ {s rows : List ℕ} {samples : ℕ} {clipped : Bool} {clip : List ℕ} {lent : Bool} {reference order bounds : List ℕ}
-    (g : Grouped s rows samples clipped clip lent reference order bounds) where
+module _ {s rows : List ℕ} {samples : ℕ} {clipped : Bool} {clip : List ℕ} {referenced : Bool} {reference order bounds : List ℕ}
+    (g : Grouped s rows samples clipped clip referenced reference order bounds) where
   -- the site is the first on its contig
   pub record IsFirst (first : ℕ) : Type 0 where
     pub known : first < length (g .loaded .input .cohort .sites)
@@ -46,21 +43,10 @@ module _ {s rows : List ℕ} {samples : ℕ} {clipped : Bool} {clip : List ℕ} 
   abbrev pub allRecords : ℕ → Checked (List Record)
   allRecords places = combinedRecords (g .loaded .input) (chosenLetters (g .loaded)) places
 
--- these records are laid behind bytes of so many records
-pub record RecordsLaid (records : Checked (List Record)) (d₀ bytes : List ℕ) (before : ℕ) (out : List ℕ) (at count : ℕ) : Type 0 where
-  pub list : List Record
-  pub merged : records ≡ accepted list
-  pub progress : Progress d₀ (bytes ++ flatMap printedRecord list) (before + length list) out at count
-
--- or a row refuses them
-unfoldable pub RecordsWalked : Checked (List Record) → List ℕ → List ℕ → ℕ → List ℕ → Walked → Type 0
-RecordsWalked records d₀ bytes before out (walked.To at count) = RecordsLaid records d₀ bytes before out at count
-RecordsWalked records d₀ bytes before out (walked.Refused row) = records ≡ refused row
-
 -- what the walk over one contig is lent
-pub record OneReady (s rows : List ℕ) (samples : ℕ) (clipped : Bool) (clip : List ℕ) (lent : Bool) (reference : List ℕ) (first : ℕ)
+pub record OneReady (s rows : List ℕ) (samples : ℕ) (clipped : Bool) (clip : List ℕ) (referenced : Bool) (reference : List ℕ) (first : ℕ)
     (order bounds out : List ℕ) (at count : ℕ) : Type 0 where
-  pub tables : Grouped s rows samples clipped clip lent reference order bounds
+  pub tables : Grouped s rows samples clipped clip referenced reference order bounds
   pub is-first : IsFirst tables first
   pub d₀ : List ℕ
   pub bytes : List ℕ
@@ -68,9 +54,9 @@ pub record OneReady (s rows : List ℕ) (samples : ℕ) (clipped : Bool) (clip :
   pub progress : Progress d₀ bytes records out at count
 
 -- what the walk over all contigs is lent
-pub record AllReady (s rows : List ℕ) (samples : ℕ) (clipped : Bool) (clip : List ℕ) (lent : Bool) (reference contigs : List ℕ)
+pub record AllReady (s rows : List ℕ) (samples : ℕ) (clipped : Bool) (clip : List ℕ) (referenced : Bool) (reference contigs : List ℕ)
     (order bounds out : List ℕ) (at : ℕ) : Type 0 where
-  pub tables : Grouped s rows samples clipped clip lent reference order bounds
+  pub tables : Grouped s rows samples clipped clip referenced reference order bounds
   pub names : map (partAt 7 8 s rows) contigs ≡ contigsOf (tables .loaded .input .cohort .sites)
   pub firsts : Every (IsFirst tables) contigs
   pub d₀ : List ℕ

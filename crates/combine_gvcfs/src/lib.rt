@@ -11,7 +11,8 @@ ghost use Rattle.definitions.specs.Lists.{missingOr, onlyIf};
 ghost use Rattle.list_header.specs.Measured.{limit};
 ghost use Rattle.merged_records.specs.Loaded.{chosenLetters};
 ghost use Rattle.combine_gvcfs.specs.Combined.{CallLoaded, Combined, CohortHeld, ListReady, Measurement, TextsAnswered, TextsFit, listTo, listWithin, textsOf};
-ghost use Rattle.combine_gvcfs.specs.Contigs.{AllReady, OneReady, RecordsWalked, allRecords, givenClip, recordsOn};
+ghost use Rattle.combine_gvcfs.specs.Contigs.{AllReady, OneReady, allRecords, givenClip, recordsOn};
+ghost use Rattle.contig_walk.specs.Walk.{RecordsWalked};
 use answers::Outcome;
 use cohort::CohortRead;
 use contig_walk::Walked;
@@ -34,7 +35,7 @@ fn walk_one<'a>(
     samples: usize,
     clipped: bool,
     clip: &[u8],
-    lent: bool,
+    referenced: bool,
     reference: &'a [u8],
     first: usize,
     order: &[usize],
@@ -44,8 +45,8 @@ fn walk_one<'a>(
     at: usize,
     count: usize,
 ) -> Walked
-    requires { ⌜ OneReady (now s) (now rows) samples clipped (now clip) lent (now reference) first (now order) (now runs) (now out) at count ⌝ }
-    ensures { λ r. ⌜ ((ready : OneReady (now (s .entry)) (now (rows .entry)) samples clipped (now (clip .entry)) lent (now (reference .entry)) first (now (order .entry)) (now (runs .entry)) (now (out .entry)) at count)
+    requires { ⌜ OneReady (now s) (now rows) samples clipped (now clip) referenced (now reference) first (now order) (now runs) (now out) at count ⌝ }
+    ensures { λ r. ⌜ ((ready : OneReady (now (s .entry)) (now (rows .entry)) samples clipped (now (clip .entry)) referenced (now (reference .entry)) first (now (order .entry)) (now (runs .entry)) (now (out .entry)) at count)
         → RecordsWalked (recordsOn (ready .tables) (length (now (scratch .entry))) first) (ready .d₀) (ready .bytes) (ready .records) (now (out .exit)) r) ⌝ }
 {
     let mut chosen = [0usize; 4096];
@@ -63,7 +64,7 @@ fn walk_one<'a>(
             samples,
             clipped,
             clip,
-            lent,
+            referenced,
             reference,
             contig,
             &chosen,
@@ -83,7 +84,7 @@ fn walk_contigs<'a>(
     samples: usize,
     clipped: bool,
     clip: &[u8],
-    lent: bool,
+    referenced: bool,
     reference: &'a [u8],
     contigs: &[usize],
     order: &[usize],
@@ -92,8 +93,8 @@ fn walk_contigs<'a>(
     out: &mut [u8],
     at: usize,
 ) -> Walked
-    requires { ⌜ AllReady (now s) (now rows) samples clipped (now clip) lent (now reference) (now contigs) (now order) (now runs) (now out) at ⌝ }
-    ensures { λ r. ⌜ ((ready : AllReady (now (s .entry)) (now (rows .entry)) samples clipped (now (clip .entry)) lent (now (reference .entry)) (now (contigs .entry)) (now (order .entry)) (now (runs .entry)) (now (out .entry)) at)
+    requires { ⌜ AllReady (now s) (now rows) samples clipped (now clip) referenced (now reference) (now contigs) (now order) (now runs) (now out) at ⌝ }
+    ensures { λ r. ⌜ ((ready : AllReady (now (s .entry)) (now (rows .entry)) samples clipped (now (clip .entry)) referenced (now (reference .entry)) (now (contigs .entry)) (now (order .entry)) (now (runs .entry)) (now (out .entry)) at)
         → RecordsWalked (allRecords (ready .tables) (length (now (scratch .entry)))) (ready .d₀) (ready .bytes) 0 (now (out .exit)) r) ⌝ }
 {
     let mut next = at;
@@ -106,7 +107,7 @@ fn walk_contigs<'a>(
             samples,
             clipped,
             clip,
-            lent,
+            referenced,
             reference,
             first,
             order,
@@ -137,7 +138,7 @@ fn write_list<'a>(
     samples: usize,
     clipped: bool,
     clip: &[u8],
-    lent: bool,
+    referenced: bool,
     reference: &'a [u8],
     contigs: &[usize],
     order: &[usize],
@@ -147,8 +148,8 @@ fn write_list<'a>(
     len: usize,
     count: usize,
 )
-    requires { ⌜ Measurement (now s) (now names) (now rows) samples clipped (now clip) lent (now reference) (now contigs) (now order) (now runs) (length (now scratch)) len count × (length (now out) ≤ limit) ⌝ }
-    ensures { λ _. ⌜ ((m : Measurement (now (s .entry)) (now (names .entry)) (now (rows .entry)) samples clipped (now (clip .entry)) lent (now (reference .entry)) (now (contigs .entry)) (now (order .entry)) (now (runs .entry)) (length (now (scratch .entry))) len count)
+    requires { ⌜ Measurement (now s) (now names) (now rows) samples clipped (now clip) referenced (now reference) (now contigs) (now order) (now runs) (length (now scratch)) len count × (length (now out) ≤ limit) ⌝ }
+    ensures { λ _. ⌜ ((m : Measurement (now (s .entry)) (now (names .entry)) (now (rows .entry)) samples clipped (now (clip .entry)) referenced (now (reference .entry)) (now (contigs .entry)) (now (order .entry)) (now (runs .entry)) (length (now (scratch .entry))) len count)
         → length (now (out .entry)) ≡ length (listTo m) → now (out .exit) ≡ listTo m) ⌝ }
 {
     let at = list_header::put_header(s, names, samples, count as u32, out);
@@ -158,7 +159,7 @@ fn write_list<'a>(
         samples,
         clipped,
         clip,
-        lent,
+        referenced,
         reference,
         contigs,
         order,
@@ -177,7 +178,7 @@ fn write_measured<'a>(
     samples: usize,
     clipped: bool,
     clip: &[u8],
-    lent: bool,
+    referenced: bool,
     reference: &'a [u8],
     contigs: &[usize],
     order: &[usize],
@@ -187,8 +188,8 @@ fn write_measured<'a>(
     len: usize,
     count: usize,
 ) -> Outcome
-    requires { ⌜ Measurement (now s) (now names) (now rows) samples clipped (now clip) lent (now reference) (now contigs) (now order) (now runs) (length (now scratch)) len count ⌝ }
-    ensures { λ r. ⌜ ((m : Measurement (now (s .entry)) (now (names .entry)) (now (rows .entry)) samples clipped (now (clip .entry)) lent (now (reference .entry)) (now (contigs .entry)) (now (order .entry)) (now (runs .entry)) (length (now (scratch .entry))) len count)
+    requires { ⌜ Measurement (now s) (now names) (now rows) samples clipped (now clip) referenced (now reference) (now contigs) (now order) (now runs) (length (now scratch)) len count ⌝ }
+    ensures { λ r. ⌜ ((m : Measurement (now (s .entry)) (now (names .entry)) (now (rows .entry)) samples clipped (now (clip .entry)) referenced (now (reference .entry)) (now (contigs .entry)) (now (order .entry)) (now (runs .entry)) (length (now (scratch .entry))) len count)
         → Answered (within (length (now (out .entry))) (listTo m)) (now (out .entry)) (now (out .exit)) r) ⌝ }
 {
     let header = list_header::put_header(s, names, samples, count as u32, &mut out[..0]);
@@ -203,7 +204,7 @@ fn write_measured<'a>(
         samples,
         clipped,
         clip,
-        lent,
+        referenced,
         reference,
         contigs,
         order,
@@ -225,7 +226,7 @@ fn combine_contigs<'a>(
     samples: usize,
     clipped: bool,
     clip: &[u8],
-    lent: bool,
+    referenced: bool,
     reference: &'a [u8],
     contigs: &[usize],
     order: &[usize],
@@ -233,8 +234,8 @@ fn combine_contigs<'a>(
     scratch: &mut [u64],
     out: &mut [u8],
 ) -> Outcome
-    requires { ⌜ ListReady (now s) (now names) (now rows) samples clipped (now clip) lent (now reference) (now contigs) (now order) (now runs) ⌝ }
-    ensures { λ r. ⌜ ((ready : ListReady (now (s .entry)) (now (names .entry)) (now (rows .entry)) samples clipped (now (clip .entry)) lent (now (reference .entry)) (now (contigs .entry)) (now (order .entry)) (now (runs .entry)))
+    requires { ⌜ ListReady (now s) (now names) (now rows) samples clipped (now clip) referenced (now reference) (now contigs) (now order) (now runs) ⌝ }
+    ensures { λ r. ⌜ ((ready : ListReady (now (s .entry)) (now (names .entry)) (now (rows .entry)) samples clipped (now (clip .entry)) referenced (now (reference .entry)) (now (contigs .entry)) (now (order .entry)) (now (runs .entry)))
         → Answered (listWithin (ready .tables .loaded) (length (now (scratch .entry))) (length (now (out .entry)))) (now (out .entry)) (now (out .exit)) r) ⌝ }
 {
     let measured = walk_contigs(
@@ -243,7 +244,7 @@ fn combine_contigs<'a>(
         samples,
         clipped,
         clip,
-        lent,
+        referenced,
         reference,
         contigs,
         order,
@@ -261,7 +262,7 @@ fn combine_contigs<'a>(
             samples,
             clipped,
             clip,
-            lent,
+            referenced,
             reference,
             contigs,
             order,
@@ -283,13 +284,13 @@ fn combine_loaded<'a>(
     sites: usize,
     clipped: bool,
     clip: &[u8],
-    lent: bool,
+    referenced: bool,
     reference: &'a [u8],
     scratch: &mut [u64],
     out: &mut [u8],
 ) -> Outcome
-    requires { ⌜ CallLoaded (now s) (now names) (now rows) samples sites clipped (now clip) lent (now reference) ⌝ }
-    ensures { λ r. ⌜ ((call : CallLoaded (now (s .entry)) (now (names .entry)) (now (rows .entry)) samples sites clipped (now (clip .entry)) lent (now (reference .entry)))
+    requires { ⌜ CallLoaded (now s) (now names) (now rows) samples sites clipped (now clip) referenced (now reference) ⌝ }
+    ensures { λ r. ⌜ ((call : CallLoaded (now (s .entry)) (now (names .entry)) (now (rows .entry)) samples sites clipped (now (clip .entry)) referenced (now (reference .entry)))
         → Answered (listWithin (call .loaded) (length (now (scratch .entry))) (length (now (out .entry)))) (now (out .entry)) (now (out .exit)) r) ⌝ }
 {
     let mut order = [0usize; 4096];
@@ -304,7 +305,7 @@ fn combine_loaded<'a>(
         samples,
         clipped,
         clip,
-        lent,
+        referenced,
         reference,
         &firsts[..count],
         &order,
@@ -315,10 +316,10 @@ fn combine_loaded<'a>(
 }
 
 // Whether a text, if it is lent, is short enough.
-fn is_short(lent: bool, text: &[u8]) -> bool
-    ensures { λ r. ⌜ r ≡ missingOr fits (onlyIf lent (now (text .entry))) ⌝ }
+fn is_short(given: bool, text: &[u8]) -> bool
+    ensures { λ r. ⌜ r ≡ missingOr fits (onlyIf given (now (text .entry))) ⌝ }
 {
-    if lent {
+    if given {
         return text.len() <= 16777216;
     }
     true
@@ -335,10 +336,10 @@ fn clip_in_order(clipped: bool, clip: &[u8]) -> bool
 }
 
 // Whether the reference, if it is lent, is in order.
-fn reference_in_order(lent: bool, reference: &[u8]) -> bool
-    ensures { λ r. ⌜ r ≡ isAccepted (optionalGroups segmentOf (onlyIf lent (now (reference .entry)))) ⌝ }
+fn reference_in_order(referenced: bool, reference: &[u8]) -> bool
+    ensures { λ r. ⌜ r ≡ isAccepted (optionalGroups segmentOf (onlyIf referenced (now (reference .entry)))) ⌝ }
 {
-    if lent {
+    if referenced {
         return clip_and_reference::check_reference(reference);
     }
     true
@@ -353,18 +354,18 @@ fn combine_cohort<'a>(
     sites: usize,
     clipped: bool,
     clip: &[u8],
-    lent: bool,
+    referenced: bool,
     reference: &'a [u8],
     scratch: &mut [u64],
     out: &mut [u8],
 ) -> Outcome
-    requires { ⌜ CohortHeld (now s) (now names) (now rows) samples sites clipped (now clip) lent (now reference) ⌝ }
-    ensures { λ r. ⌜ TextsAnswered (textsOf (now (s .entry)) clipped (now (clip .entry)) lent (now (reference .entry))) (length (now (scratch .entry))) (now (out .entry)) (now (out .exit)) r ⌝ }
+    requires { ⌜ CohortHeld (now s) (now names) (now rows) samples sites clipped (now clip) referenced (now reference) ⌝ }
+    ensures { λ r. ⌜ TextsAnswered (textsOf (now (s .entry)) clipped (now (clip .entry)) referenced (now (reference .entry))) (length (now (scratch .entry))) (now (out .entry)) (now (out .exit)) r ⌝ }
 {
     if !clip_in_order(clipped, clip) {
         return Outcome::Refused(9);
     }
-    if !reference_in_order(lent, reference) {
+    if !reference_in_order(referenced, reference) {
         return Outcome::Refused(9);
     }
     combine_loaded(
@@ -375,7 +376,7 @@ fn combine_cohort<'a>(
         sites,
         clipped,
         clip,
-        lent,
+        referenced,
         reference,
         scratch,
         out,
@@ -387,13 +388,13 @@ fn combine_fitting<'a>(
     cohort: &'a [u8],
     clipped: bool,
     clip: &[u8],
-    lent: bool,
+    referenced: bool,
     reference: &'a [u8],
     scratch: &mut [u64],
     out: &mut [u8],
 ) -> Outcome
-    requires { ⌜ TextsFit (now cohort) clipped (now clip) lent (now reference) ⌝ }
-    ensures { λ r. ⌜ TextsAnswered (textsOf (now (cohort .entry)) clipped (now (clip .entry)) lent (now (reference .entry))) (length (now (scratch .entry))) (now (out .entry)) (now (out .exit)) r ⌝ }
+    requires { ⌜ TextsFit (now cohort) clipped (now clip) referenced (now reference) ⌝ }
+    ensures { λ r. ⌜ TextsAnswered (textsOf (now (cohort .entry)) clipped (now (clip .entry)) referenced (now (reference .entry))) (length (now (scratch .entry))) (now (out .entry)) (now (out .exit)) r ⌝ }
 {
     let mut names = [0usize; 128];
     let mut rows = [0usize; 69632];
@@ -409,7 +410,7 @@ fn combine_fitting<'a>(
             sites,
             clipped,
             clip,
-            lent,
+            referenced,
             reference,
             scratch,
             out,
@@ -422,12 +423,12 @@ fn combine_texts<'a>(
     cohort: &'a [u8],
     clipped: bool,
     clip: &[u8],
-    lent: bool,
+    referenced: bool,
     reference: &'a [u8],
     scratch: &mut [u64],
     out: &mut [u8],
 ) -> Outcome
-    ensures { λ r. ⌜ TextsAnswered (textsOf (now (cohort .entry)) clipped (now (clip .entry)) lent (now (reference .entry))) (length (now (scratch .entry))) (now (out .entry)) (now (out .exit)) r ⌝ }
+    ensures { λ r. ⌜ TextsAnswered (textsOf (now (cohort .entry)) clipped (now (clip .entry)) referenced (now (reference .entry))) (length (now (scratch .entry))) (now (out .entry)) (now (out .exit)) r ⌝ }
 {
     if !is_short(true, cohort) {
         return Outcome::Refused(2);
@@ -435,10 +436,10 @@ fn combine_texts<'a>(
     if !is_short(clipped, clip) {
         return Outcome::Refused(2);
     }
-    if !is_short(lent, reference) {
+    if !is_short(referenced, reference) {
         return Outcome::Refused(2);
     }
-    combine_fitting(cohort, clipped, clip, lent, reference, scratch, out)
+    combine_fitting(cohort, clipped, clip, referenced, reference, scratch, out)
 }
 
 // The library's entry: writes the combined list of cohort.kv, of clip.kv if it is lent, and of reference.kv if it is lent. A text that
@@ -448,14 +449,14 @@ pub fn combine<'a>(
     cohort: &'a [u8],
     clipped: bool,
     clip: &[u8],
-    lent: bool,
+    referenced: bool,
     reference: &'a [u8],
     scratch: &mut [u64],
     out: &mut [u8],
 ) -> Outcome
-    ensures { λ r. ⌜ Combined (textsOf (now (cohort .entry)) clipped (now (clip .entry)) lent (now (reference .entry))) (now (scratch .entry)) (now (scratch .exit)) (now (out .entry)) (now (out .exit)) r ⌝ }
+    ensures { λ r. ⌜ Combined (textsOf (now (cohort .entry)) clipped (now (clip .entry)) referenced (now (reference .entry))) (now (scratch .entry)) (now (scratch .exit)) (now (out .entry)) (now (out .exit)) r ⌝ }
 {
-    let outcome = combine_texts(cohort, clipped, clip, lent, reference, scratch, out);
+    let outcome = combine_texts(cohort, clipped, clip, referenced, reference, scratch, out);
     list_header::clear_places(scratch);
     outcome
 }

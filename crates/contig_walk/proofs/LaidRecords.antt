@@ -48,7 +48,7 @@ and-true true = refl
 and-true false = refl
 
 -- a contig is named as a site's contig is
-pub contig-named : {s rows : List ℕ} {samples : ℕ} {lent : Bool} {reference contig : List ℕ} → OnContig s rows samples lent reference contig → Name contig
+pub contig-named : {s rows : List ℕ} {samples : ℕ} {referenced : Bool} {reference contig : List ℕ} → OnContig s rows samples referenced reference contig → Name contig
 unfolding siteAt
 contig-named {s} {rows} on =
     let sites = on .loaded .input .cohort .sites in

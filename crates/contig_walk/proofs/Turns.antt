@@ -38,10 +38,10 @@ front-within {n} l e = omega (arith, length-take n l)
 text-front : (t alts : List ℕ) (len : ℕ) → t ≡ between alts 0 len → t ≡ take len alts
 text-front t alts len e = e ∙ rw (sub-zero len)
 
-module _ {s rows : List ℕ} {samples : ℕ} {clipped : Bool} {clip : List ℕ} {lent : Bool} {reference contig chosen from bounds : List ℕ}
+module _ {s rows : List ℕ} {samples : ℕ} {clipped : Bool} {clip : List ℕ} {referenced : Bool} {reference contig chosen from bounds : List ℕ}
     {first last : ℕ} {pending : Pending} {held fresh found₀ alts₀ : List ℕ} {at : ℕ}
-    (ready : TurnReady s rows samples clipped clip lent reference contig chosen from bounds first last pending held fresh found₀ alts₀ at) where
-  abbrev on : OnContig s rows samples lent reference contig
+    (ready : TurnReady s rows samples clipped clip referenced reference contig chosen from bounds first last pending held fresh found₀ alts₀ at) where
+  abbrev on : OnContig s rows samples referenced reference contig
   on = ready .runs .on
 
   module _ (in-clip : inClip contig (on .loaded .input .clip) (record { first = first; last = last }) ≡ true) where
@@ -75,7 +75,7 @@ module _ {s rows : List ℕ} {samples : ℕ} {clipped : Bool} {clip : List ℕ} 
       lay-ready text e =
           let i = ready .sound in-clip some-covering in
           record {
-            lent = lent;
+            referenced = referenced;
             on = on;
             sites = n;
             to = exact text e;
@@ -86,12 +86,12 @@ module _ {s rows : List ℕ} {samples : ℕ} {clipped : Bool} {clip : List ℕ} 
             fresh-room = ready .room .for-fresh;
           }
 
-module _ {s rows : List ℕ} {samples : ℕ} {clipped : Bool} {clip : List ℕ} {lent : Bool} {reference contig chosen from bounds : List ℕ}
+module _ {s rows : List ℕ} {samples : ℕ} {clipped : Bool} {clip : List ℕ} {referenced : Bool} {reference contig chosen from bounds : List ℕ}
     {first last : ℕ} {pending : Pending} {held fresh found₀ alts₀ : List ℕ} {at : ℕ}
-    (ready : TurnReady s rows samples clipped clip lent reference contig chosen from bounds first last pending held fresh found₀ alts₀ at)
+    (ready : TurnReady s rows samples clipped clip referenced reference contig chosen from bounds first last pending held fresh found₀ alts₀ at)
     (waiting : Option Record) (d₀ bytes : List ℕ) (records : ℕ)
     (h : Holds s rows samples reference contig held pending waiting) where
-  abbrev on′ : OnContig s rows samples lent reference contig
+  abbrev on′ : OnContig s rows samples referenced reference contig
   on′ = ready .runs .on
 
   -- nothing changes

@@ -36,7 +36,7 @@ use Rattle.record_laws.proofs.Walking.{here, recordsFrom, walk-end, walk-start,
 use Rattle.record_laws.specs.Pending.{finish, mergedContig}
 use Rattle.contig_walk.proofs.LaidRecords.{contig-named}
 use Rattle.contig_walk.specs.Laying.{TurnReady, TurnRoom, Turns}
-use Rattle.contig_walk.specs.Walk.{ContigWalked, WalkReady}
+use Rattle.contig_walk.specs.Walk.{RecordsWalked, WalkReady}
 use Rattle.contig_walk.specs.declared.Turned.the-variants as turned
 use Rattle.contig_walk.specs.declared.Walked.the-variants as walked
 
@@ -59,9 +59,9 @@ up (a ∷ b ∷ r) (suc k) (before-all es p) h = up (b ∷ r) k p (omega arith)
 ascends : (l : List ℕ) (k : ℕ) → Pairwise _<_ l → k + 1 < length l → getD l k 0 < getD l (k + 1) 0
 ascends l k p h = rw (add-one k) (up l k p (omega arith))
 
-module _ {s rows : List ℕ} {samples : ℕ} {clipped : Bool} {clip : List ℕ} {lent : Bool} {reference contig chosen bounds places : List ℕ}
-    (ready : WalkReady s rows samples clipped clip lent reference contig chosen bounds places) where
-  abbrev on : OnContig s rows samples lent reference contig
+module _ {s rows : List ℕ} {samples : ℕ} {clipped : Bool} {clip : List ℕ} {referenced : Bool} {reference contig chosen bounds places : List ℕ}
+    (ready : WalkReady s rows samples clipped clip referenced reference contig chosen bounds places) where
+  abbrev on : OnContig s rows samples referenced reference contig
   on = ready .runs .on
 
   abbrev left : ℕ → Checked (List Record)
@@ -128,8 +128,8 @@ module _ {s rows : List ℕ} {samples : ℕ} {clipped : Bool} {clip : List ℕ} 
       pub refused-here : (row first last : ℕ) (out′ held′ : List ℕ) → k + 1 < length places → first ≡ getD places k 0 → last ≡ getD places (k + 1) 0 - 1
           → Turns (on .loaded .input) (chosenLetters (on .loaded)) s rows samples reference contig held′ out′ first last (w .waiting) d₀
           (bytes ++ flatMap printedRecord (w .done)) (records + length (w .done)) (turned.Refused row)
-          → ContigWalked (on .loaded .input) (chosenLetters (on .loaded)) contig d₀ bytes records out′ (walked.Refused row)
-      unfolding Turns ContigWalked
+          → RecordsWalked (mergedContig (on .loaded .input) (chosenLetters (on .loaded)) contig) d₀ bytes records out′ (walked.Refused row)
+      unfolding Turns RecordsWalked
       refused-here row first last out′ held′ more f l t =
           sym (w .whole) ∙ rw (walk-turn (on .loaded .input) (chosenLetters (on .loaded)) contig places k more, ← f, ← l) (t (w .done) (left (k + 1)))
 
@@ -151,9 +151,9 @@ module _ {s rows : List ℕ} {samples : ℕ} {clipped : Bool} {clip : List ℕ} 
 
       pub walking-end : length places ≤ k + 1 → (out′ : List ℕ) (end : ℕ)
           → Laid out (state .at) (pendingBytes s rows reference contig held (state .pending)) out′ end
-          → ContigWalked (on .loaded .input) (chosenLetters (on .loaded)) contig d₀ bytes records out′
+          → RecordsWalked (mergedContig (on .loaded .input) (chosenLetters (on .loaded)) contig) d₀ bytes records out′
           (walked.To (min limit end) (pendingCount (state .pending) (state .count)))
-      unfolding ContigWalked finish ofOption
+      unfolding RecordsWalked finish ofOption
       walking-end past out′ end l = record {
         list = w .done ++ ofOption (w .waiting);
         merged = sym (w .whole) ∙ ended (w .done) (w .waiting);
@@ -174,7 +174,7 @@ module _ {s rows : List ℕ} {samples : ℕ} {clipped : Bool} {clip : List ℕ} 
 
       unfoldable pub turn-ready : {from fresh found alts : List ℕ} (first last : ℕ) → k + 1 < length places → first ≡ getD places k 0 → last ≡ getD places (k + 1) 0 - 1
           → Ended rows chosen bounds from samples first → TurnRoom samples held fresh found alts
-          → TurnReady s rows samples clipped clip lent reference contig chosen from bounds first last (state .pending) held fresh found alts (state .at)
+          → TurnReady s rows samples clipped clip referenced reference contig chosen from bounds first last (state .pending) held fresh found alts (state .at)
       turn-ready first last more f l ended room = record {
         runs = ready .runs;
         clip-given = ready .clip-given;

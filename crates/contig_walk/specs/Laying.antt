@@ -32,8 +32,8 @@ use Rattle.contig_walk.specs.declared.Turned.the-variants as turned
 -- the record was found, its interval is sound, and what is held back can be laid
 pub record LayReady (s rows : List ℕ) (samples : ℕ) (reference contig : List ℕ) (first last : ℕ) (place : RefAt) (number : ℕ) (found alts : List ℕ)
     (pending : Pending) (held fresh : List ℕ) (at : ℕ) : Type 0 where
-  pub lent : Bool
-  pub on : OnContig s rows samples lent reference contig
+  pub referenced : Bool
+  pub on : OnContig s rows samples referenced reference contig
   pub sites : ℕ
   pub to : RecordTo on first found alts sites place (length alts) number
   pub ordered : first ≤ last
@@ -61,9 +61,9 @@ pub record TurnRoom (samples : ℕ) (held fresh found alts : List ℕ) : Type 0 
   pub for-record : RecordRoom samples found alts
 
 -- what a turn of the walk is lent: the contig, the clip, an interval that is sound if it has a record, where the searches begin, and what is held back
-pub record TurnReady (s rows : List ℕ) (samples : ℕ) (clipped : Bool) (clip : List ℕ) (lent : Bool) (reference contig chosen from bounds : List ℕ)
+pub record TurnReady (s rows : List ℕ) (samples : ℕ) (clipped : Bool) (clip : List ℕ) (referenced : Bool) (reference contig chosen from bounds : List ℕ)
     (first last : ℕ) (pending : Pending) (held fresh found alts : List ℕ) (at : ℕ) : Type 0 where
-  pub runs : ContigRuns s rows samples lent reference contig chosen bounds
+  pub runs : ContigRuns s rows samples referenced reference contig chosen bounds
   pub clip-given : ClipGiven clipped clip (runs .on .loaded .input)
   pub sound : inClip contig (runs .on .loaded .input .clip) (record { first = first; last = last }) ≡ true
       → 0 < length (coveringSites (runs .on .loaded .input .cohort) contig first) → SoundInterval (record { first = first; last = last })

@@ -14,8 +14,9 @@ ghost use Rattle.definitions.specs.Intervals.{inClip};
 ghost use Rattle.definitions.specs.Records.{Record};
 ghost use Rattle.merged_records.specs.Loaded.{chosenLetters};
 ghost use Rattle.merged_ref.specs.Answers.{refBytes};
+ghost use Rattle.record_laws.specs.Pending.{mergedContig};
 ghost use Rattle.contig_walk.specs.Laying.{LayReady, TurnReady, Turns, laidRecord};
-ghost use Rattle.contig_walk.specs.Walk.{Begun, ClipGiven, ContigWalked, WalkReady};
+ghost use Rattle.contig_walk.specs.Walk.{Begun, ClipGiven, RecordsWalked, WalkReady};
 use bio_ids::GenomePosition;
 use coalescing::Pending;
 use coalescing::Stepped;
@@ -158,7 +159,7 @@ fn lay_record<'a>(
 }
 
 // Whether an interval lies in the clip, where there is one.
-fn kept(
+fn passes_clip(
     clipped: bool,
     clip: &[u8],
     contig: &[u8],
@@ -186,7 +187,7 @@ fn walk_interval<'a>(
     samples: usize,
     clipped: bool,
     clip: &[u8],
-    lent: bool,
+    referenced: bool,
     reference: &'a [u8],
     contig: &[u8],
     chosen: &[usize],
@@ -203,22 +204,22 @@ fn walk_interval<'a>(
     at: usize,
     count: usize,
 ) -> Turned
-    requires { ⌜ TurnReady (now s) (now rows) samples clipped (now clip) lent (now reference) (now contig) (now chosen) (now from) (now bounds) (first .0) (last .0) pending (now held) (now fresh) (now found) (now alts) at ⌝ }
-    ensures { λ r. ⌜ ((ready : TurnReady (now (s .entry)) (now (rows .entry)) samples clipped (now (clip .entry)) lent (now (reference .entry)) (now (contig .entry)) (now (chosen .entry)) (now (from .entry)) (now (bounds .entry)) (first .0) (last .0) pending (now (held .entry)) (now (fresh .entry)) (now (found .entry)) (now (alts .entry)) at)
+    requires { ⌜ TurnReady (now s) (now rows) samples clipped (now clip) referenced (now reference) (now contig) (now chosen) (now from) (now bounds) (first .0) (last .0) pending (now held) (now fresh) (now found) (now alts) at ⌝ }
+    ensures { λ r. ⌜ ((ready : TurnReady (now (s .entry)) (now (rows .entry)) samples clipped (now (clip .entry)) referenced (now (reference .entry)) (now (contig .entry)) (now (chosen .entry)) (now (from .entry)) (now (bounds .entry)) (first .0) (last .0) pending (now (held .entry)) (now (fresh .entry)) (now (found .entry)) (now (alts .entry)) at)
         (waiting : Option Record) (d₀ bytes : List ℕ) (records : ℕ)
         → Holds (now (s .entry)) (now (rows .entry)) samples (now (reference .entry)) (now (contig .entry)) (now (held .entry)) pending waiting
         → Progress d₀ bytes records (now (out .entry)) at count
         → Turns (ready .runs .on .loaded .input) (chosenLetters (ready .runs .on .loaded)) (now (s .entry)) (now (rows .entry)) samples (now (reference .entry)) (now (contig .entry)) (now (held .exit)) (now (out .exit)) (first .0) (last .0) waiting d₀ bytes records r) ⌝ }
 {
     let same = Stepped { pending, at, count };
-    if !kept(clipped, clip, contig, first, last) {
+    if !passes_clip(clipped, clip, contig, first, last) {
         return Turned::To(same);
     }
     let here = merged_records::record_at(
         s,
         rows,
         samples,
-        lent,
+        referenced,
         reference,
         contig,
         chosen,
@@ -264,7 +265,7 @@ pub fn walk_contig<'a>(
     samples: usize,
     clipped: bool,
     clip: &[u8],
-    lent: bool,
+    referenced: bool,
     reference: &'a [u8],
     contig: &[u8],
     chosen: &[usize],
@@ -274,10 +275,10 @@ pub fn walk_contig<'a>(
     at: usize,
     count: usize,
 ) -> Walked
-    requires { ⌜ WalkReady (now s) (now rows) samples clipped (now clip) lent (now reference) (now contig) (now chosen) (now bounds) (now places) × Begun (now out) at count ⌝ }
-    ensures { λ r. ⌜ ((ready : WalkReady (now (s .entry)) (now (rows .entry)) samples clipped (now (clip .entry)) lent (now (reference .entry)) (now (contig .entry)) (now (chosen .entry)) (now (bounds .entry)) (now (places .entry)))
+    requires { ⌜ WalkReady (now s) (now rows) samples clipped (now clip) referenced (now reference) (now contig) (now chosen) (now bounds) (now places) × Begun (now out) at count ⌝ }
+    ensures { λ r. ⌜ ((ready : WalkReady (now (s .entry)) (now (rows .entry)) samples clipped (now (clip .entry)) referenced (now (reference .entry)) (now (contig .entry)) (now (chosen .entry)) (now (bounds .entry)) (now (places .entry)))
         (d₀ bytes : List ℕ) (records : ℕ) → Progress d₀ bytes records (now (out .entry)) at count
-        → ContigWalked (ready .runs .on .loaded .input) (chosenLetters (ready .runs .on .loaded)) (now (contig .entry)) d₀ bytes records (now (out .exit)) r) ⌝ }
+        → RecordsWalked (mergedContig (ready .runs .on .loaded .input) (chosenLetters (ready .runs .on .loaded)) (now (contig .entry))) d₀ bytes records (now (out .exit)) r) ⌝ }
 {
     let mut held = [0u8; 8192];
     let mut fresh = [0u8; 8192];
@@ -302,7 +303,7 @@ pub fn walk_contig<'a>(
             samples,
             clipped,
             clip,
-            lent,
+            referenced,
             reference,
             contig,
             chosen,

@@ -39,8 +39,8 @@ use Rattle.merged_records.specs.Loaded.{OnContig, chosenLetters, coverin
 use Rattle.merged_records.specs.declared.RecordAt.{RecordAt}
 use Rattle.merged_records.specs.declared.RecordAt.the-variants as answer
 
-module _ {s rows : List ℕ} {samples : ℕ} {lent : Bool} {reference contig : List ℕ}
-    (on : OnContig s rows samples lent reference contig) (position : ℕ) where
+module _ {s rows : List ℕ} {samples : ℕ} {referenced : Bool} {reference contig : List ℕ}
+    (on : OnContig s rows samples referenced reference contig) (position : ℕ) where
   abbrev numbers : List ℕ
   numbers = coveringNumbers on position
 
@@ -66,7 +66,7 @@ module _ {s rows : List ℕ} {samples : ℕ} {lent : Bool} {reference contig : L
   -- the segments give the letters that are chosen
   chosen-from : IfThere (λ r. ChoiceFrom r (chosenLetters (on .loaded))) (on .loaded .input .reference)
   unfolding onlyIf
-  chosen-from = rw (on .loaded .reference-is) (go lent)
+  chosen-from = rw (on .loaded .reference-is) (go referenced)
     where
       go : (b : Bool) → IfThere (λ r. ChoiceFrom r (chosenLetters (on .loaded))) (onlyIf b (on .loaded .segments))
       go true = first-letter (on .loaded .segments)
@@ -118,7 +118,7 @@ module _ {s rows : List ℕ} {samples : ℕ} {lent : Bool} {reference contig : L
   module _ (sites : List ℕ) (here : sites ≡ numbers) where
     -- REF by the numbers of the found sites is REF of the covering sites
     pub as-merged : {c : Checked (List ℕ)}
-        → c ≡ mergedRef (onlyIf lent (on .loaded .segments)) (chosenLetters (on .loaded)) contig position (map (siteAt s rows) sites)
+        → c ≡ mergedRef (onlyIf referenced (on .loaded .segments)) (chosenLetters (on .loaded)) contig position (map (siteAt s rows) sites)
         → mergedRef (on .loaded .input .reference) (chosenLetters (on .loaded)) contig position (covering on position) ≡ c
     as-merged h = sym (h ∙ rw (here, numbers-cover, on .loaded .reference-is))
 
@@ -171,8 +171,8 @@ letter-answered s rows reference at place e = rw e
 
 -- ---- the numbers at the front of the list that was filled
 
-module _ {s rows : List ℕ} {samples : ℕ} {lent : Bool} {reference contig : List ℕ}
-    (on : OnContig s rows samples lent reference contig) (position : ℕ) (found after : List ℕ) (n : ℕ) (room : samples ≤ length found)
+module _ {s rows : List ℕ} {samples : ℕ} {referenced : Bool} {reference contig : List ℕ}
+    (on : OnContig s rows samples referenced reference contig) (position : ℕ) (found after : List ℕ) (n : ℕ) (room : samples ≤ length found)
     (f : Found found (coveringNumbers on position) after n) where
   pub fits-in : length after ≡ length found → n ≤ length after
   fits-in same = omega (arith, f .count, few-numbers on position)
@@ -180,7 +180,7 @@ module _ {s rows : List ℕ} {samples : ℕ} {lent : Bool} {reference contig : L
   pub exactly : length after ≡ length found → n ≡ length (take n after)
   exactly same = sym (length-take-le n after (fits-in same))
 
-  unfoldable pub over-them : (n ≡ 0 → ⊥) → Over s rows samples lent reference contig position (take n after)
+  unfoldable pub over-them : (n ≡ 0 → ⊥) → Over s rows samples referenced reference contig position (take n after)
   over-them not-none = record {
     on = on;
     numbers = front on position found room f;
@@ -189,8 +189,8 @@ module _ {s rows : List ℕ} {samples : ℕ} {lent : Bool} {reference contig : L
 
 -- ---- the record of an interval
 
-module _ {s rows : List ℕ} {samples : ℕ} {lent : Bool} {reference contig : List ℕ}
-    (on : OnContig s rows samples lent reference contig) (position : ℕ) {found alts : List ℕ} {n : ℕ} {at : RefAt} {len count : ℕ}
+module _ {s rows : List ℕ} {samples : ℕ} {referenced : Bool} {reference contig : List ℕ}
+    (on : OnContig s rows samples referenced reference contig) (position : ℕ) {found alts : List ℕ} {n : ℕ} {at : RefAt} {len count : ℕ}
     (to : RecordTo on position found alts n at len count) where
   abbrev pub recordRef : List ℕ
   recordRef = refBytes s rows reference at

@@ -20,8 +20,8 @@ use Rattle.merged_records.specs.Loaded.{OnContig, chosenLetters, coverin
 use Rattle.merged_records.specs.declared.RecordAt.{RecordAt}
 use Rattle.merged_records.specs.declared.RecordAt.the-variants as answer
 
-module _ {s rows : List ℕ} {samples : ℕ} {lent : Bool} {reference contig : List ℕ}
-    (on : OnContig s rows samples lent reference contig) (position : ℕ) where
+module _ {s rows : List ℕ} {samples : ℕ} {referenced : Bool} {reference contig : List ℕ}
+    (on : OnContig s rows samples referenced reference contig) (position : ℕ) where
   abbrev pub covering : List Site
   covering = coveringSites (on .loaded .input .cohort) contig position
 
@@ -59,8 +59,8 @@ AltsFound s rows reference position at found alts (answer.Refused row) =
 AltsFound s rows reference position at found alts (answer.Record n same len count) = AltsTo s rows reference position at found alts n same len count
 
 -- these are the numbers of the sites that cover a position of the contig, and there are some
-pub record Over (s rows : List ℕ) (samples : ℕ) (lent : Bool) (reference contig : List ℕ) (position : ℕ) (found : List ℕ) : Type 0 where
-  pub on : OnContig s rows samples lent reference contig
+pub record Over (s rows : List ℕ) (samples : ℕ) (referenced : Bool) (reference contig : List ℕ) (position : ℕ) (found : List ℕ) : Type 0 where
+  pub on : OnContig s rows samples referenced reference contig
   pub numbers : found ≡ coveringNumbers on position
   pub some-site : 0 < length found
 

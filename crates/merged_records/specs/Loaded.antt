@@ -16,29 +16,29 @@ use Rattle.laws.proofs.SoundInput.{SoundInput}
 use Rattle.tables.specs.Tables.{SiteRows, column, partAt}
 
 -- the cohort text and its rows, so many samples, and the reference text if it is there, hold this input
-pub record Loaded (s rows : List ℕ) (samples : ℕ) (lent : Bool) (reference : List ℕ) : Type 0 where
+pub record Loaded (s rows : List ℕ) (samples : ℕ) (referenced : Bool) (reference : List ℕ) : Type 0 where
   pub input : Input
   pub table : SiteRows s rows (input .cohort .sites)
   pub names : samples ≡ length (input .cohort .names)
   pub few : samples ≤ maxSamples
   pub segments : List ReferenceSegment
-  pub segments-from : lent ≡ true → SegmentsFrom reference 0 segments
-  pub reference-is : input .reference ≡ onlyIf lent segments
+  pub segments-from : referenced ≡ true → SegmentsFrom reference 0 segments
+  pub reference-is : input .reference ≡ onlyIf referenced segments
   pub sound : SoundInput input
 
 -- the letters that are chosen: those of the first segment that holds the position
-abbrev pub chosenLetters : {s rows : List ℕ} {samples : ℕ} {lent : Bool} {reference : List ℕ} → Loaded s rows samples lent reference → LetterChoice
+abbrev pub chosenLetters : {s rows : List ℕ} {samples : ℕ} {referenced : Bool} {reference : List ℕ} → Loaded s rows samples referenced reference → LetterChoice
 chosenLetters l = firstLetter (l .segments)
 
 -- a contig, by its name and its first site
-pub record OnContig (s rows : List ℕ) (samples : ℕ) (lent : Bool) (reference contig : List ℕ) : Type 0 where
-  pub loaded : Loaded s rows samples lent reference
+pub record OnContig (s rows : List ℕ) (samples : ℕ) (referenced : Bool) (reference contig : List ℕ) : Type 0 where
+  pub loaded : Loaded s rows samples referenced reference
   pub first : ℕ
   pub known : first < length (loaded .input .cohort .sites)
   pub own : column 1 rows first ≡ first
   pub name : contig ≡ partAt 7 8 s rows first
 
-module _ {s rows : List ℕ} {samples : ℕ} {lent : Bool} {reference contig : List ℕ} (on : OnContig s rows samples lent reference contig) where
+module _ {s rows : List ℕ} {samples : ℕ} {referenced : Bool} {reference contig : List ℕ} (on : OnContig s rows samples referenced reference contig) where
   -- its sites in runs, one for each sample
   abbrev pub runs : ℕ → List ℕ
   runs = contigSites rows (length (on .loaded .input .cohort .sites)) (on .first)
@@ -51,6 +51,6 @@ module _ {s rows : List ℕ} {samples : ℕ} {lent : Bool} {reference contig : L
   coveringNumbers position = coveringRows rows position samples runs
 
 -- the same with the sites in these runs
-pub record ContigRuns (s rows : List ℕ) (samples : ℕ) (lent : Bool) (reference contig chosen bounds : List ℕ) : Type 0 where
-  pub on : OnContig s rows samples lent reference contig
+pub record ContigRuns (s rows : List ℕ) (samples : ℕ) (referenced : Bool) (reference contig chosen bounds : List ℕ) : Type 0 where
+  pub on : OnContig s rows samples referenced reference contig
   pub in-runs : InRuns on chosen bounds

@@ -43,22 +43,22 @@ fn record_over<'a>(
     s: &'a [u8],
     rows: &[usize],
     samples: usize,
-    lent: bool,
+    referenced: bool,
     reference: &'a [u8],
     contig: &[u8],
     position: GenomePosition,
     found: &[usize],
     alts: &mut [u8],
 ) -> RecordAt
-    requires { ⌜ (4096 ≤ length (now alts)) × Over (now s) (now rows) samples lent (now reference) (now contig) (position .0) (now found) ⌝ }
-    ensures { λ r. ⌜ ((over : Over (now (s .entry)) (now (rows .entry)) samples lent (now (reference .entry)) (now (contig .entry)) (position .0) (now (found .entry)))
+    requires { ⌜ (4096 ≤ length (now alts)) × Over (now s) (now rows) samples referenced (now reference) (now contig) (position .0) (now found) ⌝ }
+    ensures { λ r. ⌜ ((over : Over (now (s .entry)) (now (rows .entry)) samples referenced (now (reference .entry)) (now (contig .entry)) (position .0) (now (found .entry)))
         → RecordFound (over .on) (position .0) (λ _. now (found .entry)) (now (alts .exit)) r) ⌝ }
 {
     let at = merged_ref::determine_reference_allele(
         s,
         rows,
         found,
-        lent,
+        referenced,
         reference,
         contig,
         position,
@@ -76,7 +76,7 @@ pub fn record_at<'a>(
     s: &'a [u8],
     rows: &[usize],
     samples: usize,
-    lent: bool,
+    referenced: bool,
     reference: &'a [u8],
     contig: &[u8],
     chosen: &[usize],
@@ -86,8 +86,8 @@ pub fn record_at<'a>(
     found: &mut [usize],
     alts: &mut [u8],
 ) -> RecordAt
-    requires { ⌜ ContigRuns (now s) (now rows) samples lent (now reference) (now contig) (now chosen) (now bounds) × RecordRoom samples (now found) (now alts) × Ended (now rows) (now chosen) (now bounds) (now from) samples (position .0) ⌝ }
-    ensures { λ r. ⌜ ((at : ContigRuns (now (s .entry)) (now (rows .entry)) samples lent (now (reference .entry)) (now (contig .entry)) (now (chosen .entry)) (now (bounds .entry)))
+    requires { ⌜ ContigRuns (now s) (now rows) samples referenced (now reference) (now contig) (now chosen) (now bounds) × RecordRoom samples (now found) (now alts) × Ended (now rows) (now chosen) (now bounds) (now from) samples (position .0) ⌝ }
+    ensures { λ r. ⌜ ((at : ContigRuns (now (s .entry)) (now (rows .entry)) samples referenced (now (reference .entry)) (now (contig .entry)) (now (chosen .entry)) (now (bounds .entry)))
         → RecordFound (at .on) (position .0) (λ n. take n (now (found .exit))) (now (alts .exit)) r) ⌝ }
 {
     let n = covering_sites::covering_sites(rows, chosen, from, bounds, samples, position, found);
@@ -98,7 +98,7 @@ pub fn record_at<'a>(
         s,
         rows,
         samples,
-        lent,
+        referenced,
         reference,
         contig,
         position,

@@ -27,43 +27,43 @@ answered s rows reference (answer.Site site) h = refl
 answered s rows reference (answer.Letter place) h = refl
 answered s rows reference (answer.Refused row) h = absurd (h row refl)
 
-module _ (s rows reference contig : List ℕ) (position : ℕ) (found : List ℕ) (lent : Bool) (segments : List ReferenceSegment) where
+module _ (s rows reference contig : List ℕ) (position : ℕ) (found : List ℕ) (referenced : Bool) (segments : List ReferenceSegment) where
   abbrev covering : List Site
   covering = sitesAt s rows found
 
   -- ---- a letter
 
-  pub not-lent : lent ≡ false → (site : ℕ) → partAt 9 10 s rows site ≡ firstRef covering
-      → refAnswer s rows reference (answer.Letter (Cohort site)) ≡ refLetter (onlyIf lent segments) (firstLetter segments) contig position covering
+  pub not-referenced : referenced ≡ false → (site : ℕ) → partAt 9 10 s rows site ≡ firstRef covering
+      → refAnswer s rows reference (answer.Letter (Cohort site)) ≡ refLetter (onlyIf referenced segments) (firstLetter segments) contig position covering
   unfolding refAnswer refBytes letterBytes refLetter onlyIf
-  not-lent h site e = rw (h, e)
+  not-referenced h site e = rw (h, e)
 
-  pub letter-there : lent ≡ true → (i : ℕ) → LetterFound reference contig position segments (letterAt.At i)
-      → refAnswer s rows reference (answer.Letter (Reference i)) ≡ refLetter (onlyIf lent segments) (firstLetter segments) contig position covering
+  pub letter-there : referenced ≡ true → (i : ℕ) → LetterFound reference contig position segments (letterAt.At i)
+      → refAnswer s rows reference (answer.Letter (Reference i)) ≡ refLetter (onlyIf referenced segments) (firstLetter segments) contig position covering
   unfolding refAnswer refBytes letterBytes refLetter onlyIf LetterFound
   letter-there h i f = rw (h, f .1) (sym (required 11 _ _ (f .0) refl))
 
-  pub letter-lacking : lent ≡ true → LetterFound reference contig position segments letterAt.Absent
-      → refAnswer s rows reference (answer.Refused 11) ≡ refLetter (onlyIf lent segments) (firstLetter segments) contig position covering
+  pub letter-lacking : referenced ≡ true → LetterFound reference contig position segments letterAt.Absent
+      → refAnswer s rows reference (answer.Refused 11) ≡ refLetter (onlyIf referenced segments) (firstLetter segments) contig position covering
   unfolding refAnswer refLetter onlyIf LetterFound
   letter-lacking h f = rw h (sym (not-required 11 _ _ f))
 
   -- ---- REF
 
   pub by-letter : LongestFound s rows position found longestAt.NoneStarts
-      → refLetter (onlyIf lent segments) (firstLetter segments) contig position covering
-      ≡ mergedRef (onlyIf lent segments) (firstLetter segments) contig position covering
+      → refLetter (onlyIf referenced segments) (firstLetter segments) contig position covering
+      ≡ mergedRef (onlyIf referenced segments) (firstLetter segments) contig position covering
   unfolding mergedRef LongestFound
   by-letter f = rw f
 
   module _ (site : ℕ) (f : LongestFound s rows position found (longestAt.Site site)) {agree : Bool}
       (e : agree ≡ allOf (λ ref. isPrefix ref (partAt 9 10 s rows site)) (startingRefs position covering)) where
     pub shared : agree ≡ true
-        → refAnswer s rows reference (answer.Site site) ≡ mergedRef (onlyIf lent segments) (firstLetter segments) contig position covering
+        → refAnswer s rows reference (answer.Site site) ≡ mergedRef (onlyIf referenced segments) (firstLetter segments) contig position covering
     unfolding refAnswer refBytes mergedRef sharedRef LongestFound startingRefs
     shared h = rw (f .0, ← f .1) (sym (required 12 _ _ (sym e ∙ h) refl))
 
     pub conflict : agree ≡ false
-        → refAnswer s rows reference (answer.Refused 12) ≡ mergedRef (onlyIf lent segments) (firstLetter segments) contig position covering
+        → refAnswer s rows reference (answer.Refused 12) ≡ mergedRef (onlyIf referenced segments) (firstLetter segments) contig position covering
     unfolding refAnswer mergedRef sharedRef LongestFound startingRefs
     conflict h = rw (f .0, ← f .1) (sym (not-required 12 _ _ (sym e ∙ h)))

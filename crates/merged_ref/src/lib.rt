@@ -212,16 +212,16 @@ fn first_site(rows: &[usize], found: &[usize]) -> usize
 fn ref_letter(
     rows: &[usize],
     found: &[usize],
-    lent: bool,
+    referenced: bool,
     reference: &[u8],
     contig: &[u8],
     position: GenomePosition,
 ) -> RefAt
-    ensures { λ r. ⌜ ((s : List ℕ) (segments : List ReferenceSegment) → (lent ≡ true → SegmentsFrom (now (reference .entry)) 0 segments)
+    ensures { λ r. ⌜ ((s : List ℕ) (segments : List ReferenceSegment) → (referenced ≡ true → SegmentsFrom (now (reference .entry)) 0 segments)
         → refAnswer s (now (rows .entry)) (now (reference .entry)) r
-        ≡ refLetter (onlyIf lent segments) (firstLetter segments) (now (contig .entry)) (position .0) (sitesAt s (now (rows .entry)) (now (found .entry)))) ⌝ }
+        ≡ refLetter (onlyIf referenced segments) (firstLetter segments) (now (contig .entry)) (position .0) (sitesAt s (now (rows .entry)) (now (found .entry)))) ⌝ }
 {
-    if !lent {
+    if !referenced {
         return RefAt::Letter(Place::Cohort(first_site(rows, found)));
     }
     let letter = find_letter(reference, contig, position);
@@ -237,18 +237,18 @@ pub fn determine_reference_allele(
     s: &[u8],
     rows: &[usize],
     found: &[usize],
-    lent: bool,
+    referenced: bool,
     reference: &[u8],
     contig: &[u8],
     position: GenomePosition,
 ) -> RefAt
-    ensures { λ r. ⌜ ((segments : List ReferenceSegment) → (lent ≡ true → SegmentsFrom (now (reference .entry)) 0 segments)
+    ensures { λ r. ⌜ ((segments : List ReferenceSegment) → (referenced ≡ true → SegmentsFrom (now (reference .entry)) 0 segments)
         → refAnswer (now (s .entry)) (now (rows .entry)) (now (reference .entry)) r
-        ≡ mergedRef (onlyIf lent segments) (firstLetter segments) (now (contig .entry)) (position .0) (sitesAt (now (s .entry)) (now (rows .entry)) (now (found .entry)))) ⌝ }
+        ≡ mergedRef (onlyIf referenced segments) (firstLetter segments) (now (contig .entry)) (position .0) (sitesAt (now (s .entry)) (now (rows .entry)) (now (found .entry)))) ⌝ }
 {
     let longest = longest_ref(s, rows, found, position);
     let LongestAt::Site(site) = longest else {
-        return ref_letter(rows, found, lent, reference, contig, position);
+        return ref_letter(rows, found, referenced, reference, contig, position);
     };
     let bytes = tables::reference_allele(s, rows, site);
     if refs_agree(s, rows, found, position, bytes) {

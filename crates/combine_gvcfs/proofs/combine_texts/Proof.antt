@@ -10,22 +10,22 @@ is-short-requires : tie.Need-is-short-requires
 is-short-requires c κs = search needs
 
 returns : tie.Need-returns
-returns c = texts-refused (cohort-long ((c .before .before .before .before .before .before .before .args .cohort .now)) ((c .before .before .before .before .before .before .before .args .clipped)) ((c .before .before .before .before .before .before .before .args .clip .now)) ((c .before .before .before .before .before .before .before .args .lent)) ((c .before .before .before .before .before .before .before .args .reference .now)) (sym ((c .before .is-short .ensures)) ∙ not-true _ ((c .if1 .taken)))) refl
+returns c = texts-refused (cohort-long ((c .before .before .before .before .before .before .before .args .cohort .now)) ((c .before .before .before .before .before .before .before .args .clipped)) ((c .before .before .before .before .before .before .before .args .clip .now)) ((c .before .before .before .before .before .before .before .args .referenced)) ((c .before .before .before .before .before .before .before .args .reference .now)) (sym ((c .before .is-short .ensures)) ∙ not-true _ ((c .if1 .taken)))) refl
 
 is-short-requires-2 : tie.Need-is-short-requires-2
 is-short-requires-2 c κs = search needs
 
 returns-2 : tie.Need-returns-2
-returns-2 c = texts-refused (clip-long ((c .before .before .before .before .before .before .before .before .before .args .cohort .now)) ((c .before .before .before .before .before .before .before .before .before .args .clipped)) ((c .before .before .before .before .before .before .before .before .before .args .clip .now)) ((c .before .before .before .before .before .before .before .before .before .args .lent)) ((c .before .before .before .before .before .before .before .before .before .args .reference .now)) (sym ((c .before .is-short2 .ensures)) ∙ not-true _ ((c .if2 .taken)))) refl
+returns-2 c = texts-refused (clip-long ((c .before .before .before .before .before .before .before .before .before .args .cohort .now)) ((c .before .before .before .before .before .before .before .before .before .args .clipped)) ((c .before .before .before .before .before .before .before .before .before .args .clip .now)) ((c .before .before .before .before .before .before .before .before .before .args .referenced)) ((c .before .before .before .before .before .before .before .before .before .args .reference .now)) (sym ((c .before .is-short2 .ensures)) ∙ not-true _ ((c .if2 .taken)))) refl
 
 is-short-requires-3 : tie.Need-is-short-requires-3
 is-short-requires-3 c κs = search needs
 
 returns-3 : tie.Need-returns-3
-returns-3 c = texts-refused (reference-long ((c .before .before .before .before .before .before .before .before .before .before .before .args .cohort .now)) ((c .before .before .before .before .before .before .before .before .before .before .before .args .clipped)) ((c .before .before .before .before .before .before .before .before .before .before .before .args .clip .now)) ((c .before .before .before .before .before .before .before .before .before .before .before .args .lent)) ((c .before .before .before .before .before .before .before .before .before .before .before .args .reference .now)) (sym ((c .before .is-short3 .ensures)) ∙ not-true _ ((c .if3 .taken)))) refl
+returns-3 c = texts-refused (reference-long ((c .before .before .before .before .before .before .before .before .before .before .before .args .cohort .now)) ((c .before .before .before .before .before .before .before .before .before .before .before .args .clipped)) ((c .before .before .before .before .before .before .before .before .before .before .before .args .clip .now)) ((c .before .before .before .before .before .before .before .before .before .before .before .args .referenced)) ((c .before .before .before .before .before .before .before .before .before .before .before .args .reference .now)) (sym ((c .before .is-short3 .ensures)) ∙ not-true _ ((c .if3 .taken)))) refl
 
 combine-fitting-requires : tie.Need-combine-fitting-requires
-combine-fitting-requires c κs = none-long ((c .before .before .before .before .before .before .before .before .before .before .before .before .before .args .cohort .now)) ((c .before .before .before .before .before .before .before .before .before .before .before .before .before .args .clipped)) ((c .before .before .before .before .before .before .before .before .before .before .before .before .before .args .clip .now)) ((c .before .before .before .before .before .before .before .before .before .before .before .before .before .args .lent)) ((c .before .before .before .before .before .before .before .before .before .before .before .before .before .args .reference .now)) (sym ((c .before .before .before .before .before .before .before .is-short .ensures)) ∙ not-false _ ((c .before .before .before .before .before .before .if1 .left))) (sym ((c .before .before .before .before .before .is-short2 .ensures)) ∙ not-false _ ((c .before .before .before .before .if2 .left))) (sym ((c .before .before .before .is-short3 .ensures)) ∙ not-false _ ((c .before .before .if3 .left)))
+combine-fitting-requires c κs = none-long ((c .before .before .before .before .before .before .before .before .before .before .before .before .before .args .cohort .now)) ((c .before .before .before .before .before .before .before .before .before .before .before .before .before .args .clipped)) ((c .before .before .before .before .before .before .before .before .before .before .before .before .before .args .clip .now)) ((c .before .before .before .before .before .before .before .before .before .before .before .before .before .args .referenced)) ((c .before .before .before .before .before .before .before .before .before .before .before .before .before .args .reference .now)) (sym ((c .before .before .before .before .before .before .before .is-short .ensures)) ∙ not-false _ ((c .before .before .before .before .before .before .if1 .left))) (sym ((c .before .before .before .before .before .is-short2 .ensures)) ∙ not-false _ ((c .before .before .before .before .if2 .left))) (sym ((c .before .before .before .is-short3 .ensures)) ∙ not-false _ ((c .before .before .if3 .left)))
 
 same-length : tie.Need-same-length
 same-length c = search needs

@@ -10,12 +10,12 @@ use Rattle.combine_gvcfs.proofs.walk_contigs.Statement.{statement}
 use Rattle.combine_gvcfs.proofs.walk_contigs.Tie as tie
 
 abbrev Inv-loop : tie.InvT-loop
-Inv-loop s rows samples clipped clip lent reference contigs order runs scratch₀ out₀ at next₀ count₀ c₀ c-end scratch out next count c =
+Inv-loop s rows samples clipped clip referenced reference contigs order runs scratch₀ out₀ at next₀ count₀ c₀ c-end scratch out next count c =
     (length scratch ≡ length scratch₀) × (length out ≡ length out₀)
-    × ((ready : AllReady s rows samples clipped clip lent reference contigs order runs out₀ at) → Going ready (length scratch₀) out next count c)
+    × ((ready : AllReady s rows samples clipped clip referenced reference contigs order runs out₀ at) → Going ready (length scratch₀) out next count c)
 
 abbrev μ-loop : tie.MeasureT-loop
-μ-loop s rows samples clipped clip lent reference contigs order runs scratch₀ out₀ at next₀ count₀ c₀ c-end scratch out next count c = c-end - c
+μ-loop s rows samples clipped clip referenced reference contigs order runs scratch₀ out₀ at next₀ count₀ c₀ c-end scratch out next count c = c-end - c
 
 loop-holds : tie.Need-loop-holds Inv-loop μ-loop
 loop-holds c = (search needs, search needs, λ ready. going-start ready _)

@@ -13,14 +13,14 @@ use Rattle.contig_walk.proofs.walk_contig.Statement.{statement}
 use Rattle.contig_walk.proofs.walk_contig.Tie as tie
 
 abbrev Inv-loop : tie.InvT-loop
-Inv-loop s rows samples clipped clip lent reference contig chosen bounds places out₀ at count held₀ fresh₀ found₀ alts₀ from₀ state₀ k₀ out held fresh found alts from state k =
+Inv-loop s rows samples clipped clip referenced reference contig chosen bounds places out₀ at count held₀ fresh₀ found₀ alts₀ from₀ state₀ k₀ out held fresh found alts from state k =
     (length held ≡ 8192) × (length out ≡ length out₀) × (k ≤ length places)
-    × ((ready : WalkReady s rows samples clipped clip lent reference contig chosen bounds places) (d₀ bytes : List ℕ) (records : ℕ)
+    × ((ready : WalkReady s rows samples clipped clip referenced reference contig chosen bounds places) (d₀ bytes : List ℕ) (records : ℕ)
     → Progress d₀ bytes records out₀ at count → Walking ready d₀ bytes records out held state k)
     × (length fresh ≡ 8192) × (length found ≡ 64) × (length alts ≡ 4096) × (length from ≡ 64) × Ended rows chosen bounds from samples (getD places k 0)
 
 abbrev μ-loop : tie.MeasureT-loop
-μ-loop s rows samples clipped clip lent reference contig chosen bounds places out₀ at count held₀ fresh₀ found₀ alts₀ from₀ state₀ k₀ out held fresh found alts from state k = length places - k
+μ-loop s rows samples clipped clip referenced reference contig chosen bounds places out₀ at count held₀ fresh₀ found₀ alts₀ from₀ state₀ k₀ out held fresh found alts from state k = length places - k
 
 slice-aggregate-start-search : tie.Need-slice-aggregate-start-search Inv-loop μ-loop
 slice-aggregate-start-search c = search needs

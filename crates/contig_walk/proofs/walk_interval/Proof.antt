@@ -8,11 +8,11 @@ use Rattle.merged_records.specs.Found.{RecordFound}
 use Rattle.contig_walk.proofs.walk_interval.Statement.{statement}
 use Rattle.contig_walk.proofs.walk_interval.Tie as tie
 
-kept-requires : tie.Need-kept-requires
-kept-requires c κs = search needs
+passes-clip-requires : tie.Need-passes-clip-requires
+passes-clip-requires c κs = search needs
 
 returns : tie.Need-returns
-returns c = λ ready waiting d₀ bytes records h p. turn-clipped ready waiting d₀ bytes records h (sym ((c .before .kept .ensures) _ (ready .clip-given)) ∙ not-true _ (c .if1 .taken)) _ _ p
+returns c = λ ready waiting d₀ bytes records h p. turn-clipped ready waiting d₀ bytes records h (sym ((c .before .passes-clip .ensures) _ (ready .clip-given)) ∙ not-true _ (c .if1 .taken)) _ _ p
 
 record-at-requires : tie.Need-record-at-requires
 record-at-requires c κs = ((c .before .before .before .before .before .before .before .before .before .before .before .before .before .before .before .before .before .pre .runs), (c .before .before .before .before .before .before .before .before .before .before .before .before .before .before .before .before .before .pre .room .for-record), (c .before .before .before .before .before .before .before .before .before .before .before .before .before .before .before .before .before .pre .ended))
@@ -40,7 +40,7 @@ slice-aggregate-lay-record c = let f = rw (c .before .before .before .before .he
 lay-record-requires : tie.Need-lay-record-requires
 unfolding RecordFound
 lay-record-requires c κs = let f = rw (c .before .before .before .before .before .before .before .here2 .given .1) at ((c .before .before .before .before .before .before .before .before .before .before .before .before .before .record-at .ensures) (c .before .before .before .before .before .before .before .before .before .before .before .before .before .before .before .before .before .before .before .before .before .before .before .before .before .before .before .before .before .before .before .pre .runs)) in
-    lay-ready (c .before .before .before .before .before .before .before .before .before .before .before .before .before .before .before .before .before .before .before .before .before .before .before .before .before .before .before .before .before .before .before .pre) (sym ((c .before .before .before .before .before .before .before .before .before .before .before .before .before .before .before .before .before .kept .ensures) _ (c .before .before .before .before .before .before .before .before .before .before .before .before .before .before .before .before .before .before .before .before .before .before .before .before .before .before .before .before .before .before .before .pre .clip-given)) ∙ not-false _ (c .before .before .before .before .before .before .before .before .before .before .before .before .before .before .before .before .if1 .left)) _ _ _ _ _ _ f _ (c .before .before .before .before .part .ensures)
+    lay-ready (c .before .before .before .before .before .before .before .before .before .before .before .before .before .before .before .before .before .before .before .before .before .before .before .before .before .before .before .before .before .before .before .pre) (sym ((c .before .before .before .before .before .before .before .before .before .before .before .before .before .before .before .before .before .passes-clip .ensures) _ (c .before .before .before .before .before .before .before .before .before .before .before .before .before .before .before .before .before .before .before .before .before .before .before .before .before .before .before .before .before .before .before .pre .clip-given)) ∙ not-false _ (c .before .before .before .before .before .before .before .before .before .before .before .before .before .before .before .before .if1 .left)) _ _ _ _ _ _ f _ (c .before .before .before .before .part .ensures)
 
 same-length : tie.Need-same-length
 same-length c = search needs
@@ -50,7 +50,7 @@ same-length-2 c = search needs
 
 returns-2 : tie.Need-returns-2
 unfolding RecordFound
-returns-2 c = λ ready waiting d₀ bytes records h p. turn-bare ready waiting d₀ bytes records h (sym ((c .before .before .before .before .before .before .before .before .before .before .kept .ensures) _ (ready .clip-given)) ∙ not-false _ (c .before .before .before .before .before .before .before .before .before .if1 .left)) (rw (c .enum-told .given .1) at ((c .before .before .before .before .before .before .record-at .ensures) (ready .runs))) _ _ p
+returns-2 c = λ ready waiting d₀ bytes records h p. turn-bare ready waiting d₀ bytes records h (sym ((c .before .before .before .before .before .before .before .before .before .before .passes-clip .ensures) _ (ready .clip-given)) ∙ not-false _ (c .before .before .before .before .before .before .before .before .before .if1 .left)) (rw (c .enum-told .given .1) at ((c .before .before .before .before .before .before .record-at .ensures) (ready .runs))) _ _ p
 
 same-length-3 : tie.Need-same-length-3
 same-length-3 c = search needs
@@ -61,7 +61,7 @@ same-length-4 c = search needs
 returns-3 : tie.Need-returns-3
 unfolding RecordFound
 returns-3 c = λ ready waiting d₀ bytes records h p. let f = rw (c .before .here .given .1) at ((c .before .before .before .before .before .before .before .record-at .ensures) (ready .runs)) in
-    turn-none ready waiting d₀ bytes records h (sym ((c .before .before .before .before .before .before .before .before .before .before .before .kept .ensures) _ (ready .clip-given)) ∙ not-false _ (c .before .before .before .before .before .before .before .before .before .before .if1 .left)) _ (f .0) (f .1) _
+    turn-none ready waiting d₀ bytes records h (sym ((c .before .before .before .before .before .before .before .before .before .before .before .passes-clip .ensures) _ (ready .clip-given)) ∙ not-false _ (c .before .before .before .before .before .before .before .before .before .before .if1 .left)) _ (f .0) (f .1) _
 
 same-length-5 : tie.Need-same-length-5
 same-length-5 c = search needs
@@ -81,14 +81,14 @@ same-length-9 c = search needs
 returns-4 : tie.Need-returns-4
 unfolding RecordFound
 returns-4 c = λ ready waiting d₀ bytes records h p. let f = rw (c .before .before .before .before .before .before .before .before .before .before .before .before .before .before .here2 .given .1) at ((c .before .before .before .before .before .before .before .before .before .before .before .before .before .before .before .before .before .before .before .before .record-at .ensures) (ready .runs)) in
-    let inside = sym ((c .before .before .before .before .before .before .before .before .before .before .before .before .before .before .before .before .before .before .before .before .before .before .before .before .kept .ensures) _ (ready .clip-given)) ∙ not-false _ (c .before .before .before .before .before .before .before .before .before .before .before .before .before .before .before .before .before .before .before .before .before .before .before .if1 .left) in
+    let inside = sym ((c .before .before .before .before .before .before .before .before .before .before .before .before .before .before .before .before .before .before .before .before .before .before .before .before .passes-clip .ensures) _ (ready .clip-given)) ∙ not-false _ (c .before .before .before .before .before .before .before .before .before .before .before .before .before .before .before .before .before .before .before .before .before .before .before .if1 .left) in
     turn-laid ready waiting d₀ bytes records h inside _ _ _ _ _ _ f _ (c .before .before .before .before .before .before .before .before .before .before .before .part .ensures) _ _ _ ((c .before .before .before .before .before .before .lay-record .ensures) (lay-ready ready inside _ _ _ _ _ _ f _ (c .before .before .before .before .before .before .before .before .before .before .before .part .ensures)) waiting d₀ bytes records h p)
 
 pub walk-interval-spec : {M : Type 1} → statement M
 walk-interval-spec =
     tie.close
     (tie.spec
-    kept-requires
+    passes-clip-requires
     returns
     record-at-requires
     enum-told

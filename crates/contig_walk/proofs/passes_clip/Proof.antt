@@ -4,8 +4,8 @@ use borrow.Author.Tests.{not-false, not-true}
 use mathlib.Core.Path.{_∙_, sym}
 use Rattle.definitions.specs.Intervals.{inClip}
 use Rattle.definitions.specs.Lists.{onlyIf}
-use Rattle.contig_walk.proofs.kept.Statement.{statement}
-use Rattle.contig_walk.proofs.kept.Tie as tie
+use Rattle.contig_walk.proofs.passes_clip.Statement.{statement}
+use Rattle.contig_walk.proofs.passes_clip.Tie as tie
 
 returns : tie.Need-returns
 unfolding inClip onlyIf
@@ -24,5 +24,5 @@ returns-2 : tie.Need-returns-2
 unfolding onlyIf
 returns-2 c = λ x given. rw (given .clip-is, not-false ((c .before .before .before .before .before .before .args .clipped)) (c .before .before .before .if1 .left)) (rw ((c .before .before .get .ensures), (c .before .get2 .ensures)) at ((c .in-clip .ensures) (given .spans) (given .spans-from (not-false _ (c .before .before .before .if1 .left)))))
 
-pub kept-spec : {M : Type 1} → statement M
-kept-spec = tie.close (tie.spec returns get-requires get-requires-2 in-clip-requires returns-2)
+pub passes-clip-spec : {M : Type 1} → statement M
+passes-clip-spec = tie.close (tie.spec returns get-requires get-requires-2 in-clip-requires returns-2)
