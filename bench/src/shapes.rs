@@ -3,6 +3,7 @@
 use oracle::cohort::{Cohort, Site};
 use oracle::rng::Rng;
 
+#[allow(dead_code)]
 pub const SHAPES: [&str; 5] = ["mixed", "dense", "blocks", "contigs", "overlaps"];
 
 pub fn cohort(shape: &str, samples: usize, sites: usize, seed: u64) -> Cohort {
