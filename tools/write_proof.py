@@ -137,10 +137,16 @@ def answered(offered, known, answers):
     return "\n".join(out)
 
 
+def unwrapped(offered):
+    """The offered file with a long name's lines joined, as in `use ..{`, `statement,`, `}`."""
+    offered = re.sub(r"\{\n\s*(\S+?),?\n\}", r"{\1}", offered)
+    return re.sub(r"( :| =)\n +(tie\.Need-|\? *$|search needs)", r"\1 \2", offered, flags=re.M)
+
+
 def write(crate, answers_path):
     function, head, text, answers = read_answers(answers_path)
     with open(offered_path(crate, function)) as f:
-        offered = f.read()
+        offered = unwrapped(f.read())
     records, needs = places(generated(crate, function))
     body = answered(offered, {n: paths(records, r) for n, r in needs.items()}, answers)
     uses = [l for l in text.split("\n") if l.startswith("use ")]

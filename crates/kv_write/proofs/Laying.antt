@@ -26,7 +26,7 @@ pub sets-nothing : (at : ℕ) (bytes : List ℕ) → sets [] at bytes ≡ []
 sets-nothing at bytes = sets-past [] at bytes (omega arith)
 
 -- bytes that fit stand at the front, and the rest is as it was
-pub sets-front : (d bytes : List ℕ) → length bytes ≤ length d → sets d 0 bytes ≡ bytes ++ drop (length bytes) d
+pub sets-front : {A : Type 0} (d bytes : List A) → length bytes ≤ length d → sets d 0 bytes ≡ bytes ++ drop (length bytes) d
 sets-front d bytes h = sets-eq bytes d 0 (omega arith) ∙ rw zero-add
 
 -- Laid

@@ -1,0 +1,61 @@
+-- What is left to look through is the answer for an ALT.
+use Prim.Native.Nat.{_-_}
+use borrow.Author.Needs.{needs}
+use borrow.Author.Tests.{eq-eqb, ne-eqb}
+use lib.Dec.{eqb}
+use lib.ListN.{drop, length}
+use mathlib.Core.Path.{_∙_, _≡_, refl, sym}
+use Rattle.allele_subsetting_pl.specs.Kept.{isAssigned}
+use Rattle.definitions.specs.Lists.{anyOf}
+use Rattle.likelihoods.proofs.Loops.{any-end, any-found, any-next}
+use Rattle.allele_subsetting_pl.proofs.is_assigned.Statement.{statement}
+use Rattle.allele_subsetting_pl.proofs.is_assigned.Tie as tie
+
+abbrev Inv-loop : tie.InvT-loop
+Inv-loop gt allele i₀ i-end i = (i-end ≡ length gt) × (anyOf (eqb allele) (drop i gt) ≡ isAssigned gt allele)
+
+abbrev μ-loop : tie.MeasureT-loop
+μ-loop gt allele i₀ i-end i = i-end - i
+
+returns : tie.Need-returns Inv-loop μ-loop
+returns c = simp (eq-eqb _ _ (c .if1 .taken))
+
+loop-holds : tie.Need-loop-holds Inv-loop μ-loop
+loop-holds c = (refl, simp (ne-eqb _ _ (c .if1 .left)))
+
+mul-g : tie.Need-mul-g Inv-loop μ-loop
+mul-g c = search needs
+
+shared-slice-read-g : tie.Need-shared-slice-read-g Inv-loop μ-loop
+shared-slice-read-g c = search needs
+
+returns-2 : tie.Need-returns-2 Inv-loop μ-loop
+returns-2 c = sym (any-found _ (c .before .before .before .before .before .args .gt .now) 0 (c .before .before .before .loop .i) (c .before .before .loop-test .taken) (eq-eqb _ _ (sym (c .if2 .taken)))) ∙ (c .before .before .before .loop .inv .1)
+
+add-i : tie.Need-add-i Inv-loop μ-loop
+add-i c = search needs
+
+loop-less : tie.Need-loop-less Inv-loop μ-loop
+loop-less c = search needs
+
+loop-again : tie.Need-loop-again Inv-loop μ-loop
+loop-again c = ((c .before .before .before .loop .inv .0), sym (any-next _ (c .before .before .before .before .before .args .gt .now) 0 (c .before .before .before .loop .i) (c .before .before .loop-test .taken) (ne-eqb _ _ (λ e. (c .if2 .left) (sym e)))) ∙ (c .before .before .before .loop .inv .1))
+
+returns-3 : tie.Need-returns-3 Inv-loop μ-loop
+returns-3 c = sym (any-end _ (c .before .before .before .args .gt .now) (c .before .loop .i) (c .loop-test .left)) ∙ (c .before .loop .inv .1)
+
+pub is-assigned-spec : {M : Type 1} → statement M
+is-assigned-spec =
+    tie.close
+    (tie.spec
+    Inv-loop
+    μ-loop
+    returns
+    loop-holds
+    mul-g
+    shared-slice-read-g
+    returns-2
+    add-i
+    loop-less
+    loop-again
+    returns-3)

@@ -1,0 +1,100 @@
+-- The first ALT, then in each turn a comma and an ALT: the ALTs from i on are left, each behind a comma.
+use Prim.Native.Nat.{_+_, _-_, _<_, ℕ}
+use borrow.Author.Needs.{needs}
+use lib.ListN.{drop, getD, length}
+use mathlib.Core.List.{List, [], _++_, _∷_}
+use mathlib.Core.Path.{_∙_, _≡_}
+use native.Mathlib.Omega.{arith}
+use Rattle.allele_subsetting_pl.specs.Kept.{altWith, altsWith}
+use Rattle.definitions.specs.Bytes.{comma}
+use Rattle.kv_write.proofs.Joined.{each-end, each-next, eachAfter, joined-first, joined-none}
+use Rattle.kv_write.proofs.Laying.{Left, done, fits-first, fits-rest, laid-append, laid-none, left-length, one, recast, room, several, start}
+use Rattle.kv_write.specs.Laid.{Laid}
+use Rattle.allele_subsetting_pl.proofs.put_alts.Statement.{statement}
+use Rattle.allele_subsetting_pl.proofs.put_alts.Tie as tie
+
+behind : List ℕ → List ℕ → List ℕ
+behind alts = eachAfter comma (altWith alts)
+
+none-laid : (alts ns : List ℕ) → length ns ≡ 0 → altsWith alts ns ≡ []
+unfolding altsWith
+none-laid alts = joined-none comma (altWith alts)
+
+first-then : (alts ns : List ℕ) → (length ns ≡ 0 → ⊥) → altsWith alts ns ≡ altWith alts (getD ns 0 0) ++ behind alts (drop 1 ns)
+unfolding altsWith behind
+first-then alts ns = joined-first comma (altWith alts) ns 0
+
+-- a turn begins with a comma
+comma-laid : (alts : List ℕ) {d₀ all d d′ : List ℕ} {at₀ at at′ : ℕ} (ns : List ℕ) (i : ℕ) → i < length ns → Laid d at (44 ∷ []) d′ at′
+    → Left d₀ at₀ all d at (behind alts (drop i ns)) → Left d₀ at₀ all d′ at′ (altWith alts (getD ns i 0) ++ behind alts (drop (i + 1) ns))
+unfolding behind comma
+comma-laid alts ns i h p l = one p (recast (each-next comma (altWith alts) ns 0 i h) l)
+
+abbrev Inv-loop : tie.InvT-loop
+Inv-loop out₀ alts numbers first next₀ i₀ i-end out next i =
+    Left out₀ next₀ (behind alts (drop 1 numbers)) out next (behind alts (drop i numbers))
+
+abbrev μ-loop : tie.MeasureT-loop
+μ-loop out₀ alts numbers first next₀ i₀ i-end out next i = i-end - i
+
+returns : tie.Need-returns Inv-loop μ-loop
+returns c = rw (none-laid (c .before .before .before .before .args .alts .now) _ (c .if1 .taken)) laid-none
+
+shared-slice-read-first : tie.Need-shared-slice-read-first Inv-loop μ-loop
+shared-slice-read-first c = search needs
+
+put-alt-requires : tie.Need-put-alt-requires Inv-loop μ-loop
+put-alt-requires c κs = fits-first _ (altWith (c .before .before .before .before .before .before .args .alts .now) _) _ (rw (first-then (c .before .before .before .before .before .before .args .alts .now) _ (c .before .before .if1 .left)) at (c .before .before .before .before .before .before .pre))
+
+loop-holds : tie.Need-loop-holds Inv-loop μ-loop
+loop-holds c = start (fits-rest _ (c .before .before .put-alt .ensures) (rw (first-then (c .before .before .before .before .before .before .before .before .before .args .alts .now) _ (c .before .before .before .before .before .if1 .left)) at (c .before .before .before .before .before .before .before .before .before .pre)))
+
+put-byte-requires : tie.Need-put-byte-requires Inv-loop μ-loop
+unfolding behind
+put-byte-requires c κs = omega (arith, (recast (each-next comma (altWith (c .before .before .before .before .before .before .before .before .before .before .before .before .args .alts .now)) _ 0 _ (c .before .loop-test .taken)) (c .before .before .loop .inv)) .fits)
+
+mul-allele : tie.Need-mul-allele Inv-loop μ-loop
+mul-allele c = search needs
+
+shared-slice-read-allele : tie.Need-shared-slice-read-allele Inv-loop μ-loop
+shared-slice-read-allele c = search needs
+
+put-alt-requires-2 : tie.Need-put-alt-requires-2 Inv-loop μ-loop
+put-alt-requires-2 c κs = room (altWith (c .before .before .before .before .before .before .before .before .before .before .before .before .before .before .before .before .before .args .alts .now) _) _ (comma-laid (c .before .before .before .before .before .before .before .before .before .before .before .before .before .before .before .before .before .args .alts .now) _ _ (c .before .before .before .before .before .before .loop-test .taken) (c .before .before .before .before .put-byte .ensures) (c .before .before .before .before .before .before .before .loop .inv))
+
+add-i : tie.Need-add-i Inv-loop μ-loop
+add-i c = search needs
+
+loop-less : tie.Need-loop-less Inv-loop μ-loop
+loop-less c = search needs
+
+loop-again : tie.Need-loop-again Inv-loop μ-loop
+loop-again c = several (c .before .before .put-alt2 .ensures) (comma-laid (c .before .before .before .before .before .before .before .before .before .before .before .before .before .before .before .before .before .before .before .before .args .alts .now) _ _ (c .before .before .before .before .before .before .before .before .before .loop-test .taken) (c .before .before .before .before .before .before .before .put-byte .ensures) (c .before .before .before .before .before .before .before .before .before .before .loop .inv))
+
+same-length : tie.Need-same-length Inv-loop μ-loop
+same-length c = left-length (c .before .loop .inv) ∙ ((c .before .before .before .before .put-alt .kept .0))
+
+returns-2 : tie.Need-returns-2 Inv-loop μ-loop
+unfolding behind
+returns-2 c = let rest = done (recast (each-end comma (altWith (c .before .before .before .before .before .before .before .before .before .before .before .args .alts .now)) _ _ (c .loop-test .left)) (c .before .loop .inv)) in
+    rw (first-then (c .before .before .before .before .before .before .before .before .before .before .before .args .alts .now) _ (c .before .before .before .before .before .before .before .if1 .left)) (laid-append (c .before .before .before .before .put-alt .ensures) rest)
+
+pub put-alts-spec : {M : Type 1} → statement M
+put-alts-spec =
+    tie.close
+    (tie.spec
+    Inv-loop
+    μ-loop
+    returns
+    shared-slice-read-first
+    put-alt-requires
+    loop-holds
+    put-byte-requires
+    mul-allele
+    shared-slice-read-allele
+    put-alt-requires-2
+    add-i
+    loop-less
+    loop-again
+    same-length
+    returns-2)

@@ -1,0 +1,5 @@
+pub mod Tenth
+pub mod Order
+pub mod Loops
+pub mod Greatest
+pub mod NoneAbove
