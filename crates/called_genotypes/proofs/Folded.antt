@@ -19,10 +19,10 @@ use Rattle.definitions.specs.CalledGenotypes.{nonRefPls, normalizedPl, plWithou
 use Rattle.definitions.specs.CalledList.{withoutIndex}
 use Rattle.definitions.specs.Genotypes.{AllelePair, genotypeIndexAny, genotypePairs, least}
 use Rattle.definitions.specs.Lists.{filterBy, numbersFrom}
-use Rattle.diploid_pairs.proofs.Places.{there-pair}
+use Rattle.diploid_pairs.proofs.Places.{pair-at-place, pair-there, same-pair, there-pair}
 use Rattle.diploid_pairs.specs.Pairs.{pairOf}
 use Rattle.diploid_pairs.specs.declared.PairAt.the-variants.{NoPair, Pair}
-use Rattle.genotype_values.proofs.Mapped.{count-is, product-bound}
+use Rattle.genotype_values.proofs.Mapped.{count-is, noPair, product-bound}
 use Rattle.genotype_values.specs.Remapped.{Filled}
 use Rattle.kv_write.proofs.Laying.{laid-append}
 use Rattle.kv_write.specs.Laid.{Laid}
@@ -146,6 +146,13 @@ pub pair-folded : (pl : List ℕ) (x : ℕ) (low high : AlleleIndex) {o : Option
     → r ≡ Option·getD (Option·map (retainedPlAt pl x) o) 0
 unfolding pairOf retainedPlAt
 pair-folded pl x low high e p q h = rw (← e) (h ∙ rw (p, q))
+
+-- a value of the pair at a place of n alleles
+pub value-there : (f : AllelePair → ℕ) (n place : ℕ) → n ≤ 16 → place < genotypeCount n
+    → Option·getD (Option·map f (getElem? (genotypePairs 16) place)) 0 ≡ f (getD (genotypePairs n) place noPair)
+value-there f n place l h =
+    let there = pair-there n (pair-at-place n place h) in
+    rw (← same-pair n 16 place l h, there, getD-some (genotypePairs n) place noPair there)
 
 pub no-pair-folded : (pl : List ℕ) (x : ℕ) {o : Option AllelePair} → pairOf NoPair ≡ o → 0 ≡ Option·getD (Option·map (retainedPlAt pl x) o) 0
 unfolding pairOf

@@ -5,10 +5,10 @@ use lib.ListN.{drop}
 use mathlib.Core.List.{map}
 use mathlib.Core.Path.{_∙_, refl, sym}
 use native.Mathlib.Omega.{arith}
-use Rattle.called_genotypes.proofs.Folded.{folded-length}
+use Rattle.called_genotypes.proofs.Folded.{folded-length, value-there}
 use Rattle.called_genotypes.specs.Values.{foldedPl, retainedPlAt}
 use Rattle.definitions.specs.Genotypes.{genotypePairs}
-use Rattle.genotype_values.proofs.Mapped.{count-is, noPair, product-bound, value-there}
+use Rattle.genotype_values.proofs.Mapped.{count-is, noPair, product-bound}
 use Rattle.genotype_values.proofs.Storing.{Unstored, all-left, all-stored, next-stored, unstored-length}
 use Rattle.laws.proofs.Genotypes.{genotype-pairs-length}
 use Rattle.called_genotypes.proofs.fold_pl.Statement.{statement}
