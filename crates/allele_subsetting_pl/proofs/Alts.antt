@@ -6,7 +6,7 @@ use lib.Dec.{eqb}
 use lib.ListN.{List·getD-eq-default, drop, drop-of-length-le, getD, length, length-append}
 use lib.Seq.{drop-cons}
 use mathlib.Core.Bool.{Bool, cond, false, true}
-use mathlib.Core.List.{List, [], _++_, _∷_, map}
+use mathlib.Core.List.{List, [], _∷_, map}
 use mathlib.Core.Path.{_∙_, _≡_, ap, refl, sym}
 use native.Mathlib.Omega.{arith}
 use Rattle.allele_subsetting_pl.specs.Kept.{altWith, altsWith}

@@ -13,7 +13,7 @@ use native.Mathlib.Omega.{arith}
 use Rattle.allele_subsetting_pl.proofs.Alts.{alts-length}
 use Rattle.allele_subsetting_pl.specs.Kept.{KeepList, altsWith, isAssigned, onlyAssigned}
 use Rattle.allele_subsetting_pl.specs.UnusedAlts.{AssignedKeep}
-use Rattle.definitions.specs.AlleleSubset.{altFields, assignedAlleles}
+use Rattle.definitions.specs.AlleleSubset.{assignedAlleles}
 use Rattle.definitions.specs.Lists.{filterBy, numbersFrom}
 use Rattle.laws.proofs.Every.{Every, every-filter, every-map, every-numbers, passes-every}
 use Rattle.laws.proofs.Members.{filter-few, length-numbers}

@@ -2,17 +2,16 @@
 -- Assumes nothing.
 use Prim.Native.Nat.{_<_, _≤_, ℕ}
 use borrow.Author.Tests.{eq-eqb, eqb-true, le-leb, leb-true, lt-leb, lt-ltb, ltb-true, ne-eqb}
-use lib.Dec.{eqb, leb, ltb}
+use lib.Dec.{leb, ltb}
 use lib.Ieee.{Float}
 use lib.ListN.{length}
-use mathlib.Core.Bool.{_&&_, and-false, false, true}
+use mathlib.Core.Bool.{and-false, false, true}
 use mathlib.Core.List.{List}
-use mathlib.Core.Path.{_∙_, _≡_}
+use mathlib.Core.Path.{_≡_}
 use native.Mathlib.Omega.{arith}
 use Rattle.allele_subsetting_pl.specs.Kept.{KeepList}
 use Rattle.definitions.specs.AlleleSubset.{alleleCountFits, inRange, subsetFits}
 use Rattle.definitions.specs.Alleles.{genotypeCount}
-use Rattle.definitions.specs.Limits.{maxAlleles}
 use Rattle.definitions.specs.Lists.{allOf}
 use Rattle.laws.proofs.Every.{Every, every-map, every-passed, passes-every}
 use Rattle.laws.proofs.Tests.{both-of}

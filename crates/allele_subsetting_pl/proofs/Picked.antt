@@ -1,11 +1,11 @@
 -- The values picked for the genotypes of the alleles that are left.
 -- Assumes nothing.
-use Prim.Native.Nat.{_*_, _+_, _/_, _<_, _≤_, max, min, ℕ}
+use Prim.Native.Nat.{_<_, _≤_, max, min, ℕ}
 use lib.Ieee.{Float}
 use lib.ListN.{getD, getElem?, length, length-map}
-use mathlib.Core.List.{List, [], _∷_, map}
+use mathlib.Core.List.{List, map}
 use mathlib.Core.Option.{Option·getD, Option·map}
-use mathlib.Core.Path.{_∙_, _≡_, ap, refl, sym}
+use mathlib.Core.Path.{_∙_, _≡_, refl, sym}
 use native.Mathlib.Omega.{arith}
 use Rattle.allele_subsetting_pl.specs.Kept.{absentLikelihood}
 use Rattle.definitions.specs.AlleleSubset.{lessGreatest}

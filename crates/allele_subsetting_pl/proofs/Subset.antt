@@ -5,7 +5,7 @@ use lib.Dec.{T}
 use lib.Ieee.{Float, nan}
 use lib.ListN.{length}
 use lib.Seq.{sets}
-use mathlib.Core.Bool.{_&&_, and-false, false, true}
+use mathlib.Core.Bool.{and-false, false, true}
 use mathlib.Core.List.{List}
 use mathlib.Core.Path.{_∙_, _≡_, ap, refl, sym}
 use native.Mathlib.Omega.{arith}
@@ -37,12 +37,15 @@ module _ (gl : List Float) (n : ℕ) (keep : List ℕ) where
   subset-picked f = ap lessGreatest (picked-any absentLikelihood nan n keep gl (f .count) (f .alleles))
 
   -- none is above 0
+  pub likelihoods-not-above : Fitting gl n keep → Every (λ x. T (notAbove x)) (subsetLikelihoods keep gl)
+  unfolding subsetLikelihoods
+  likelihoods-not-above f = none-above (atMappedPairs nan keep gl) (picked-every nan n keep (f .count) (f .alleles) (f .values))
+
   pub subset-not-above : (room : ℕ) {values : List Float} → likelihoodSubset gl n keep room ≡ accepted values → Every (λ x. T (notAbove x)) values
-  unfolding likelihoodSubset within subsetLikelihoods
+  unfolding likelihoodSubset within
   subset-not-above room e =
       after-required _ _ _ e λ t e. after-required _ _ _ e λ _ e.
-      let f = fitting gl n keep (both-of (alleleCountFits n) _ t .1) in
-      rw (← accepted-same e) (none-above (atMappedPairs nan keep gl) (picked-every nan n keep (f .count) (f .alleles) (f .values)))
+      rw (← accepted-same e) (likelihoods-not-above (fitting gl n keep (both-of (alleleCountFits n) _ t .1)))
 
   module _ {out : List Float} where
     pub count-refused : alleleCountFits n ≡ false → Answered (likelihoodSubset gl n keep (length out)) out out (outcome.Refused 15)

@@ -2,17 +2,16 @@
 -- Assumes nothing.
 use Prim.Native.Nat.{_+_, _<_, _≤_, suc, ℕ}
 use borrow.Author.Tests.{eq-eqb, le-leb, leb-true, lt-leb, ne-eqb}
-use lib.Dec.{leb, ltb}
+use lib.Dec.{T, leb, ltb}
 use lib.Ieee.{Float}
-use lib.ListN.{drop, length}
+use lib.ListN.{length}
 use lib.Seq.{sets}
 use mathlib.Core.Bool.{Bool, _&&_, and-false, false, true}
-use mathlib.Core.List.{List, _++_, tail}
+use mathlib.Core.List.{List, tail}
 use mathlib.Core.Path.{_∙_, _≡_, ap, refl, sym}
-use native.Mathlib.Nat.{zero-add}
 use native.Mathlib.Omega.{arith}
-use Rattle.allele_subsetting_pl.proofs.Fitting.{Fitting, fitting}
-use Rattle.allele_subsetting_pl.proofs.Subset.{subset-length, subset-picked}
+use Rattle.allele_subsetting_pl.proofs.Fitting.{fitting}
+use Rattle.allele_subsetting_pl.proofs.Subset.{likelihoods-not-above, subset-length, subset-picked}
 use Rattle.allele_subsetting_pl.specs.Kept.{absentLikelihood, altWith, altsWith}
 use Rattle.allele_subsetting_pl.specs.UnusedAlts.{AssignedKeep, Outputs, UnusedAltsAnswered, answerOf, listOf, outputs, subsetWithin, wholeRecord}
 use Rattle.allele_subsetting_pl.specs.declared.UnusedAltOutcome.{UnusedAltOutcome}
@@ -26,8 +25,10 @@ use Rattle.definitions.specs.Lists.{allOf}
 use Rattle.genotype_values.proofs.Mapped.{ad-length}
 use Rattle.kv_write.proofs.Laying.{sets-front}
 use Rattle.kv_write.specs.Laid.{Laid}
-use Rattle.laws.proofs.Checked.{not-required, required, then, then-refused}
-use Rattle.laws.proofs.Tests.{all-three, both}
+use Rattle.laws.proofs.Checked.{accepted-same, after-required, not-required, required, then, then-refused}
+use Rattle.laws.proofs.Every.{Every}
+use Rattle.laws.proofs.Tests.{all-three, both, both-of}
+use Rattle.likelihoods.proofs.Order.{notAbove}
 
 pub answered-refused : {subset : Checked UnusedAltSubset} {out : Outputs} {row : ℕ} → subset ≡ refused row → UnusedAltsAnswered subset out out (outcome.Refused row)
 unfolding answerOf listOf outputAfter _>>=_
@@ -132,6 +133,14 @@ module _ (alts : List ℕ) {n : ℕ} (keep : List ℕ) (gl : List Float) (ad : L
       → leb (length (keptRecord .alts)) (length (out .alts)) && leb (length (keptRecord .likelihoods)) (length (out .likelihoods))
       && leb (length (keptRecord .ad)) (length (out .ad)) ≡ fits
   measured-room out e p q = sym (rw (← alts-measured p, ← likelihoods-measured q, ← ad-measured) e)
+
+-- where a subset is made, none of its likelihoods is above 0
+pub subset-not-above : (keep : List ℕ) (alts : List (List ℕ)) (gl : List Float) (ad : List ℕ) {s : UnusedAltSubset} → subsetTo keep alts gl ad ≡ accepted s
+    → Every (λ x. T (notAbove x)) (s .likelihoods)
+unfolding subsetTo
+subset-not-above keep alts gl ad e =
+    after-required _ _ _ e λ t e.
+    rw (← accepted-same e) (likelihoods-not-above gl (suc (length alts)) keep (fitting gl (suc (length alts)) keep (both-of _ _ t .0)))
 
 -- ---- which of the two
 

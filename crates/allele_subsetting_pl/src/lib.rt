@@ -225,14 +225,14 @@ fn output_allele_keep_indices_from_assigned_gt(
     count
 }
 
-// The place of an allele among the ALTs.
-fn alt_index(allele: usize) -> usize
-    ensures { λ r. ⌜ r ≡ allele - 1 ⌝ }
+// The place among the ALTs of an allele's number.
+fn alt_index(number: usize) -> usize
+    ensures { λ r. ⌜ r ≡ number - 1 ⌝ }
 {
-    if allele == 0 {
+    if number == 0 {
         return 0;
     }
-    allele - 1
+    number - 1
 }
 
 // The ALT with an allele number; nothing if there is none.

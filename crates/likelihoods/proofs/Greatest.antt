@@ -1,6 +1,6 @@
 -- The greatest of values by their first, and values less it.
 -- Assumes nothing.
-use Prim.Native.Nat.{_<_, ℕ}
+use Prim.Native.Nat.{_<_}
 use lib.Ieee.{Float, binary64, nan, sub}
 use lib.ListN.{drop, getD, length}
 use mathlib.Core.List.{List, [], _∷_, foldl, map}

@@ -1,13 +1,21 @@
 -- What a loop over a list knows: a fold and a test of every element, of what is left.
 -- Assumes nothing.
 use Prim.Native.Nat.{_+_, _<_, _≤_, ℕ}
+use borrow.Author.Tests.{not-false, not-true}
 use lib.ListN.{drop, drop-of-length-le, getD, length}
 use lib.Seq.{drop-cons}
-use mathlib.Core.Bool.{Bool, false, true}
+use mathlib.Core.Bool.{Bool, false, not, true}
 use mathlib.Core.List.{List, foldl}
-use mathlib.Core.Path.{_≡_}
+use mathlib.Core.Path.{_∙_, _≡_, sym}
 use native.Mathlib.Numerals.{add-one}
 use Rattle.definitions.specs.Lists.{allOf, anyOf}
+
+-- a test of what a function answers, negated
+pub passed : {r b : Bool} → r ≡ b → not r ≡ false → b ≡ true
+passed e h = sym e ∙ not-false _ h
+
+pub failed : {r b : Bool} → r ≡ b → not r ≡ true → b ≡ false
+failed e h = sym e ∙ not-true _ h
 
 module _ {A B : Type 0} (f : B → A → B) (xs : List A) (d : A) (i : ℕ) (b : B) where
   pub fold-next : i < length xs → foldl f b (drop i xs) ≡ foldl f (f b (getD xs i d)) (drop (i + 1) xs)

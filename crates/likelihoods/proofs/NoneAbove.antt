@@ -4,7 +4,7 @@ use lib.Dec.{T}
 use lib.Ieee.{Float, binary64, eq, fin, inf, le, lt, nan, neg, sub}
 use lib.Ieee.Scale.{finite}
 use mathlib.Core.Bool.{Bool, cond, false, not, true}
-use mathlib.Core.List.{List, [], _∷_, foldl, map}
+use mathlib.Core.List.{List, [], _∷_, foldl}
 use mathlib.Core.Path.{_≡_, refl}
 use Rattle.definitions.specs.AlleleSubset.{greater, greatest, inRange, lessGreatest, maxSize}
 use Rattle.laws.proofs.Every.{Every, also, every-both, every-map, every-of-map, nothing}

@@ -1,16 +1,16 @@
 -- The order of finite floats, and that a value less a value that is not below it is not above 0. Assumes nothing.
-use mathlib.Core.Path.{_≡_, refl, sym, ap, _∙_, subst}
+use mathlib.Core.Path.{_≡_, refl, sym, _∙_}
 use mathlib.Core.Logic.{⊎-elim, _⊎_, inl, inr}
-use mathlib.Core.Bool.{Bool, true, false, not, _&&_, _||_, cond, Bool·beq}
-use Prim.Native.Nat.{ℕ, zero, suc, _+_, _-_, _*_, _^_, _≤_, _<_, compare}
-use native.Mathlib.Nat.{le-refl, le-trans, le-of-eq, le-of-lt, lt-of-le-of-lt, eq-or-lt-of-le, mul-pos, mul-comm, zero-mul, pos-of-ne-zero}
+use mathlib.Core.Bool.{Bool, true, false, not, _||_, cond}
+use Prim.Native.Nat.{ℕ, zero, suc, _+_, _-_, _*_, _^_, _≤_, _<_}
+use native.Mathlib.Nat.{le-refl, le-of-eq, le-of-lt, eq-or-lt-of-le, mul-pos, zero-mul}
 use native.Mathlib.Omega.{arith}
 use lib.IntN.{ℤ, pos}
-use lib.Dec.{T, ltb, eqb, ltb→lt, nltb→le, lt→ltb, eqb→eq, eqb-refl, lit<}
-use lib.Ieee.{Float, nan, inf, fin, Format, binary64, up, down, below, level, lt, eq, le, neg, add, sub, sum, round, units, odd, prec, low, emax}
+use lib.Dec.{T, ltb, eqb, ltb→lt, nltb→le, lt→ltb, eqb→eq, lit<}
+use lib.Ieee.{Float, nan, inf, fin, binary64, up, down, below, level, lt, eq, le, neg, add, sub, sum, round, units, odd, prec, low, emax}
 use lib.Ieee.Fits.{and-i, and-l, and-r, down-pos, eq→eqb, round-is}
 use lib.Ieee.Exact.{HasValue, round-exact}
-use lib.Ieee.Positive.{through, first-pos}
+use lib.Ieee.Positive.{through}
 use lib.Ieee.Scale.{finite}
 
 -- 0, or below it

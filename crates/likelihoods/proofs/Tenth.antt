@@ -1,14 +1,14 @@
 -- Minus p over 10, rounded to binary64: what the division computes, and how near it is. Assumes nothing.
 use mathlib.Core.Path.{_≡_, refl, sym, ap, _∙_, subst}
-use mathlib.Core.Bool.{Bool, true, false, not}
+use mathlib.Core.Bool.{true, false, not}
 use Prim.Native.Nat.{ℕ, zero, suc, _+_, _-_, _*_, _/_, _%_, _^_, _≤_, _<_, compare, Ordering, Ordering·lt, Ordering·eq, Ordering·gt}
-use native.Mathlib.Nat.{le-trans, le-of-eq, mul-comm, mul-assoc, mul-right-comm, mul-left-comm, mul-sub, mul-one, add-mul, suc-mul, mul-pos, mod-lt, div-add-mod', mul-le-mul-left, mul-le-mul-right, le-of-mul-le-mul-right, le-div-iff-mul-le, lt-of-le-of-lt, lt-trans, mul-lt-mul-of-pos-right}
+use native.Mathlib.Nat.{le-trans, le-of-eq, mul-comm, mul-assoc, mul-right-comm, mul-left-comm, mul-sub, add-mul, suc-mul, mul-pos, mod-lt, div-add-mod', mul-le-mul-right, le-of-mul-le-mul-right, le-div-iff-mul-le, lt-of-le-of-lt, lt-trans, mul-lt-mul-of-pos-right}
 use native.Mathlib.Omega.{arith}
-use lib.IntN.{ℤ, pos}
+use lib.IntN.{pos}
 use lib.Dec.{T, isLe, isEq, eqb, leb→le, nleb→lt, eqb→eq, eqb-refl, lit<, lit≤}
 use lib.Arith.{lt-of-le-ne}
 use lib.Pow.{pow-pos, pow-add}
-use lib.Ieee.{Float, nan, inf, fin, binary64, up, down, low, prec, size, nearest, neg, div, round, ofInt, units}
+use lib.Ieee.{Float, nan, inf, fin, binary64, up, down, low, size, nearest, neg, div, round, ofInt, units}
 use lib.Ieee.Digits.{size-reaches}
 use lib.Ieee.Exact.{HasValue, units-val}
 use lib.Ieee.Fits.{round-is}

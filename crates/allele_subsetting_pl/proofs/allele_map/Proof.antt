@@ -4,7 +4,7 @@ use borrow.Author.Needs.{needs}
 use borrow.Author.Tests.{ltb-true}
 use lib.ListN.{drop}
 use mathlib.Core.List.{map, map-id}
-use mathlib.Core.Path.{_∙_, _≡_, refl, sym}
+use mathlib.Core.Path.{refl}
 use Rattle.genotype_values.proofs.Storing.{Unstored, all-left, all-stored, next-stored, unstored-length}
 use Rattle.laws.proofs.Every.{every-at, every-passed}
 use Rattle.allele_subsetting_pl.proofs.allele_map.Statement.{statement}

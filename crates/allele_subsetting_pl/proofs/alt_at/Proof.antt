@@ -1,11 +1,6 @@
 -- By whether there is such a field.
-use Prim.Native.Nat.{_-_, _≤_, ℕ}
 use borrow.Author.Needs.{needs}
-use lib.ListN.{length}
-use mathlib.Core.List.{List, []}
-use mathlib.Core.Path.{_∙_, _≡_, refl, sym}
 use Rattle.allele_subsetting_pl.proofs.Alts.{alt-absent, alt-found}
-use Rattle.definitions.specs.Bytes.{comma}
 use Rattle.allele_subsetting_pl.proofs.alt_at.Statement.{statement}
 use Rattle.allele_subsetting_pl.proofs.alt_at.Tie as tie
 

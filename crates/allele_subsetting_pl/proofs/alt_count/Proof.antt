@@ -1,10 +1,5 @@
 -- An empty text has none.
-use Prim.Native.Nat.{ℕ}
 use borrow.Author.Needs.{needs}
-use borrow.Author.Tests.{eq-eqb, ne-eqb}
-use lib.ListN.{length}
-use mathlib.Core.List.{List}
-use mathlib.Core.Path.{_∙_, _≡_, ap, refl, sym}
 use Rattle.allele_subsetting_pl.proofs.Alts.{fields-none, fields-some}
 use Rattle.definitions.specs.Bytes.{comma}
 use Rattle.allele_subsetting_pl.proofs.alt_count.Statement.{statement}

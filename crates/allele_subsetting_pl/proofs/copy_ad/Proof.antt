@@ -3,7 +3,7 @@ use Prim.Native.Nat.{_-_}
 use borrow.Author.Needs.{needs}
 use lib.ListN.{drop}
 use mathlib.Core.List.{map, map-id}
-use mathlib.Core.Path.{_≡_, refl}
+use mathlib.Core.Path.{refl}
 use native.Mathlib.Omega.{arith}
 use Rattle.genotype_values.proofs.Storing.{Unstored, all-left, all-stored, next-stored, unstored-length}
 use Rattle.allele_subsetting_pl.proofs.copy_ad.Statement.{statement}

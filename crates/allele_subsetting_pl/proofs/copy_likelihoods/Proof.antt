@@ -4,7 +4,7 @@ use borrow.Author.Needs.{needs}
 use lib.Ieee.{nan}
 use lib.ListN.{drop}
 use mathlib.Core.List.{map, map-id}
-use mathlib.Core.Path.{_≡_, refl}
+use mathlib.Core.Path.{refl}
 use Rattle.genotype_values.proofs.Storing.{Unstored, all-left, all-stored, next-stored, unstored-length}
 use Rattle.allele_subsetting_pl.proofs.copy_likelihoods.Statement.{statement}
 use Rattle.allele_subsetting_pl.proofs.copy_likelihoods.Tie as tie

@@ -1,11 +1,9 @@
 -- By whether there is room.
-use Prim.Native.Nat.{_≤_}
 use borrow.Author.Needs.{needs}
-use borrow.Author.Tests.{not-false, not-true}
-use lib.ListN.{length}
-use mathlib.Core.Path.{_∙_, _≡_, refl, sym}
+use mathlib.Core.Path.{refl}
 use Rattle.allele_subsetting_pl.proofs.UnusedAlts.{answered-refused, answered-written, room-of, with-room, without-room}
 use Rattle.allele_subsetting_pl.specs.UnusedAlts.{outputs, wholeRecord}
+use Rattle.likelihoods.proofs.Loops.{failed, passed}
 use Rattle.allele_subsetting_pl.proofs.copy_record.Statement.{statement}
 use Rattle.allele_subsetting_pl.proofs.copy_record.Tie as tie
 
@@ -15,7 +13,7 @@ has-room-requires c κs = search needs
 returns : tie.Need-returns
 returns c = let whole = wholeRecord (c .before .before .before .before .before .before .before .before .args .alts .now) (c .before .before .before .before .before .before .before .before .args .gl .now) (c .before .before .before .before .before .before .before .before .args .ad .now) in
     let out = outputs (c .before .before .before .before .before .before .before .before .args .alts-out .now) (c .before .before .before .before .before .before .before .before .args .gl-out .now) (c .before .before .before .before .before .before .before .before .args .ad-out .now) in
-    answered-refused (without-room whole out (sym (c .before .has-room .ensures) ∙ not-true _ (c .if1 .taken)) refl)
+    answered-refused (without-room whole out (failed (c .before .has-room .ensures) (c .if1 .taken)) refl)
 
 put-bytes-requires : tie.Need-put-bytes-requires
 put-bytes-requires c κs = search needs
@@ -26,7 +24,7 @@ copy-likelihoods-requires c κs = search needs
 copy-ad-requires : tie.Need-copy-ad-requires
 copy-ad-requires c κs = let whole = wholeRecord (c .before .before .before .before .before .before .before .before .before .before .before .before .before .before .before .before .before .args .alts .now) (c .before .before .before .before .before .before .before .before .before .before .before .before .before .before .before .before .before .args .gl .now) (c .before .before .before .before .before .before .before .before .before .before .before .before .before .before .before .before .before .args .ad .now) in
     let out = outputs (c .before .before .before .before .before .before .before .before .before .before .before .before .before .before .before .before .before .args .alts-out .now) (c .before .before .before .before .before .before .before .before .before .before .before .before .before .before .before .before .before .args .gl-out .now) (c .before .before .before .before .before .before .before .before .before .before .before .before .before .before .before .before .before .args .ad-out .now) in
-    room-of whole out (sym (c .before .before .before .before .before .before .before .before .before .before .has-room .ensures) ∙ not-false _ (c .before .before .before .before .before .before .before .before .before .if1 .left)) .ad
+    room-of whole out (passed (c .before .before .before .before .before .before .before .before .before .before .has-room .ensures) (c .before .before .before .before .before .before .before .before .before .if1 .left)) .ad
 
 same-length : tie.Need-same-length
 same-length c = search needs
@@ -40,7 +38,7 @@ same-length-3 c = search needs
 returns-2 : tie.Need-returns-2
 returns-2 c = let whole = wholeRecord (c .before .before .before .before .before .before .before .before .before .before .before .before .before .before .before .before .before .before .before .before .args .alts .now) (c .before .before .before .before .before .before .before .before .before .before .before .before .before .before .before .before .before .before .before .before .args .gl .now) (c .before .before .before .before .before .before .before .before .before .before .before .before .before .before .before .before .before .before .before .before .args .ad .now) in
     let out = outputs (c .before .before .before .before .before .before .before .before .before .before .before .before .before .before .before .before .before .before .before .before .args .alts-out .now) (c .before .before .before .before .before .before .before .before .before .before .before .before .before .before .before .before .before .before .before .before .args .gl-out .now) (c .before .before .before .before .before .before .before .before .before .before .before .before .before .before .before .before .before .before .before .before .args .ad-out .now) in
-    let fits = sym (c .before .before .before .before .before .before .before .before .before .before .before .before .before .has-room .ensures) ∙ not-false _ (c .before .before .before .before .before .before .before .before .before .before .before .before .if1 .left) in
+    let fits = passed (c .before .before .before .before .before .before .before .before .before .before .before .before .before .has-room .ensures) (c .before .before .before .before .before .before .before .before .before .before .before .before .if1 .left) in
     answered-written (with-room whole out fits refl) refl refl refl (room-of whole out fits)
     (record { alts = (c .before .before .before .before .before .before .before .before .before .before .put-bytes .ensures .laid); likelihoods = (c .before .before .before .before .before .before .copy-likelihoods .ensures); ad = (c .before .before .copy-ad .ensures) })
 

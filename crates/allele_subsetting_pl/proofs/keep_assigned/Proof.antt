@@ -1,5 +1,5 @@
 -- By whether the allele is assigned.
-use Prim.Native.Nat.{_+_, _<_, _^_, _≤_, ℕ}
+use Prim.Native.Nat.{_+_, _<_, _^_, ℕ}
 use borrow.Author.Needs.{needs}
 use borrow.Author.Tests.{not-false, not-true}
 use lib.ListN.{length, set}

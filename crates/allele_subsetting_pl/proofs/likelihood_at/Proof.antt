@@ -1,6 +1,5 @@
 -- Past the end stands the default.
 use borrow.Author.Needs.{needs}
-use lib.Ieee.{nan}
 use lib.Ieee.{odd, ofBits, ofFields}
 use lib.ListN.{List·getD-eq-default}
 use mathlib.Core.Path.{sym}

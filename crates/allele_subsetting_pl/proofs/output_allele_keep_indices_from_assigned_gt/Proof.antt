@@ -1,7 +1,7 @@
 -- The assigned alleles from one on are left to put in.
-use Prim.Native.Nat.{_+_, _-_, _<_, _≤_, ℕ}
+use Prim.Native.Nat.{_+_, _-_}
 use borrow.Author.Needs.{needs}
-use mathlib.Core.Path.{_∙_, _≡_, ap, sym}
+use mathlib.Core.Path.{sym}
 use native.Mathlib.Omega.{arith}
 use Rattle.allele_subsetting_pl.proofs.Assigned.{all-assigned, assignedFrom, few-assigned, next-assigned, none-left}
 use Rattle.allele_subsetting_pl.specs.Kept.{onlyAssigned}

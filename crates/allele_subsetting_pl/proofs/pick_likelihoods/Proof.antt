@@ -3,11 +3,10 @@ use Prim.Native.Nat.{_-_}
 use borrow.Author.Needs.{needs}
 use lib.ListN.{drop, length}
 use mathlib.Core.List.{map}
-use mathlib.Core.Path.{_∙_, _≡_}
+use mathlib.Core.Path.{_∙_}
 use native.Mathlib.Omega.{arith}
 use Rattle.allele_subsetting_pl.proofs.Picked.{by-pairs, few-genotypes, picked-there, pickedAt}
 use Rattle.allele_subsetting_pl.specs.Kept.{absentLikelihood}
-use Rattle.definitions.specs.Alleles.{genotypeCount}
 use Rattle.definitions.specs.Genotypes.{atMappedPairs, genotypePairs}
 use Rattle.genotype_values.proofs.Mapped.{noPair}
 use Rattle.genotype_values.proofs.Storing.{Unstored, all-left, all-stored, next-stored, unstored-length}

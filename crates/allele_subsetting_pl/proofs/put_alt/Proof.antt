@@ -1,8 +1,5 @@
 -- The ALT's bytes.
-use Prim.Native.Nat.{_+_, _<_, _^_}
 use borrow.Author.Needs.{needs}
-use lib.ListN.{length}
-use mathlib.Core.Path.{_≡_, ap, sym}
 use Rattle.allele_subsetting_pl.proofs.put_alt.Statement.{statement}
 use Rattle.allele_subsetting_pl.proofs.put_alt.Tie as tie
 

@@ -1,8 +1,7 @@
 -- The keep list stands at the front of the map.
 use borrow.Author.Needs.{needs}
-use lib.ListN.{length, take}
 use lib.Seq.{sets}
-use mathlib.Core.Path.{_∙_, _≡_, ap, refl}
+use mathlib.Core.Path.{_∙_, ap, refl}
 use Rattle.allele_subsetting_pl.proofs.Fronts.{front, front-length}
 use Rattle.definitions.specs.Genotypes.{remappedAd}
 use Rattle.allele_subsetting_pl.proofs.subset_ad.Statement.{statement}

@@ -1,8 +1,8 @@
 -- One test after the other.
 use borrow.Author.Needs.{needs}
-use borrow.Author.Tests.{not-false, not-true}
-use mathlib.Core.Path.{_∙_, _≡_, sym}
+use mathlib.Core.Path.{_∙_, sym}
 use Rattle.allele_subsetting_pl.proofs.Fitting.{only-alleles, other-count, out-of-range, too-many}
+use Rattle.likelihoods.proofs.Loops.{failed, passed}
 use Rattle.allele_subsetting_pl.proofs.subset_fits.Statement.{statement}
 use Rattle.allele_subsetting_pl.proofs.subset_fits.Tie as tie
 
@@ -19,13 +19,13 @@ all-in-range-requires : tie.Need-all-in-range-requires
 all-in-range-requires c κs = search needs
 
 returns-3 : tie.Need-returns-3
-returns-3 c = sym (out-of-range (c .before .before .before .before .before .before .before .args .gl .now) (c .before .before .before .before .before .before .before .args .alleles) (c .before .before .before .before .before .before .before .args .keep .now) (sym (c .before .all-in-range .ensures) ∙ not-true _ (c .if3 .taken)))
+returns-3 c = sym (out-of-range (c .before .before .before .before .before .before .before .args .gl .now) (c .before .before .before .before .before .before .before .args .alleles) (c .before .before .before .before .before .before .before .args .keep .now) (failed (c .before .all-in-range .ensures) (c .if3 .taken)))
 
 all-below-requires : tie.Need-all-below-requires
 all-below-requires c κs = search needs
 
 returns-4 : tie.Need-returns-4
-returns-4 c = (c .all-below .ensures) ∙ sym (only-alleles (c .before .before .before .before .before .before .before .before .args .gl .now) (c .before .before .before .before .before .before .before .before .args .alleles) (c .before .before .before .before .before .before .before .before .args .keep .now) ((c .before .before .before .before .if1 .left) ∙ (c .before .before .before .before .before .num-genotype-likelihoods .ensures)) (c .before .before .before .if2 .left) (sym (c .before .before .all-in-range .ensures) ∙ not-false _ (c .before .if3 .left)))
+returns-4 c = (c .all-below .ensures) ∙ sym (only-alleles (c .before .before .before .before .before .before .before .before .args .gl .now) (c .before .before .before .before .before .before .before .before .args .alleles) (c .before .before .before .before .before .before .before .before .args .keep .now) ((c .before .before .before .before .if1 .left) ∙ (c .before .before .before .before .before .num-genotype-likelihoods .ensures)) (c .before .before .before .if2 .left) (passed (c .before .before .all-in-range .ensures) (c .before .if3 .left)))
 
 pub subset-fits-spec : {M : Type 1} → statement M
 subset-fits-spec =

@@ -1,16 +1,16 @@
 -- One check after the other.
-use Prim.Native.Nat.{_+_, _<_, _≤_, _^_, ℕ}
+use Prim.Native.Nat.{_+_, _<_, _^_, ℕ}
 use borrow.Author.Needs.{needs}
 use borrow.Author.Tests.{not-false, not-true}
 use lib.ListN.{length}
-use mathlib.Core.Bool.{Bool, false, true}
 use mathlib.Core.List.{List, tail}
-use mathlib.Core.Path.{_∙_, _≡_, refl, sym}
+use mathlib.Core.Path.{_∙_}
 use native.Mathlib.Omega.{arith}
 use Rattle.allele_subsetting_pl.proofs.Assigned.{assigned-keep-list, kept-alts-length, keeps-ref, tail-part}
-use Rattle.allele_subsetting_pl.proofs.UnusedAlts.{StoredSubset, ad-measured, alts-measured, answered-refused, answered-written, kept-ad-are, kept-alts-are, kept-likelihoods-are, kept-record, keptRecord, likelihoods-measured, measured-room, not-fitting, refused-within, room-of, with-room, without-ad, without-room}
+use Rattle.allele_subsetting_pl.proofs.UnusedAlts.{ad-measured, alts-measured, answered-refused, answered-written, kept-ad-are, kept-alts-are, kept-likelihoods-are, kept-record, keptRecord, likelihoods-measured, measured-room, not-fitting, refused-within, room-of, with-room, without-ad, without-room}
 use Rattle.allele_subsetting_pl.specs.Kept.{altsWith}
 use Rattle.allele_subsetting_pl.specs.UnusedAlts.{AssignedKeep, outputs}
+use Rattle.likelihoods.proofs.Loops.{failed, passed}
 use Rattle.allele_subsetting_pl.proofs.subset_record.Statement.{statement}
 use Rattle.allele_subsetting_pl.proofs.subset_record.Tie as tie
 
@@ -21,13 +21,13 @@ subset-fits-requires : tie.Need-subset-fits-requires
 subset-fits-requires c κs = search needs
 
 returns : tie.Need-returns
-returns c = answered-refused (refused-within _ (not-fitting (c .before .before .before .before .before .before .before .before .before .args .alts .now) (c .before .before .before .before .before .before .before .before .before .args .keep .now) (c .before .before .before .before .before .before .before .before .before .args .gl .now) (c .before .before .before .before .before .before .before .before .before .args .ad .now) (c .before .before .before .before .before .before .before .before .before .pre) (sym (c .before .subset-fits .ensures) ∙ not-true _ (c .if1 .taken))))
+returns c = answered-refused (refused-within _ (not-fitting (c .before .before .before .before .before .before .before .before .before .args .alts .now) (c .before .before .before .before .before .before .before .before .before .args .keep .now) (c .before .before .before .before .before .before .before .before .before .args .gl .now) (c .before .before .before .before .before .before .before .before .before .args .ad .now) (c .before .before .before .before .before .before .before .before .before .pre) (failed (c .before .subset-fits .ensures) (c .if1 .taken))))
 
 all-below-requires : tie.Need-all-below-requires
 all-below-requires c κs = search needs
 
 returns-2 : tie.Need-returns-2
-returns-2 c = answered-refused (refused-within _ (without-ad (c .before .before .before .before .before .before .before .before .before .before .before .args .alts .now) (c .before .before .before .before .before .before .before .before .before .before .before .args .keep .now) (c .before .before .before .before .before .before .before .before .before .before .before .args .gl .now) (c .before .before .before .before .before .before .before .before .before .before .before .args .ad .now) (c .before .before .before .before .before .before .before .before .before .before .before .pre) (sym (c .before .all-below .ensures) ∙ not-true _ (c .if2 .taken))))
+returns-2 c = answered-refused (refused-within _ (without-ad (c .before .before .before .before .before .before .before .before .before .before .before .args .alts .now) (c .before .before .before .before .before .before .before .before .before .before .before .args .keep .now) (c .before .before .before .before .before .before .before .before .before .before .before .args .gl .now) (c .before .before .before .before .before .before .before .before .before .before .before .args .ad .now) (c .before .before .before .before .before .before .before .before .before .before .before .pre) (failed (c .before .all-below .ensures) (c .if2 .taken))))
 
 sub-numbers : tie.Need-sub-numbers
 sub-numbers c = keeps-ref (c .before .before .before .before .before .before .before .before .before .before .before .pre)
@@ -49,8 +49,8 @@ has-room-requires c κs = search needs
 
 returns-3 : tie.Need-returns-3
 returns-3 c = let out = outputs (c .before .before .before .before .before .before .before .before .before .before .before .before .before .before .before .before .args .alts-out .now) (c .before .before .before .before .before .before .before .before .before .before .before .before .before .before .before .before .args .gl-out .now) (c .before .before .before .before .before .before .before .before .before .before .before .before .before .before .before .before .args .ad-out .now) in
-    let fits = sym (c .before .before .before .before .before .before .before .before .subset-fits .ensures) ∙ not-false _ (c .before .before .before .before .before .before .before .if1 .left) in
-    let counts = sym (c .before .before .before .before .before .before .all-below .ensures) ∙ not-false _ (c .before .before .before .before .before .if2 .left) in
+    let fits = passed (c .before .before .before .before .before .before .before .before .subset-fits .ensures) (c .before .before .before .before .before .before .before .if1 .left) in
+    let counts = passed (c .before .before .before .before .before .before .all-below .ensures) (c .before .before .before .before .before .if2 .left) in
     let measured = rw (tail-part (c .before .before .before .before .before .before .before .before .before .before .before .before .before .before .before .before .args .keep .now)) at ((c .before .before .before .alts-length .ensures)) in
     answered-refused
     (without-room (keptRecord (c .before .before .before .before .before .before .before .before .before .before .before .before .before .before .before .before .args .alts .now) (c .before .before .before .before .before .before .before .before .before .before .before .before .before .before .before .before .args .keep .now) (c .before .before .before .before .before .before .before .before .before .before .before .before .before .before .before .before .args .gl .now) (c .before .before .before .before .before .before .before .before .before .before .before .before .before .before .before .before .args .ad .now) (c .before .before .before .before .before .before .before .before .before .before .before .before .before .before .before .before .pre)) out
@@ -81,8 +81,8 @@ returns-4 c = let alts = (c .before .before .before .before .before .before .bef
     let gl = (c .before .before .before .before .before .before .before .before .before .before .before .before .before .before .before .before .before .before .before .before .before .before .before .before .before .before .before .before .args .gl .now) in
     let ad = (c .before .before .before .before .before .before .before .before .before .before .before .before .before .before .before .before .before .before .before .before .before .before .before .before .before .before .before .before .args .ad .now) in
     let out = outputs (c .before .before .before .before .before .before .before .before .before .before .before .before .before .before .before .before .before .before .before .before .before .before .before .before .before .before .before .before .args .alts-out .now) (c .before .before .before .before .before .before .before .before .before .before .before .before .before .before .before .before .before .before .before .before .before .before .before .before .before .before .before .before .args .gl-out .now) (c .before .before .before .before .before .before .before .before .before .before .before .before .before .before .before .before .before .before .before .before .before .before .before .before .before .before .before .before .args .ad-out .now) in
-    let fits = sym (c .before .before .before .before .before .before .before .before .before .before .before .before .before .before .before .before .before .before .before .before .subset-fits .ensures) ∙ not-false _ (c .before .before .before .before .before .before .before .before .before .before .before .before .before .before .before .before .before .before .before .if1 .left) in
-    let counts = sym (c .before .before .before .before .before .before .before .before .before .before .before .before .before .before .before .before .before .before .all-below .ensures) ∙ not-false _ (c .before .before .before .before .before .before .before .before .before .before .before .before .before .before .before .before .before .if2 .left) in
+    let fits = passed (c .before .before .before .before .before .before .before .before .before .before .before .before .before .before .before .before .before .before .before .before .subset-fits .ensures) (c .before .before .before .before .before .before .before .before .before .before .before .before .before .before .before .before .before .before .before .if1 .left) in
+    let counts = passed (c .before .before .before .before .before .before .before .before .before .before .before .before .before .before .before .before .before .before .all-below .ensures) (c .before .before .before .before .before .before .before .before .before .before .before .before .before .before .before .before .before .if2 .left) in
     let measured = rw (tail-part (c .before .before .before .before .before .before .before .before .before .before .before .before .before .before .before .before .before .before .before .before .before .before .before .before .before .before .before .before .args .keep .now)) at ((c .before .before .before .before .before .before .before .before .before .before .before .before .before .before .before .alts-length .ensures)) in
     let room = measured-room alts keep gl ad (c .before .before .before .before .before .before .before .before .before .before .before .before .before .before .before .before .before .before .before .before .before .before .before .before .before .before .before .before .pre) out (c .before .before .before .before .before .before .before .before .before .before .before .before .before .has-room .ensures) measured (c .before .before .before .before .before .before .before .before .before .before .before .before .before .before .num-genotype-likelihoods .ensures) ∙ not-false _ (c .before .before .before .before .before .before .before .before .before .before .before .before .if3 .left) in
     answered-written (with-room (keptRecord alts keep gl ad (c .before .before .before .before .before .before .before .before .before .before .before .before .before .before .before .before .before .before .before .before .before .before .before .before .before .before .before .before .pre)) out room (kept-record alts keep gl ad (c .before .before .before .before .before .before .before .before .before .before .before .before .before .before .before .before .before .before .before .before .before .before .before .before .before .before .before .before .pre) fits counts))

@@ -1,13 +1,12 @@
 -- What is left to test is the answer for all.
 use Prim.Native.Nat.{_-_}
 use borrow.Author.Needs.{needs}
-use borrow.Author.Tests.{not-false, not-true}
 use lib.Ieee.{nan}
 use lib.ListN.{drop, length}
 use mathlib.Core.Path.{_∙_, _≡_, refl, sym}
 use Rattle.definitions.specs.AlleleSubset.{inRange}
 use Rattle.definitions.specs.Lists.{allOf}
-use Rattle.likelihoods.proofs.Loops.{all-end, all-failed, all-next}
+use Rattle.likelihoods.proofs.Loops.{all-end, all-failed, all-next, failed, passed}
 use Rattle.likelihoods.proofs.all_in_range.Statement.{statement}
 use Rattle.likelihoods.proofs.all_in_range.Tie as tie
 
@@ -30,7 +29,7 @@ in-range-requires : tie.Need-in-range-requires Inv-loop μ-loop
 in-range-requires c κs = search needs
 
 returns : tie.Need-returns Inv-loop μ-loop
-returns c = sym (all-failed inRange (c .before .before .before .before .before .before .args .values .now) nan (c .before .before .before .before .loop .i) (c .before .before .before .loop-test .taken) (sym (c .before .in-range .ensures) ∙ not-true _ (c .if1 .taken))) ∙ (c .before .before .before .before .loop .inv .1)
+returns c = sym (all-failed inRange (c .before .before .before .before .before .before .args .values .now) nan (c .before .before .before .before .loop .i) (c .before .before .before .loop-test .taken) (failed (c .before .in-range .ensures) (c .if1 .taken))) ∙ (c .before .before .before .before .loop .inv .1)
 
 add-i : tie.Need-add-i Inv-loop μ-loop
 add-i c = search needs
@@ -39,7 +38,7 @@ loop-less : tie.Need-loop-less Inv-loop μ-loop
 loop-less c = search needs
 
 loop-again : tie.Need-loop-again Inv-loop μ-loop
-loop-again c = ((c .before .before .before .before .loop .inv .0), sym (all-next inRange (c .before .before .before .before .before .before .args .values .now) nan (c .before .before .before .before .loop .i) (c .before .before .before .loop-test .taken) (sym (c .before .in-range .ensures) ∙ not-false _ (c .if1 .left))) ∙ (c .before .before .before .before .loop .inv .1))
+loop-again c = ((c .before .before .before .before .loop .inv .0), sym (all-next inRange (c .before .before .before .before .before .before .args .values .now) nan (c .before .before .before .before .loop .i) (c .before .before .before .loop-test .taken) (passed (c .before .in-range .ensures) (c .if1 .left))) ∙ (c .before .before .before .before .loop .inv .1))
 
 returns-2 : tie.Need-returns-2 Inv-loop μ-loop
 returns-2 c = sym (all-end inRange (c .before .before .before .args .values .now) (c .before .loop .i) (c .loop-test .left)) ∙ (c .before .loop .inv .1)

@@ -4,7 +4,7 @@ use borrow.Author.Needs.{needs}
 use lib.Ieee.{binary64, nan, sub}
 use lib.ListN.{drop}
 use mathlib.Core.List.{map}
-use mathlib.Core.Path.{_∙_, _≡_, refl, sym}
+use mathlib.Core.Path.{_≡_, sym}
 use native.Mathlib.Omega.{arith}
 use Rattle.definitions.specs.AlleleSubset.{greatest, lessGreatest}
 use Rattle.genotype_values.proofs.Storing.{Unstored, all-left, all-stored, next-stored, unstored-length}

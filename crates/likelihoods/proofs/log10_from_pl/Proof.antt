@@ -1,8 +1,7 @@
 -- Every u32 is a binary64, so the one rounding is the quotient's.
-use Prim.Native.Nat.{_<_, ℕ}
 use borrow.Author.Needs.{needs}
-use lib.Ieee.{binary64, fin, odd, ofBits, ofFields}
-use mathlib.Core.Path.{_∙_, _≡_, subst, sym}
+use lib.Ieee.{binary64, odd, ofBits, ofFields}
+use mathlib.Core.Path.{subst, sym}
 use native.Mathlib.Omega.{arith}
 use Rattle.definitions.specs.Likelihoods.{NearMinusTenth}
 use Rattle.likelihoods.proofs.Tenth.{div-tenth, near-tenth}

@@ -1,9 +1,9 @@
 -- By whether the output is long enough.
-use Prim.Native.Nat.{_<_, _≤_}
+use Prim.Native.Nat.{_≤_}
 use borrow.Author.Needs.{needs}
 use lib.ListN.{length, length-map}
 use mathlib.Core.List.{map}
-use mathlib.Core.Path.{_∙_, _≡_, refl, sym}
+use mathlib.Core.Path.{_∙_, refl, sym}
 use native.Mathlib.Omega.{arith}
 use Rattle.answers.proofs.Answers.{answered-refused, answered-written, is-within, not-within}
 use Rattle.definitions.specs.Likelihoods.{log10FromPl}
