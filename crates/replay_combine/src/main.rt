@@ -7,41 +7,24 @@
 // For each case a line: the name, and `refused=1` or `written=40`, and the list behind it. Before the call all of scratch and output is set. A line
 // tells if scratch isn't zero afterwards, or if the output behind the list, all of it after a refusal, isn't as it was.
 // tools/make_replay_cases.py writes the input, and what is to be printed, from recorded/ and document 01's rules.
-ghost use Prim.Native.Nat.{_≤_, _<_};
+ghost use Prim.Native.Nat.{_<_};
 ghost use lib.ListN.{length};
-use answers::Outcome;
 use test_cases::case_at;
+use test_cases::count_field;
 use test_cases::field;
 use test_cases::line_at;
 use test_cases::number_field;
 use test_cases::print;
-use test_cases::print_number;
-use test_cases::print_refused;
+use test_cases::print_if_changed;
+use test_cases::print_outcome;
+use test_cases::set_bytes;
 
 // ---- what is lent
-
-// The number in a field, or the most that there is.
-fn count_field(line: &[u8], number: usize, most: usize) -> usize
-    ensures { λ r. ⌜ r ≤ most ⌝ }
-{
-    let n = number_field(line, number);
-    if most < n {
-        return most;
-    }
-    n
-}
 
 // Sets every place to a number that no call leaves there.
 fn set_places(scratch: &mut [u64]) {
     for i in 0..scratch.len() {
         scratch[i] = 18446744073709551615;
-    }
-}
-
-// Sets every byte to one that no list has.
-fn set_bytes(out: &mut [u8]) {
-    for i in 0..out.len() {
-        out[i] = 255;
     }
 }
 
@@ -54,43 +37,14 @@ fn is_zero(scratch: &[u64]) -> bool {
     true
 }
 
-// Whether every byte is as it was set.
-fn is_set(bytes: &[u8]) -> bool {
-    for i in 0..bytes.len() {
-        if bytes[i] != 255 {
-            return false;
-        }
-    }
-    true
-}
-
 // ---- the answer
-
-// Prints the answer behind the case's name. The answer is how many bytes the list has.
-fn print_outcome(outcome: Outcome, out: &[u8]) -> usize {
-    match outcome {
-        Outcome::Written(count) => {
-            print(b" written=");
-            print_number(count);
-            print(b"\n");
-            print(tables::part(out, 0, count));
-            count
-        }
-        Outcome::Refused(row) => {
-            print_refused(row);
-            0
-        }
-    }
-}
 
 // Prints what is not as it must be behind a list of so many bytes.
 fn print_faults(scratch: &[u64], out: &[u8], count: usize) {
     if !is_zero(scratch) {
         print(b"scratch is not zero\n");
     }
-    if !is_set(tables::part(out, count, out.len())) {
-        print(b"the output has changed behind the list\n");
-    }
+    print_if_changed(out, count);
 }
 
 // ---- the cases

@@ -3,8 +3,8 @@ use Prim.Native.Nat.{_-_}
 use lib.ListN.{length, length-set}
 use mathlib.Core.Path.{_≡_, refl}
 use native.Mathlib.Omega.{arith}
-use Rattle.replay_combine.proofs.set_bytes.Statement.{statement}
-use Rattle.replay_combine.proofs.set_bytes.Tie as tie
+use Rattle.test_cases.proofs.set_bytes.Statement.{statement}
+use Rattle.test_cases.proofs.set_bytes.Tie as tie
 
 abbrev Inv-loop : tie.InvT-loop
 Inv-loop out₀ i₀ i-end out i = (length out ≡ length out₀) × (i-end ≡ length out₀)
