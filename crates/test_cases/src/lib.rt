@@ -1,7 +1,7 @@
 // What the programs that run recorded cases share: reading a case from the input, the output of a call, and printing.
 //
-// A case is a line of fields with a space between, and behind its LF three texts. The first three fields say how many bytes they have.
-// Every offset is taken; past the end of the input there is nothing.
+// A case is a line of fields with a space between. In most programs three texts stand behind its LF, and the first three fields say how many
+// bytes they have. Every offset is taken; past the end of the input there is nothing.
 ghost use mathlib.Core.Path.{_≡_};
 ghost use Prim.Native.Nat.{_+_, _≤_, min};
 ghost use lib.ListN.{length};
@@ -35,26 +35,39 @@ pub fn number_field(line: &[u8], number: usize) -> usize {
     }
 }
 
-// The same, or the most that there is.
+// A count, or the most that there is.
+pub fn at_most(count: usize, most: usize) -> usize
+    ensures { λ r. ⌜ r ≡ min count most ⌝ }
+{
+    if most < count {
+        return most;
+    }
+    count
+}
+
+// The number that a field of a case's line spells, or the most that there is.
 pub fn count_field(line: &[u8], number: usize, most: usize) -> usize
     ensures { λ r. ⌜ r ≤ most ⌝ }
 {
-    let n = number_field(line, number);
-    if most < n {
-        return most;
-    }
-    n
+    at_most(number_field(line, number), most)
 }
 
-// The offset behind the line at an offset, or the end of the input.
-fn after_line(s: &[u8], at: usize) -> usize
+// The offset behind the field at an offset and its separator, or the end of the input.
+pub fn after_field(s: &[u8], at: usize, separator: u8) -> usize
     ensures { λ r. ⌜ (min (at + 1) (length (now (s .entry))) ≤ r) × (r ≤ length (now (s .entry))) ⌝ }
 {
-    let end = kv_text::field_end(s, at, b'\n');
+    let end = kv_text::field_end(s, at, separator);
     if s.len() <= end {
         return s.len();
     }
     end + 1
+}
+
+// The offset behind the line at an offset, or the end of the input.
+pub fn after_line(s: &[u8], at: usize) -> usize
+    ensures { λ r. ⌜ (min (at + 1) (length (now (s .entry))) ≤ r) × (r ≤ length (now (s .entry))) ⌝ }
+{
+    after_field(s, at, b'\n')
 }
 
 // The offset so many bytes further on, or the end of the input.
