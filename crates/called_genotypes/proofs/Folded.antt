@@ -154,13 +154,6 @@ pub pair-folded : (pl : List ℕ) (x : ℕ) (low high : AlleleIndex) {o : Option
 unfolding pairOf retainedPlAt
 pair-folded pl x low high e p q h = rw (← e) (h ∙ rw (p, q))
 
--- a value of the pair at a place of n alleles
-pub value-there : (f : AllelePair → ℕ) (n place : ℕ) → n ≤ 16 → place < genotypeCount n
-    → Option·getD (Option·map f (getElem? (genotypePairs 16) place)) 0 ≡ f (getD (genotypePairs n) place noPair)
-value-there f n place l h =
-    let there = pair-there n (pair-at-place n place h) in
-    rw (← same-pair n 16 place l h, there, getD-some (genotypePairs n) place noPair there)
-
 pub no-pair-folded : (pl : List ℕ) (x : ℕ) {o : Option AllelePair} → pairOf NoPair ≡ o → 0 ≡ Option·getD (Option·map (retainedPlAt pl x) o) 0
 unfolding pairOf
 no-pair-folded pl x e = rw (← e)
