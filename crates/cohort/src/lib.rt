@@ -15,17 +15,6 @@ use site_groups::SiteAt;
 use site_groups::SitePlace;
 use site_groups::SiteValues;
 
-// Stores the numbers of a row from an offset on.
-fn store_row(rows: &mut [usize], first: usize, row: &[usize])
-    requires { ⌜ first + length (now row) ≤ length (now rows) ⌝ }
-    ensures { λ _. ⌜ now (rows .exit) ≡ sets (now (rows .entry)) first (now (row .entry)) ⌝ }
-{
-    for k in 0..row.len() {
-        let n = row[k];
-        rows[first + k] = n;
-    }
-}
-
 fn flag(b: bool) -> usize
     ensures { λ r. ⌜ r ≡ cond b 1 0 ⌝ }
 {
@@ -64,7 +53,7 @@ pub fn put_site(
         values.pl.at,
         values.pl.end,
     ];
-    store_row(rows, site * 17, &row);
+    tables::store_row(rows, site * 17, &row);
 }
 
 // Whether a site is the first on its contig, and that contig has this name.

@@ -1,6 +1,6 @@
 -- From the texts of a call to its tables, and from the tables to the sites by sample and the contigs in order.
-use Prim.Native.Nat.{_*_, _≤_, ℕ}
-use lib.ListN.{drop, length, length-append, length-map, take}
+use Prim.Native.Nat.{_*_, _<_, _≤_, ℕ}
+use lib.ListN.{drop, getD, length, length-append, length-map, take}
 use lib.Seq.{take-append-seam}
 use mathlib.Core.Bool.{Bool, _&&_, false, true}
 use mathlib.Core.List.{List, [], _++_, _∷_, map}
@@ -27,6 +27,8 @@ use Rattle.definitions.specs.Intervals.{contigsOf}
 use Rattle.definitions.specs.Limits.{maxSamples, maxSites}
 use Rattle.definitions.specs.Lines.{Line}
 use Rattle.definitions.specs.Lists.{missingOr, numbersFrom, onlyIf}
+use Rattle.indexed_groups.proofs.Storing.{segments-still}
+use Rattle.indexed_groups.specs.Indexed.{SegmentsIndexed, SegmentsOnly, SpansIndexed, SpansOnly}
 use Rattle.kv_write.proofs.Laying.{sets-front}
 use Rattle.laws.proofs.Checked.{accepted-same, after-required, not-required, required, then, then-refused}
 use Rattle.laws.proofs.Every.{every-map, every-of-each}
@@ -36,7 +38,8 @@ use Rattle.laws.proofs.ReferenceLetter.{first-letter, firstLetter}
 use Rattle.laws.proofs.SoundInput.{input-sound}
 use Rattle.laws.proofs.SoundRecords.{NameAfter}
 use Rattle.laws.proofs.Tests.{all-three, clash}
-use Rattle.tables.specs.Tables.{nameAt, namesIn, rowLength, siteAt}
+use Rattle.tables.proofs.SameSites.{same-rows, same-sites}
+use Rattle.tables.specs.Tables.{nameAt, namesIn, siteAt, tableLength}
 use Rattle.combine_gvcfs.specs.Combined.{CallLoaded, CohortHeld, Combined, ListReady, TextsAnswered, TextsFit, listWithin, textsOf}
 
 -- ---- the sites by sample, and the contigs in order
@@ -161,11 +164,50 @@ module _ (cohort : List ℕ) (clipped : Bool) (clip : List ℕ) (referenced : Bo
         let (short, _, _) = all-three (fits cohort) (missingOr fits (onlyIf clipped clip)) (missingOr fits (onlyIf referenced reference)) fit in
         required 2 _ _ fit (then-refused _ _ (sym (required 2 _ (cohortOf cohort) short refl) ∙ e))
 
-    pub cohort-held : {names₀ names rows₀ rows : List ℕ} {samples sites : ℕ} → 2 * maxSamples ≤ length names
+    pub cohort-held : {names₀ names rows₀ rows : List ℕ} {samples sites : ℕ} → 2 * maxSamples ≤ length names → tableLength ≤ length rows
         → CohortTo cohort names₀ names rows₀ rows samples sites → CohortHeld cohort names rows samples sites clipped clip referenced reference
     unfolding fittingCohort
-    cohort-held room c = after-required _ _ _ (c .value) λ short e.
-        record { all-fit = fit; value = e; table = c .table; few = c .few-samples; in-table = omega (arith, c .few-samples) }
+    cohort-held room whole c = after-required _ _ _ (c .value) λ short e.
+        record {
+          all-fit = fit;
+          value = e;
+          table = c .table;
+          few = c .few-samples;
+          few-sites = c .few-sites;
+          in-table = omega (arith, c .few-samples);
+          whole = whole;
+        }
+
+-- ---- rows of segments and spans
+
+module _ {s names rows : List ℕ} {samples sites : ℕ} {clipped : Bool} {clip : List ℕ} {referenced : Bool} {reference : List ℕ}
+    (held : CohortHeld s names rows samples sites clipped clip referenced reference) {rows₁ rows₂ : List ℕ}
+    (first : SegmentsOnly rows rows₁) (second : SpansOnly rows₁ rows₂) where
+  same-numbers : (j : ℕ) → j < 69632 → getD rows₂ j 0 ≡ getD rows j 0
+  same-numbers j h = second .sites-segments j (omega arith) ∙ first .sites j h
+
+  -- the tables still hold the cohort
+  pub still-held : CohortHeld s names rows₂ samples sites clipped clip referenced reference
+  unfolding sitesIn
+  still-held =
+      let same = same-sites s rows rows₂ same-numbers sites (held .few-sites) in
+      let few : length (map (siteAt s rows) (numbersFrom 0 sites)) ≤ 4096 =
+      omega (arith, held .few-sites, length-map (numbersFrom 0 sites) (siteAt s rows), length-numbers 0 sites) in
+      record {
+        all-fit = held .all-fit;
+        value = rw same (held .value);
+        table = rw same (same-rows s rows rows₂ same-numbers few (held .table));
+        few = held .few;
+        few-sites = held .few-sites;
+        in-table = held .in-table;
+        whole = omega (arith, held .whole, first .long, second .long);
+      }
+
+  pub segments-there : (referenced ≡ true → tableLength ≤ length rows → SegmentsIndexed reference rows₁) → referenced ≡ true → SegmentsIndexed reference rows₂
+  segments-there x e = segments-still reference rows₁ rows₂ second (x e (held .whole))
+
+  pub spans-there : (clipped ≡ true → tableLength ≤ length rows₁ → SpansIndexed clip rows₂) → clipped ≡ true → SpansIndexed clip rows₂
+  spans-there x e = x e (omega (arith, held .whole, first .long))
 
 -- ---- texts in order
 
@@ -186,7 +228,8 @@ module _ {s names rows : List ℕ} {samples sites : ℕ} {clipped : Bool} {clip 
         required 2 _ _ (held .all-fit)
         (then _ _ (held .value) (then _ _ (c .all) (then-refused _ _ (optional-refused segmentOf reference referenced e))))
 
-    module _ (r : Optional segmentOf reference referenced) where
+    module _ (r : Optional segmentOf reference referenced) (segments-indexed : referenced ≡ true → SegmentsIndexed reference rows)
+        (spans-indexed : clipped ≡ true → SpansIndexed clip rows) where
       input : Input
       input = record {
         cohort = record { names = namesIn s names samples; sites = sitesIn s rows sites };
@@ -218,10 +261,11 @@ module _ {s names rows : List ℕ} {samples sites : ℕ} {clipped : Bool} {clip 
               few = held .few;
               segments = r .groups;
               segments-from = r .from;
+              segments-indexed = segments-indexed;
               reference-is = refl;
               sound = sound;
             };
-            clip-given = record { spans = c .groups; spans-from = c .from; clip-is = refl };
+            clip-given = record { spans = c .groups; spans-from = c .from; spans-indexed = spans-indexed; clip-is = refl };
             header = record {
               in-table = held .in-table;
               few = held .few;
@@ -252,7 +296,7 @@ module _ {s names rows : List ℕ} {samples sites : ℕ} {clipped : Bool} {clip 
 
 -- ---- tables that are long enough
 
-pub no-room-never : {R : Type 0} {names₀ names rows₀ rows : List ℕ} → length names₀ ≡ 2 * maxSamples → length rows₀ ≡ maxSites * rowLength
+pub no-room-never : {R : Type 0} {names₀ names rows₀ rows : List ℕ} → length names₀ ≡ 2 * maxSamples → length rows₀ ≡ tableLength
     → CohortUnread names₀ names rows₀ rows → R
 no-room-never e f u = ⊎-elim (λ h. absurd (omega arith)) (λ h. absurd (omega arith)) (u .no-room)
 

@@ -56,9 +56,9 @@ pub record GivenSpans (text : List ℕ) (x : Input) : Type 0 where
   pub from : SpansFrom text 0 spans
   pub same : (sites : List Site) (contig : List ℕ) → breakpoints sites (some spans) contig ≡ breakpoints sites (x .clip) contig
 
-pub given-spans : {clipped : Bool} {clip : List ℕ} {x : Input} → ClipGiven clipped clip x → GivenSpans (givenClip clipped clip) x
+pub given-spans : {clipped : Bool} {clip rows : List ℕ} {x : Input} → ClipGiven clipped clip rows x → GivenSpans (givenClip clipped clip) x
 unfolding onlyIf
-given-spans {clipped} {clip} {x} g = go clipped (g .spans-from) (g .clip-is)
+given-spans {clipped} {clip} {x = x} g = go clipped (g .spans-from) (g .clip-is)
   where
     go : (b : Bool) → (b ≡ true → SpansFrom clip 0 (g .spans)) → x .clip ≡ onlyIf b (g .spans) → GivenSpans (givenClip b clip) x
     go true f e = record { spans = g .spans; from = f refl; same = λ sites contig. rw e }

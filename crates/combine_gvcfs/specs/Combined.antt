@@ -13,14 +13,14 @@ use Rattle.definitions.specs.ClipAndReference.{LetterChoice}
 use Rattle.definitions.specs.Cohort.{cohortOf}
 use Rattle.definitions.specs.CombinedList.{ChoiceFor, Texts, combinedList, fits, listOf}
 use Rattle.definitions.specs.Intervals.{contigsOf}
-use Rattle.definitions.specs.Limits.{maxSamples}
+use Rattle.definitions.specs.Limits.{maxSamples, maxSites}
 use Rattle.definitions.specs.Lists.{missingOr, onlyIf}
 use Rattle.definitions.specs.Printed.{printedList, printedRecord}
 use Rattle.definitions.specs.Records.{Record}
 use Rattle.laws.proofs.Every.{Every}
 use Rattle.list_header.specs.HeaderNames.{HeaderNames}
 use Rattle.merged_records.specs.Loaded.{Loaded, chosenLetters}
-use Rattle.tables.specs.Tables.{SiteRows, namesIn, partAt}
+use Rattle.tables.specs.Tables.{SiteRows, namesIn, partAt, tableLength}
 use Rattle.combine_gvcfs.specs.Contigs.{Grouped, IsFirst, allRecords}
 use Rattle.contig_walk.specs.Walk.{ClipGiven}
 
@@ -52,20 +52,22 @@ abbrev pub TextsFit : List ℕ → Bool → List ℕ → Bool → List ℕ → T
 TextsFit cohort clipped clip referenced reference =
     (fits cohort && missingOr fits (onlyIf clipped clip) && missingOr fits (onlyIf referenced reference)) ≡ true
 
--- and the tables hold the cohort
+-- and the tables hold the cohort, with room for the groups of the other texts
 pub record CohortHeld (s names rows : List ℕ) (samples sites : ℕ) (clipped : Bool) (clip : List ℕ) (referenced : Bool) (reference : List ℕ) : Type 0 where
   pub all-fit : TextsFit s clipped clip referenced reference
   pub value : cohortOf s ≡ accepted (record { names = namesIn s names samples; sites = sitesIn s rows sites })
   pub table : SiteRows s rows (sitesIn s rows sites)
   pub few : samples ≤ maxSamples
+  pub few-sites : sites ≤ maxSites
   pub in-table : 2 * samples ≤ length names
+  pub whole : tableLength ≤ length rows
 
 -- ---- texts in order
 
 -- the tables hold the cohort, and clip and reference are in order
 pub record CallLoaded (s names rows : List ℕ) (samples sites : ℕ) (clipped : Bool) (clip : List ℕ) (referenced : Bool) (reference : List ℕ) : Type 0 where
   pub loaded : Loaded s rows samples referenced reference
-  pub clip-given : ClipGiven clipped clip (loaded .input)
+  pub clip-given : ClipGiven clipped clip rows (loaded .input)
   pub header : HeaderNames s names samples
   pub names-are : loaded .input .cohort .names ≡ namesIn s names samples
   pub all-sites : sites ≡ length (loaded .input .cohort .sites)

@@ -24,7 +24,7 @@ givenClip clipped clip = cond clipped clip []
 -- tables and texts that hold an input, and the numbers of the sites grouped by sample
 pub record Grouped (s rows : List ℕ) (samples : ℕ) (clipped : Bool) (clip : List ℕ) (referenced : Bool) (reference order bounds : List ℕ) : Type 0 where
   pub loaded : Loaded s rows samples referenced reference
-  pub clip-given : ClipGiven clipped clip (loaded .input)
+  pub clip-given : ClipGiven clipped clip rows (loaded .input)
   pub grouped : Runs order bounds samples (sampleSites rows (length (loaded .input .cohort .sites)))
   pub few : length order ≤ maxSites
 

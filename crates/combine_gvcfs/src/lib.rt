@@ -1,6 +1,7 @@
 // The combined list: breakpoint by breakpoint, contig by contig, and the library's entry.
 ghost use Prim.Native.Nat.{_≤_, ℕ};
 ghost use lib.ListN.{length};
+ghost use mathlib.Core.Bool.{true};
 ghost use mathlib.Core.List.{List};
 ghost use mathlib.Core.Path.{_≡_};
 ghost use Rattle.answers.specs.Answered.{Answered};
@@ -8,8 +9,10 @@ ghost use Rattle.definitions.specs.Checked.{isAccepted, within};
 ghost use Rattle.definitions.specs.ClipAndReference.{optionalGroups, segmentOf, spanOf};
 ghost use Rattle.definitions.specs.CombinedList.{fits};
 ghost use Rattle.definitions.specs.Lists.{missingOr, onlyIf};
+ghost use Rattle.indexed_groups.specs.Indexed.{SegmentsIndexed, SegmentsOnly, SpansIndexed, SpansOnly};
 ghost use Rattle.list_header.specs.Measured.{limit};
 ghost use Rattle.merged_records.specs.Loaded.{chosenLetters};
+ghost use Rattle.tables.specs.Tables.{tableLength};
 ghost use Rattle.combine_gvcfs.specs.Combined.{CallLoaded, Combined, CohortHeld, ListReady, Measurement, TextsAnswered, TextsFit, listTo, listWithin, textsOf};
 ghost use Rattle.combine_gvcfs.specs.Contigs.{AllReady, OneReady, allRecords, givenClip, recordsOn};
 ghost use Rattle.contig_walk.specs.Walk.{RecordsWalked};
@@ -345,11 +348,33 @@ fn reference_in_order(referenced: bool, reference: &[u8]) -> bool
     true
 }
 
+// Gives the first segments of the reference, if there is one, their rows in the table.
+fn index_reference(referenced: bool, reference: &[u8], rows: &mut [usize])
+    ensures others { λ _. ⌜ SegmentsOnly (now (rows .entry)) (now (rows .exit)) ⌝ }
+    ensures indexed { λ _. ⌜ (referenced ≡ true → tableLength ≤ length (now (rows .entry)) → SegmentsIndexed (now (reference .entry)) (now (rows .exit))) ⌝ }
+{
+    if !referenced {
+        return;
+    }
+    indexed_groups::index_segments(reference, rows);
+}
+
+// Gives the first spans of the clip, if there is one, their rows in the table.
+fn index_clip(clipped: bool, clip: &[u8], rows: &mut [usize])
+    ensures others { λ _. ⌜ SpansOnly (now (rows .entry)) (now (rows .exit)) ⌝ }
+    ensures indexed { λ _. ⌜ (clipped ≡ true → tableLength ≤ length (now (rows .entry)) → SpansIndexed (now (clip .entry)) (now (rows .exit))) ⌝ }
+{
+    if !clipped {
+        return;
+    }
+    indexed_groups::index_spans(clip, rows);
+}
+
 // Writes the list of texts that are short enough, from the tables of the cohort: rows 9 to 14.
 fn combine_cohort<'a>(
     s: &'a [u8],
     names: &[usize],
-    rows: &[usize],
+    rows: &mut [usize],
     samples: usize,
     sites: usize,
     clipped: bool,
@@ -368,6 +393,8 @@ fn combine_cohort<'a>(
     if !reference_in_order(referenced, reference) {
         return Outcome::Refused(9);
     }
+    index_reference(referenced, reference, rows);
+    index_clip(clipped, clip, rows);
     combine_loaded(
         s,
         names,
@@ -397,7 +424,7 @@ fn combine_fitting<'a>(
     ensures { λ r. ⌜ TextsAnswered (textsOf (now (cohort .entry)) clipped (now (clip .entry)) referenced (now (reference .entry))) (length (now (scratch .entry))) (now (out .entry)) (now (out .exit)) r ⌝ }
 {
     let mut names = [0usize; 128];
-    let mut rows = [0usize; 69632];
+    let mut rows = [0usize; 78852];
     let read = cohort::read_cohort(cohort, &mut names, &mut rows);
     match read {
         CohortRead::NoRoom => Outcome::Refused(2),
@@ -405,7 +432,7 @@ fn combine_fitting<'a>(
         CohortRead::Cohort(samples, sites) => combine_cohort(
             cohort,
             &names,
-            &rows,
+            &mut rows,
             samples,
             sites,
             clipped,

@@ -64,7 +64,7 @@ pub record TurnRoom (samples : ℕ) (held fresh found alts : List ℕ) : Type 0 
 pub record TurnReady (s rows : List ℕ) (samples : ℕ) (clipped : Bool) (clip : List ℕ) (referenced : Bool) (reference contig chosen from bounds : List ℕ)
     (first last : ℕ) (pending : Pending) (held fresh found alts : List ℕ) (at : ℕ) : Type 0 where
   pub runs : ContigRuns s rows samples referenced reference contig chosen bounds
-  pub clip-given : ClipGiven clipped clip (runs .on .loaded .input)
+  pub clip-given : ClipGiven clipped clip rows (runs .on .loaded .input)
   pub sound : inClip contig (runs .on .loaded .input .clip) (record { first = first; last = last }) ≡ true
       → 0 < length (coveringSites (runs .on .loaded .input .cohort) contig first) → SoundInterval (record { first = first; last = last })
   pub ended : Ended rows chosen bounds from samples first

@@ -162,16 +162,17 @@ fn lay_record<'a>(
 fn passes_clip(
     clipped: bool,
     clip: &[u8],
+    rows: &[usize],
     contig: &[u8],
     first: GenomePosition,
     last: GenomePosition,
 ) -> bool
-    ensures { λ r. ⌜ ((x : Input) → ClipGiven clipped (now (clip .entry)) x → r ≡ inClip (now (contig .entry)) (x .clip) (record { first = first .0; last = last .0 })) ⌝ }
+    ensures { λ r. ⌜ ((x : Input) → ClipGiven clipped (now (clip .entry)) (now (rows .entry)) x → r ≡ inClip (now (contig .entry)) (x .clip) (record { first = first .0; last = last .0 })) ⌝ }
 {
     if !clipped {
         return true;
     }
-    intervals::in_clip(clip, contig, first.get(), last.get())
+    intervals::in_clip(clip, rows, contig, first.get(), last.get())
 }
 
 // What a turn of the walk leaves; or the row that refuses the interval's record.
@@ -212,7 +213,7 @@ fn walk_interval<'a>(
         → Turns (ready .runs .on .loaded .input) (chosenLetters (ready .runs .on .loaded)) (now (s .entry)) (now (rows .entry)) samples (now (reference .entry)) (now (contig .entry)) (now (held .exit)) (now (out .exit)) (first .0) (last .0) waiting d₀ bytes records r) ⌝ }
 {
     let same = Stepped { pending, at, count };
-    if !passes_clip(clipped, clip, contig, first, last) {
+    if !passes_clip(clipped, clip, rows, contig, first, last) {
         return Turned::To(same);
     }
     let here = merged_records::record_at(

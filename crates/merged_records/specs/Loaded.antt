@@ -11,6 +11,7 @@ use Rattle.definitions.specs.ClipAndReference.{LetterChoice, ReferenceSegment}
 use Rattle.definitions.specs.CombinedList.{Input}
 use Rattle.definitions.specs.Limits.{maxSamples}
 use Rattle.definitions.specs.Lists.{onlyIf}
+use Rattle.indexed_groups.specs.Indexed.{SegmentsIndexed}
 use Rattle.laws.proofs.ReferenceLetter.{firstLetter}
 use Rattle.laws.proofs.SoundInput.{SoundInput}
 use Rattle.tables.specs.Tables.{SiteRows, column, partAt}
@@ -23,6 +24,7 @@ pub record Loaded (s rows : List ℕ) (samples : ℕ) (referenced : Bool) (refer
   pub few : samples ≤ maxSamples
   pub segments : List ReferenceSegment
   pub segments-from : referenced ≡ true → SegmentsFrom reference 0 segments
+  pub segments-indexed : referenced ≡ true → SegmentsIndexed reference rows
   pub reference-is : input .reference ≡ onlyIf referenced segments
   pub sound : SoundInput input
 

@@ -1,4 +1,4 @@
--- The loop of find_letter:
+-- The letter:
 pub mod Letters
 -- The sites that start at the position:
 pub mod Starting

@@ -7,11 +7,11 @@ use mathlib.Core.Path.{_≡_}
 use Rattle.definitions.specs.Checked.{Checked, accepted, refused}
 use Rattle.definitions.specs.ClipAndReference.{ReferenceSegment, segmentHolds}
 use Rattle.definitions.specs.Cohort.{Site}
-use Rattle.definitions.specs.Lists.{anyOf, filterBy}
+use Rattle.definitions.specs.Lists.{anyOf, filterBy, numbersFrom}
 use Rattle.definitions.specs.MergedRef.{longest, siteRef, startsAt}
 use Rattle.kv_text.specs.Fields.{between}
 use Rattle.laws.proofs.ReferenceLetter.{firstLetter}
-use Rattle.tables.specs.Tables.{partAt, siteAt}
+use Rattle.tables.specs.Tables.{partAt, segmentAt, segmentCount, siteAt}
 use Rattle.merged_ref.specs.declared.LetterAt.{LetterAt}
 use Rattle.merged_ref.specs.declared.LetterAt.the-variants as letter
 use Rattle.merged_ref.specs.declared.LongestAt.{LongestAt}
@@ -33,6 +33,10 @@ startingRefs position covering = map siteRef (filterBy (startsAt position) cover
 abbrev pub segmentBy : List ℕ → ℕ → ℕ → ℕ → ℕ → ℕ → ReferenceSegment
 segmentBy reference contigAt contigEnd first basesAt basesEnd =
     record { contig = between reference contigAt contigEnd; first = first; bases = between reference basesAt basesEnd }
+
+-- the segments with rows
+abbrev pub segmentsIn : List ℕ → List ℕ → List ReferenceSegment
+segmentsIn reference rows = map (segmentAt reference rows) (numbersFrom 0 (segmentCount rows))
 
 -- where the letter of the first segment that holds the position stands in the reference text
 unfoldable pub LetterFound : List ℕ → List ℕ → ℕ → List ReferenceSegment → LetterAt → Type 0

@@ -10,9 +10,10 @@ ghost use Rattle.definitions.specs.Bytes.{isPrefix};
 ghost use Rattle.definitions.specs.ClipAndReference.{ReferenceSegment};
 ghost use Rattle.definitions.specs.Lists.{allOf, onlyIf};
 ghost use Rattle.definitions.specs.MergedRef.{firstRef, mergedRef, refLetter};
+ghost use Rattle.indexed_groups.specs.Indexed.{SegmentsIndexed};
 ghost use Rattle.laws.proofs.ReferenceLetter.{firstLetter};
-ghost use Rattle.tables.specs.Tables.{partAt};
-ghost use Rattle.merged_ref.specs.Answers.{LetterFound, LongestFound, letterBytes, refAnswer, refBytes, segmentBy, sitesAt, startingRefs};
+ghost use Rattle.tables.specs.Tables.{partAt, segmentAt};
+ghost use Rattle.merged_ref.specs.Answers.{LetterFound, LongestFound, letterBytes, refAnswer, refBytes, segmentBy, segmentsIn, sitesAt, startingRefs};
 use bio_ids::GenomePosition;
 use clip_and_reference::SegmentAt;
 
@@ -29,7 +30,7 @@ fn letter_in(
     reference: &[u8],
     contig_at: usize,
     contig_end: usize,
-    first: u32,
+    first: u64,
     bases_at: usize,
     bases_end: usize,
     contig: &[u8],
@@ -43,11 +44,10 @@ fn letter_in(
         return LetterAt::Absent;
     }
     let wanted = position.get();
-    let from = first as u64;
-    if wanted < from {
+    if wanted < first {
         return LetterAt::Absent;
     }
-    let index = wanted - from;
+    let index = wanted - first;
     let bases = tables::part(reference, bases_at, bases_end);
     if bases.len() as u64 <= index {
         return LetterAt::Absent;
@@ -55,12 +55,60 @@ fn letter_in(
     LetterAt::At(bases_at + index as usize)
 }
 
-// The letter at the position that the first group in the text gives that holds it, for a reference in order.
-pub fn find_letter(reference: &[u8], contig: &[u8], position: GenomePosition) -> LetterAt
-    ensures { λ r. ⌜ ((segments : List ReferenceSegment) → SegmentsFrom (now (reference .entry)) 0 segments
+// The letter that the segment with this row gives, if it is on the contig and has one at the position.
+fn letter_in_row(
+    reference: &[u8],
+    rows: &[usize],
+    segment: usize,
+    contig: &[u8],
+    position: GenomePosition,
+) -> LetterAt
+    ensures { λ r. ⌜ LetterFound (now (reference .entry)) (now (contig .entry)) (position .0)
+        (segmentAt (now (reference .entry)) (now (rows .entry)) segment ∷ []) r ⌝ }
+{
+    let contig_at = tables::segment_column(rows, segment, 0);
+    let contig_end = tables::segment_column(rows, segment, 1);
+    let first = tables::segment_column(rows, segment, 2);
+    let bases_at = tables::segment_column(rows, segment, 3);
+    let bases_end = tables::segment_column(rows, segment, 4);
+    letter_in(
+        reference,
+        contig_at,
+        contig_end,
+        first as u64,
+        bases_at,
+        bases_end,
+        contig,
+        position,
+    )
+}
+
+// The letter at the position that the first segment with a row gives that holds it.
+fn letter_in_rows(
+    reference: &[u8],
+    rows: &[usize],
+    contig: &[u8],
+    position: GenomePosition,
+) -> LetterAt
+    ensures { λ r. ⌜ LetterFound (now (reference .entry)) (now (contig .entry)) (position .0)
+        (segmentsIn (now (reference .entry)) (now (rows .entry))) r ⌝ }
+{
+    let count = tables::segment_count(rows);
+    for segment in 0..count {
+        let letter = letter_in_row(reference, rows, segment, contig, position);
+        if let LetterAt::At(i) = letter {
+            return LetterAt::At(i);
+        }
+    }
+    LetterAt::Absent
+}
+
+// The letter at the position that the first group from an offset on gives that holds it, for groups in order.
+fn letter_from(reference: &[u8], from: usize, contig: &[u8], position: GenomePosition) -> LetterAt
+    ensures { λ r. ⌜ ((segments : List ReferenceSegment) → SegmentsFrom (now (reference .entry)) from segments
         → LetterFound (now (reference .entry)) (now (contig .entry)) (position .0) segments r) ⌝ }
 {
-    let mut at = 0;
+    let mut at = from;
     while at < reference.len() {
         let group = clip_and_reference::segment_at(reference, at);
         let SegmentAt::Segment {
@@ -78,7 +126,7 @@ pub fn find_letter(reference: &[u8], contig: &[u8], position: GenomePosition) ->
             reference,
             contig_at,
             contig_end,
-            first,
+            first as u64,
             bases_at,
             bases_end,
             contig,
@@ -90,6 +138,25 @@ pub fn find_letter(reference: &[u8], contig: &[u8], position: GenomePosition) ->
         at = next;
     }
     LetterAt::Absent
+}
+
+// The letter at the position that the first segment gives that holds it, for a reference in order whose first segments have rows.
+pub fn find_letter(
+    reference: &[u8],
+    rows: &[usize],
+    contig: &[u8],
+    position: GenomePosition,
+) -> LetterAt
+    ensures { λ r. ⌜ ((segments : List ReferenceSegment) → SegmentsFrom (now (reference .entry)) 0 segments
+        → SegmentsIndexed (now (reference .entry)) (now (rows .entry))
+        → LetterFound (now (reference .entry)) (now (contig .entry)) (position .0) segments r) ⌝ }
+{
+    let letter = letter_in_rows(reference, rows, contig, position);
+    if let LetterAt::At(i) = letter {
+        return LetterAt::At(i);
+    }
+    let from = tables::segments_next(rows);
+    letter_from(reference, from, contig, position)
 }
 
 // ---- the sites that start at the position
@@ -218,13 +285,14 @@ fn ref_letter(
     position: GenomePosition,
 ) -> RefAt
     ensures { λ r. ⌜ ((s : List ℕ) (segments : List ReferenceSegment) → (referenced ≡ true → SegmentsFrom (now (reference .entry)) 0 segments)
+        → (referenced ≡ true → SegmentsIndexed (now (reference .entry)) (now (rows .entry)))
         → refAnswer s (now (rows .entry)) (now (reference .entry)) r
         ≡ refLetter (onlyIf referenced segments) (firstLetter segments) (now (contig .entry)) (position .0) (sitesAt s (now (rows .entry)) (now (found .entry)))) ⌝ }
 {
     if !referenced {
         return RefAt::Letter(Place::Cohort(first_site(rows, found)));
     }
-    let letter = find_letter(reference, contig, position);
+    let letter = find_letter(reference, rows, contig, position);
     match letter {
         LetterAt::At(i) => RefAt::Letter(Place::Reference(i)),
         LetterAt::Absent => RefAt::Refused(11),
@@ -243,6 +311,7 @@ pub fn determine_reference_allele(
     position: GenomePosition,
 ) -> RefAt
     ensures { λ r. ⌜ ((segments : List ReferenceSegment) → (referenced ≡ true → SegmentsFrom (now (reference .entry)) 0 segments)
+        → (referenced ≡ true → SegmentsIndexed (now (reference .entry)) (now (rows .entry)))
         → refAnswer (now (s .entry)) (now (rows .entry)) (now (reference .entry)) r
         ≡ mergedRef (onlyIf referenced segments) (firstLetter segments) (now (contig .entry)) (position .0) (sitesAt (now (s .entry)) (now (rows .entry)) (now (found .entry)))) ⌝ }
 {

@@ -1,3 +1,5 @@
 pub mod Cleared
 pub mod Parts
 pub mod SameContig
+pub mod SameSites
+pub mod Stored

@@ -19,7 +19,7 @@ between-rest s from to h =
     take-all (length s - from) (drop from s) (rw (length-drop from s) (omega arith))
     ∙ sym (take-all (to - from) (drop from s) (rw (length-drop from s) (omega arith)))
 
-getD-past : (l : List ℕ) (i : ℕ) → length l ≤ i → getD l i 0 ≡ 0
+pub getD-past : (l : List ℕ) (i : ℕ) → length l ≤ i → getD l i 0 ≡ 0
 getD-past [] i h = refl
 getD-past (x ∷ l) zero h = absurd (omega arith)
 getD-past (x ∷ l) (suc i) h = getD-past l i (omega arith)

@@ -1,7 +1,9 @@
-// The tables that a cohort is read into. Every number of a site is taken: past the table's end all columns are 0.
+// The tables that the texts of a call are read into: names, sites, and behind 4,096 sites the first 1,024 reference segments and clip
+// spans. Every number of a row is answered: past the table's end all columns are 0.
 ghost use mathlib.Core.Path.{_≡_};
+ghost use Prim.Native.Nat.{_+_, _≤_};
 ghost use lib.Dec.{eqb};
-ghost use lib.ListN.{length};
+ghost use lib.ListN.{getD, length};
 ghost use lib.Seq.{sets};
 ghost use mathlib.Core.List.{[]};
 ghost use mathlib.Core.Option.{Option·getD};
@@ -10,7 +12,7 @@ ghost use Rattle.definitions.specs.Bytes.{comma, fieldsOf};
 ghost use Rattle.definitions.specs.Numbers.{numberList};
 ghost use Rattle.kv_text.specs.Fields.{between, firstNumbers};
 ghost use Rattle.kv_write.specs.Optional.{optionOf};
-ghost use Rattle.tables.specs.Tables.{codeOption, column, partAt};
+ghost use Rattle.tables.specs.Tables.{codeOption, column, partAt, segmentColumn, segmentCount, segmentsNext, spanColumn, spanCount, spansNext};
 use bio_ids::GenomePosition;
 use bio_ids::SampleIndex;
 use kv_text::NumbersRead;
@@ -22,6 +24,17 @@ pub fn clear(table: &mut [usize])
 {
     for i in 0..table.len() {
         table[i] = 0;
+    }
+}
+
+// Stores the numbers of a row from an offset on.
+pub fn store_row(rows: &mut [usize], first: usize, row: &[usize])
+    requires { ⌜ first + length (now row) ≤ length (now rows) ⌝ }
+    ensures { λ _. ⌜ now (rows .exit) ≡ sets (now (rows .entry)) first (now (row .entry)) ⌝ }
+{
+    for k in 0..row.len() {
+        let n = row[k];
+        rows[first + k] = n;
     }
 }
 
@@ -181,4 +194,73 @@ pub fn pl_of(s: &[u8], rows: &[usize], site: usize, out: &mut [u32]) -> usize
 {
     let list = part_at(s, rows, site, 15, 16);
     numbers_in(list, out)
+}
+
+// ---- reference segments and clip spans
+
+// 2^58: so many rows of 4 have as many numbers as no table has.
+const TOO_MANY_GROUPS: usize = 288230376151711744;
+
+// The number at an offset of a table.
+fn number_at(rows: &[usize], at: usize) -> usize
+    ensures { λ r. ⌜ r ≡ getD (now (rows .entry)) at 0 ⌝ }
+{
+    if at < rows.len() {
+        return rows[at];
+    }
+    0
+}
+
+// A number of a reference segment's row.
+pub fn segment_column(rows: &[usize], segment: usize, k: usize) -> usize
+    ensures { λ r. ⌜ r ≡ segmentColumn k (now (rows .entry)) segment ⌝ }
+{
+    if TOO_MANY_GROUPS <= segment {
+        return 0;
+    }
+    if TOO_MANY_NUMBERS <= k {
+        return 0;
+    }
+    number_at(rows, 69632 + segment * 5 + k)
+}
+
+// A number of a clip span's row.
+pub fn span_column(rows: &[usize], span: usize, k: usize) -> usize
+    ensures { λ r. ⌜ r ≡ spanColumn k (now (rows .entry)) span ⌝ }
+{
+    if TOO_MANY_GROUPS <= span {
+        return 0;
+    }
+    if TOO_MANY_NUMBERS <= k {
+        return 0;
+    }
+    number_at(rows, 74752 + span * 4 + k)
+}
+
+// How many reference segments have rows.
+pub fn segment_count(rows: &[usize]) -> usize
+    ensures { λ r. ⌜ r ≡ segmentCount (now (rows .entry)) ⌝ }
+{
+    number_at(rows, 78848)
+}
+
+// How many clip spans have rows.
+pub fn span_count(rows: &[usize]) -> usize
+    ensures { λ r. ⌜ r ≡ spanCount (now (rows .entry)) ⌝ }
+{
+    number_at(rows, 78849)
+}
+
+// Where the reference segments without rows begin in their text.
+pub fn segments_next(rows: &[usize]) -> usize
+    ensures { λ r. ⌜ r ≡ segmentsNext (now (rows .entry)) ⌝ }
+{
+    number_at(rows, 78850)
+}
+
+// Where the clip spans without rows begin in their text.
+pub fn spans_next(rows: &[usize]) -> usize
+    ensures { λ r. ⌜ r ≡ spansNext (now (rows .entry)) ⌝ }
+{
+    number_at(rows, 78851)
 }

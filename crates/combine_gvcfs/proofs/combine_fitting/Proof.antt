@@ -33,7 +33,7 @@ slice-aggregate-combine-cohort-2 c = search needs
 
 combine-cohort-requires : tie.Need-combine-cohort-requires
 unfolding CohortAt
-combine-cohort-requires c κs = cohort-held _ _ _ _ _ ((c .before .before .before .before .before .before .before .before .before .before .before .before .before .before .before .before .before .pre)) (omega (arith, (c .before .before .before .before .before .before .before .before .before .read-cohort .kept .1 .0))) (rw ((c .before .before .before .before .before .read2 .given .1)) at ((c .before .before .before .before .before .before .before .before .before .read-cohort .ensures)))
+combine-cohort-requires c κs = cohort-held _ _ _ _ _ (c .before .before .before .before .before .before .before .before .before .before .before .before .before .before .before .before .before .pre) (omega (arith, (c .before .before .before .before .before .before .before .before .before .read-cohort .kept .1 .0))) (omega (arith, (c .before .before .before .before .before .before .before .before .before .read-cohort .kept .1 .1 .0))) (rw ((c .before .before .before .before .before .read2 .given .1)) at ((c .before .before .before .before .before .before .before .before .before .read-cohort .ensures)))
 
 returns : tie.Need-returns
 unfolding CohortAt
@@ -41,7 +41,7 @@ returns c = no-room-never refl refl (rw ((c .enum-told .given .1)) at ((c .befor
 
 returns-2 : tie.Need-returns-2
 unfolding CohortAt
-returns-2 c = texts-refused (cohort-refused _ _ _ _ _ ((c .before .before .before .before .before .before .before .before .before .before .before .before .before .pre)) ((rw ((c .before .read .given .1)) at ((c .before .before .before .before .before .read-cohort .ensures))) .value)) refl
+returns-2 c = texts-refused (cohort-refused _ _ _ _ _ (c .before .before .before .before .before .before .before .before .before .before .before .before .before .pre) ((rw ((c .before .read .given .1)) at ((c .before .before .before .before .before .read-cohort .ensures))) .value)) refl
 
 same-length : tie.Need-same-length
 same-length c = search needs
@@ -50,7 +50,7 @@ same-length-2 : tie.Need-same-length-2
 same-length-2 c = search needs
 
 returns-3 : tie.Need-returns-3
-returns-3 c = (c .before .before .before .before .combine-cohort .ensures)
+returns-3 c = (c .before .before .before .before .before .combine-cohort .ensures)
 
 pub combine-fitting-spec : {M : Type 1} → statement M
 combine-fitting-spec =

@@ -9,7 +9,7 @@ use Rattle.contig_walk.proofs.passes_clip.Tie as tie
 
 returns : tie.Need-returns
 unfolding inClip onlyIf
-returns c = λ x given. rw (given .clip-is, not-true ((c .before .before .before .args .clipped)) (c .if1 .taken))
+returns c = λ x given. rw (given .clip-is, not-true ((c .before .before .before .before .args .clipped)) (c .if1 .taken))
 
 get-requires : tie.Need-get-requires
 get-requires c κs = search needs
@@ -22,7 +22,7 @@ in-clip-requires c κs = search needs
 
 returns-2 : tie.Need-returns-2
 unfolding onlyIf
-returns-2 c = λ x given. rw (given .clip-is, not-false ((c .before .before .before .before .before .before .args .clipped)) (c .before .before .before .if1 .left)) (rw ((c .before .before .get .ensures), (c .before .get2 .ensures)) at ((c .in-clip .ensures) (given .spans) (given .spans-from (not-false _ (c .before .before .before .if1 .left)))))
+returns-2 c = λ x given. rw (given .clip-is, not-false ((c .before .before .before .before .before .before .before .args .clipped)) (c .before .before .before .if1 .left)) (rw ((c .before .before .get .ensures), (c .before .get2 .ensures)) at ((c .in-clip .ensures) (given .spans) (given .spans-from (not-false _ (c .before .before .before .if1 .left))) (given .spans-indexed (not-false _ (c .before .before .before .if1 .left)))))
 
 pub passes-clip-spec : {M : Type 1} → statement M
 passes-clip-spec = tie.close (tie.spec returns get-requires get-requires-2 in-clip-requires returns-2)

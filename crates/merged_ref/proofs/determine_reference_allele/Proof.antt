@@ -18,7 +18,7 @@ ref-letter-requires : tie.Need-ref-letter-requires
 ref-letter-requires c κs = search needs
 
 returns : tie.Need-returns
-returns c = λ segments from. (c .ref-letter .ensures) _ segments from ∙ by-letter _ _ (c .before .before .before .before .before .before .before .before .before .args .reference .now) _ _ (c .before .before .before .before .before .before .before .before .before .args .found .now) _ segments (rw ((c .before .enum-told .given .1)) at ((c .before .before .before .longest-ref .ensures)))
+returns c = λ segments from indexed. (c .ref-letter .ensures) _ segments from indexed ∙ by-letter _ _ (c .before .before .before .before .before .before .before .before .before .args .reference .now) _ _ (c .before .before .before .before .before .before .before .before .before .args .found .now) _ segments (rw ((c .before .enum-told .given .1)) at ((c .before .before .before .longest-ref .ensures)))
 
 reference-allele-requires : tie.Need-reference-allele-requires
 reference-allele-requires c κs = search needs
@@ -27,11 +27,11 @@ refs-agree-requires : tie.Need-refs-agree-requires
 refs-agree-requires c κs = search needs
 
 returns-2 : tie.Need-returns-2
-returns-2 c = λ segments from. shared _ _ _ _ _ (c .before .before .before .before .before .before .before .before .before .before .before .before .args .found .now) _ segments _ (rw ((c .before .before .before .before .longest .given .1)) at ((c .before .before .before .before .before .before .longest-ref .ensures)))
+returns-2 c = λ segments from indexed. shared _ _ _ _ _ (c .before .before .before .before .before .before .before .before .before .before .before .before .args .found .now) _ segments _ (rw ((c .before .before .before .before .longest .given .1)) at ((c .before .before .before .before .before .before .longest-ref .ensures)))
     (rw (c .before .before .reference-allele .ensures) at ((c .before .refs-agree .ensures))) (c .if1 .taken)
 
 returns-3 : tie.Need-returns-3
-returns-3 c = λ segments from. conflict _ _ _ _ _ (c .before .before .before .before .before .before .before .before .before .before .before .before .args .found .now) _ segments _ (rw ((c .before .before .before .before .longest .given .1)) at ((c .before .before .before .before .before .before .longest-ref .ensures)))
+returns-3 c = λ segments from indexed. conflict _ _ _ _ _ (c .before .before .before .before .before .before .before .before .before .before .before .before .args .found .now) _ segments _ (rw ((c .before .before .before .before .longest .given .1)) at ((c .before .before .before .before .before .before .longest-ref .ensures)))
     (rw (c .before .before .reference-allele .ensures) at ((c .before .refs-agree .ensures))) (c .if1 .left)
 
 pub determine-reference-allele-spec : {M : Type 1} → statement M

@@ -1,74 +1,38 @@
--- The loop's invariant: the segments from here on give the letter as all do.
-use Prim.Native.Nat.{_-_}
+-- The segments with rows come first.
 use borrow.Author.Needs.{needs}
-use lib.ListN.{length}
-use native.Mathlib.Omega.{arith}
-use Rattle.clip_and_reference.specs.Groups.{SegmentRead}
-use Rattle.merged_ref.proofs.Letters.{LetterLeft, letter-end, letter-faulty, letter-found, letter-passed, letter-start}
+use Rattle.merged_ref.proofs.Letters.{behind-rows, in-rows}
 use Rattle.merged_ref.proofs.find_letter.Statement.{statement}
 use Rattle.merged_ref.proofs.find_letter.Tie as tie
 
-abbrev Inv-loop : tie.InvT-loop
-Inv-loop reference contig position at₀ at = LetterLeft reference contig (position .0) at
+letter-in-rows-requires : tie.Need-letter-in-rows-requires
+letter-in-rows-requires c κs = search needs
 
-abbrev μ-loop : tie.MeasureT-loop
-μ-loop reference contig position at₀ at = length reference - at
-
-loop-holds : tie.Need-loop-holds Inv-loop μ-loop
-loop-holds c = letter-start _ _ _
-
-segment-at-requires : tie.Need-segment-at-requires Inv-loop μ-loop
-segment-at-requires c κs = search needs
-
-enum-known-group : tie.Need-enum-known-group Inv-loop μ-loop
-enum-known-group c = search needs
-
-enum-told : tie.Need-enum-told Inv-loop μ-loop
-enum-told c = search needs
-
-returns : tie.Need-returns Inv-loop μ-loop
-unfolding SegmentRead
-returns c = letter-faulty _ _ _ (c .before .before .before .before .loop .inv) (c .before .before .before .loop-test .taken) (rw ((c .enum-told .given .1)) at ((c .before .before .segment-at .ensures)))
-
-letter-in-requires : tie.Need-letter-in-requires Inv-loop μ-loop
-letter-in-requires c κs = search needs
-
-enum-known-letter : tie.Need-enum-known-letter Inv-loop μ-loop
+enum-known-letter : tie.Need-enum-known-letter
 enum-known-letter c = search needs
 
-returns-2 : tie.Need-returns-2 Inv-loop μ-loop
-unfolding SegmentRead
-returns-2 c = let g = rw ((c .before .before .before .before .before .group .given .1)) at ((c .before .before .before .before .before .before .before .segment-at .ensures)) in letter-found _ _ _ (c .before .before .before .before .before .before .before .before .before .loop .inv) _ _ (g .0) _ (rw ((c .before .letter .given .1)) at ((c .before .before .before .letter-in .ensures)))
+returns : tie.Need-returns
+returns c = λ segments from indexed. in-rows _ _ _ _ indexed segments from _ (rw ((c .before .letter .given .1)) at ((c .before .before .before .letter-in-rows .ensures)))
 
-enum-told-2 : tie.Need-enum-told-2 Inv-loop μ-loop
-enum-told-2 c = search needs
+enum-told : tie.Need-enum-told
+enum-told c = search needs
 
-loop-less : tie.Need-loop-less Inv-loop μ-loop
-unfolding SegmentRead
-loop-less c = let g = rw ((c .before .before .before .before .group .given .1)) at ((c .before .before .before .before .before .before .segment-at .ensures)) in omega (arith, g .0 .forward, g .0 .within)
+segments-next-requires : tie.Need-segments-next-requires
+segments-next-requires c κs = search needs
 
-loop-again : tie.Need-loop-again Inv-loop μ-loop
-unfolding SegmentRead
-loop-again c = let g = rw ((c .before .before .before .before .group .given .1)) at ((c .before .before .before .before .before .before .segment-at .ensures)) in letter-passed _ _ _ (c .before .before .before .before .before .before .before .before .loop .inv) _ _ (g .0) (rw ((c .enum-told2 .given .1)) at ((c .before .before .letter-in .ensures)))
+letter-from-requires : tie.Need-letter-from-requires
+letter-from-requires c κs = search needs
 
-returns-3 : tie.Need-returns-3 Inv-loop μ-loop
-returns-3 c = letter-end _ _ _ (c .before .loop .inv) (c .loop-test .left)
+returns-2 : tie.Need-returns-2
+returns-2 c = λ segments from indexed. behind-rows _ _ _ _ indexed segments from (rw ((c .before .before .enum-told .given .1)) at ((c .before .before .before .before .letter-in-rows .ensures))) _ (rw ((c .before .segments-next .ensures)) at ((c .letter-from .ensures)))
 
 pub find-letter-spec : {M : Type 1} → statement M
 find-letter-spec =
     tie.close
     (tie.spec
-    Inv-loop
-    μ-loop
-    loop-holds
-    segment-at-requires
-    enum-known-group
-    enum-told
-    returns
-    letter-in-requires
+    letter-in-rows-requires
     enum-known-letter
-    returns-2
-    enum-told-2
-    loop-less
-    loop-again
-    returns-3)
+    returns
+    enum-told
+    segments-next-requires
+    letter-from-requires
+    returns-2)

@@ -28,8 +28,8 @@ part-requires-2 c κs = search needs
 returns-3 : tie.Need-returns-3
 returns-3 c = let a = (c .before .before .before .before .before .before .before .before .before .args) in rw (← (c .before .before .before .get .ensures)) (too-late (a .reference .now) (a .contig .now) (c .before .before .before .get .result) (a .contig-at) (a .contig-end) (a .first) (a .bases-at) (a .bases-end) (sym (rw (c .before .before .before .before .before .before .part .ensures) at ((c .before .before .before .before .before .same-bytes .ensures))) ∙ not-false _ (c .before .before .before .before .if1 .left)) (c .before .before .if2 .left) (rw (c .before .part2 .ensures) at ((c .if3 .taken))))
 
-add-t18 : tie.Need-add-t18
-add-t18 c = let a = (c .before .before .before .before .before .before .before .before .before .args) in omega (arith, part-room (a .reference .now) (a .bases-at) (a .bases-end) _ (rw (c .before .part2 .ensures) at ((c .if3 .left))) .0)
+add-t17 : tie.Need-add-t17
+add-t17 c = let a = (c .before .before .before .before .before .before .before .before .before .args) in omega (arith, part-room (a .reference .now) (a .bases-at) (a .bases-end) _ (rw (c .before .part2 .ensures) at ((c .if3 .left))) .0)
 
 returns-4 : tie.Need-returns-4
 returns-4 c = let a = (c .before .before .before .before .before .before .before .before .before .args) in rw (← (c .before .before .before .get .ensures)) (at-index (a .reference .now) (a .contig .now) (c .before .before .before .get .result) (a .contig-at) (a .contig-end) (a .first) (a .bases-at) (a .bases-end) (sym (rw (c .before .before .before .before .before .before .part .ensures) at ((c .before .before .before .before .before .same-bytes .ensures))) ∙ not-false _ (c .before .before .before .before .if1 .left)) (c .before .before .if2 .left) (rw (c .before .part2 .ensures) at ((c .if3 .left))))
@@ -45,5 +45,5 @@ letter-in-spec =
     returns-2
     part-requires-2
     returns-3
-    add-t18
+    add-t17
     returns-4)

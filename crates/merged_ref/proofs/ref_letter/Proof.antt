@@ -1,4 +1,4 @@
--- By whether a reference is lent, and by what is found in it.
+-- By whether a reference is there, and by what is found in it.
 use borrow.Author.Needs.{needs}
 use borrow.Author.Tests.{not-false, not-true}
 use Rattle.merged_ref.proofs.Refs.{letter-lacking, letter-there, not-referenced}
@@ -9,7 +9,7 @@ first-site-requires : tie.Need-first-site-requires
 first-site-requires c κs = search needs
 
 returns : tie.Need-returns
-returns c = λ s segments from. not-referenced s _ _ _ _ (c .before .before .before .before .before .before .args .found .now) _ segments (not-true (c .before .before .before .before .before .before .args .referenced) (c .before .if1 .taken)) _ ((c .first-site .ensures) s)
+returns c = λ s segments from indexed. not-referenced s _ _ _ _ ((c .before .before .before .before .before .before .args .found .now)) _ segments (not-true ((c .before .before .before .before .before .before .args .referenced)) ((c .before .if1 .taken))) _ (((c .first-site .ensures)) s)
 
 find-letter-requires : tie.Need-find-letter-requires
 find-letter-requires c κs = search needs
@@ -21,12 +21,12 @@ enum-told : tie.Need-enum-told
 enum-told c = search needs
 
 returns-2 : tie.Need-returns-2
-returns-2 c = λ s segments from. let there = not-false (c .before .before .before .before .before .before .before .before .before .args .referenced) (c .before .before .before .before .if1 .left) in
-    letter-there s _ _ _ _ (c .before .before .before .before .before .before .before .before .before .args .found .now) _ segments there _ (rw ((c .before .letter .given .1)) at ((c .before .before .before .find-letter .ensures) segments (from there)))
+returns-2 c = λ s segments from indexed. let there = not-false ((c .before .before .before .before .before .before .before .before .before .args .referenced)) ((c .before .before .before .before .if1 .left)) in
+    letter-there s _ _ _ _ ((c .before .before .before .before .before .before .before .before .before .args .found .now)) _ segments there _ (rw ((c .before .letter .given .1)) at (((c .before .before .before .find-letter .ensures)) segments (from there) (indexed there)))
 
 returns-3 : tie.Need-returns-3
-returns-3 c = λ s segments from. let there = not-false (c .before .before .before .before .before .before .before .before .args .referenced) (c .before .before .before .if1 .left) in
-    letter-lacking s _ _ _ _ (c .before .before .before .before .before .before .before .before .args .found .now) _ segments there (rw ((c .enum-told .given .1)) at ((c .before .before .find-letter .ensures) segments (from there)))
+returns-3 c = λ s segments from indexed. let there = not-false ((c .before .before .before .before .before .before .before .before .args .referenced)) ((c .before .before .before .if1 .left)) in
+    letter-lacking s _ _ _ _ ((c .before .before .before .before .before .before .before .before .args .found .now)) _ segments there (rw ((c .enum-told .given .1)) at (((c .before .before .find-letter .ensures)) segments (from there) (indexed there)))
 
 pub ref-letter-spec : {M : Type 1} → statement M
 ref-letter-spec =

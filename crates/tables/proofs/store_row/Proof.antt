@@ -8,8 +8,8 @@ use mathlib.Core.Path.{_∙_, _≡_, ap, refl}
 use native.Mathlib.Nat.{add-zero}
 use native.Mathlib.Numerals.{add-one}
 use native.Mathlib.Omega.{arith}
-use Rattle.cohort.proofs.store_row.Statement.{statement}
-use Rattle.cohort.proofs.store_row.Tie as tie
+use Rattle.tables.proofs.store_row.Statement.{statement}
+use Rattle.tables.proofs.store_row.Tie as tie
 
 record Inv (rows₀ row : List ℕ) (first : ℕ) (rows : List ℕ) (k : ℕ) : Type 0 where
   long : length rows ≡ length rows₀

@@ -1,0 +1,98 @@
+// The first 1,024 segments of reference.kv and the first 1,024 spans of clip.kv as rows of the table, read once for each call.
+ghost use Prim.Native.Nat.{_≤_};
+ghost use lib.ListN.{length};
+ghost use Rattle.tables.specs.Tables.{tableLength};
+ghost use Rattle.indexed_groups.specs.Indexed.{SegmentsIndexed, SegmentsOnly, SegmentsStored, SpansIndexed, SpansOnly, SpansStored};
+use clip_and_reference::SegmentAt;
+use clip_and_reference::SpanAt;
+
+// How many groups have rows, and where the others begin in the text.
+pub struct Stored {
+    count: usize,
+    next: usize,
+}
+
+// ---- reference.kv
+
+// Stores the rows of the first segments, 1,024 at most.
+fn store_segments(reference: &[u8], rows: &mut [usize]) -> Stored
+    requires { ⌜ tableLength ≤ length (now rows) ⌝ }
+    ensures { λ r. ⌜ SegmentsStored (now (reference .entry)) (now (rows .entry)) (now (rows .exit)) (r .count) (r .next) ⌝ }
+{
+    let mut at = 0;
+    let mut count = 0;
+    while count < 1024 {
+        let group = clip_and_reference::segment_at(reference, at);
+        let SegmentAt::Segment {
+            contig_at,
+            contig_end,
+            first,
+            bases_at,
+            bases_end,
+            next,
+        } = group
+        else {
+            return Stored { count, next: at };
+        };
+        let row = [contig_at, contig_end, first as usize, bases_at, bases_end];
+        tables::store_row(rows, 69632 + count * 5, &row);
+        count += 1;
+        at = next;
+    }
+    Stored { count, next: at }
+}
+
+// Gives the first 1,024 segments of the reference their rows, in a table that has room for all rows; any other table stays as it was.
+pub fn index_segments(reference: &[u8], rows: &mut [usize])
+    ensures others { λ _. ⌜ SegmentsOnly (now (rows .entry)) (now (rows .exit)) ⌝ }
+    ensures indexed { λ _. ⌜ (tableLength ≤ length (now (rows .entry)) → SegmentsIndexed (now (reference .entry)) (now (rows .exit))) ⌝ }
+{
+    if rows.len() < 78852 {
+        return;
+    }
+    let stored = store_segments(reference, rows);
+    rows[78848] = stored.count;
+    rows[78850] = stored.next;
+}
+
+// ---- clip.kv
+
+// Stores the rows of the first spans, 1,024 at most.
+fn store_spans(clip: &[u8], rows: &mut [usize]) -> Stored
+    requires { ⌜ tableLength ≤ length (now rows) ⌝ }
+    ensures { λ r. ⌜ SpansStored (now (clip .entry)) (now (rows .entry)) (now (rows .exit)) (r .count) (r .next) ⌝ }
+{
+    let mut at = 0;
+    let mut count = 0;
+    while count < 1024 {
+        let group = clip_and_reference::span_at(clip, at);
+        let SpanAt::Span {
+            contig_at,
+            contig_end,
+            start,
+            end,
+            next,
+        } = group
+        else {
+            return Stored { count, next: at };
+        };
+        let row = [contig_at, contig_end, start as usize, end as usize];
+        tables::store_row(rows, 74752 + count * 4, &row);
+        count += 1;
+        at = next;
+    }
+    Stored { count, next: at }
+}
+
+// Gives the first 1,024 spans of the clip their rows, in a table that has room for all rows; any other table stays as it was.
+pub fn index_spans(clip: &[u8], rows: &mut [usize])
+    ensures others { λ _. ⌜ SpansOnly (now (rows .entry)) (now (rows .exit)) ⌝ }
+    ensures indexed { λ _. ⌜ (tableLength ≤ length (now (rows .entry)) → SpansIndexed (now (clip .entry)) (now (rows .exit))) ⌝ }
+{
+    if rows.len() < 78852 {
+        return;
+    }
+    let stored = store_spans(clip, rows);
+    rows[78849] = stored.count;
+    rows[78851] = stored.next;
+}
