@@ -2,8 +2,10 @@
 
 use crate::combine::{sort_of, Texts};
 use crate::ours::{Call, Library};
+use crate::list_rows;
 use crate::rows::refusing;
 use oracle::generate;
+use oracle::list::write_combined;
 use oracle::rng::{mix, Rng};
 
 /// Bytes that mean something in a text, so that a change often leaves it nearly right.
@@ -54,7 +56,7 @@ fn lines_changed(rng: &mut Rng, text: &mut Vec<u8>) {
 }
 
 /// The answer must be the row of rows 1 to 9 that refuses the texts, if one does, and else a list or 10 to 13.
-fn hold(library: &mut Library, cohort: &[u8], clip: Option<&[u8]>, reference: Option<&[u8]>) -> Result<usize, String> {
+pub fn hold(library: &mut Library, cohort: &[u8], clip: Option<&[u8]>, reference: Option<&[u8]>) -> Result<usize, String> {
     let row = refusing(cohort, clip, reference);
     let answer = library.combine_roomy(&Call { cohort, clip, reference, places: 2048, room: 0 });
     let right = match (row, &answer) {
@@ -104,6 +106,43 @@ pub fn check(seed: u64, count: u64) -> Result<String, String> {
             .map_err(|e| format!("seed {seed}, text {i}: {e}"))?;
         rows[row] += 1;
     }
-    let told: Vec<String> = rows.iter().enumerate().map(|(row, n)| format!("{row}: {n}")).collect();
-    Ok(format!("{count} texts with faults, and all of at most 2 bytes; rows (0: none of 1 to 9): {}\n", told.join(", ")))
+    Ok(format!("{count} texts with faults, and all of at most 2 bytes; rows (0: none of 1 to 9): {}\n", told(&rows)))
+}
+
+fn told(rows: &[u64]) -> String {
+    let each: Vec<String> = rows.iter().enumerate().map(|(row, n)| format!("{row}: {n}")).collect();
+    each.join(", ")
+}
+
+/// The answer must be the row of rows 1 to 8 that refuses the list, if one does, and else a called list.
+pub fn hold_list(library: &mut Library, list: &[u8]) -> Result<usize, String> {
+    let row = list_rows::refusing(list);
+    // a called list is no longer: only GQ may grow, by one byte, and its GT line is gone
+    let answer = library.call(list, 4096 + list.len());
+    match (row, &answer) {
+        (0, Ok(_)) => Ok(0),
+        (row, Err(other)) if row == *other => Ok(row),
+        _ => Err(format!("row {row} expected, {:?} answered for\n{}", answer.map(|l| l.len()), String::from_utf8_lossy(list))),
+    }
+}
+
+pub fn check_lists(seed: u64, count: u64) -> Result<String, String> {
+    let mut library = Library::new();
+    let mut rows = [0u64; 9];
+    for length in 0..3u32 {
+        for n in 0..256u32.pow(length) {
+            rows[hold_list(&mut library, &n.to_le_bytes()[..length as usize])?] += 1;
+        }
+    }
+    for i in 0..count {
+        let mut rng = Rng::new(mix(seed ^ mix(i)));
+        let text = write_combined(&generate::combined_list(rng.any())).into_bytes();
+        let list = match rng.below(12) {
+            0 => (0..rng.below(200)).map(|_| *rng.pick(TELLING)).collect(),
+            1 => text,
+            _ => changed(&mut rng, &text),
+        };
+        rows[hold_list(&mut library, &list).map_err(|e| format!("seed {seed}, list {i}: {e}"))?] += 1;
+    }
+    Ok(format!("{count} lists with faults, and all of at most 2 bytes; rows (0: none of 1 to 8): {}\n", told(&rows)))
 }

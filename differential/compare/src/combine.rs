@@ -43,28 +43,39 @@ pub fn sort_of(i: u64) -> &'static generate::Profile {
     profile
 }
 
-/// Each cohort is called with just enough of output and scratch, with too little of one, and with more than enough.
+/// The library's lists of a call against the Rust's: with just enough of output and scratch and a little more, with too little of one,
+/// and with none. Gives back the records and the bytes of the list.
+pub fn hold(library: &mut Library, lent: &Lent, more: usize) -> Result<(usize, usize), String> {
+    let texts = Texts::of(lent);
+    let (list, expected) = record::combined(lent)?;
+    let (n, places) = (expected.len(), breakpoints(lent));
+    if library.combine(&texts.call(places + more, n + more)) != Ok(expected.into_bytes()) {
+        return Err("another list".to_string());
+    }
+    for room in [0, n - 1] {
+        if library.combine(&texts.call(places, room)) != Err(14) {
+            return Err(format!("not 14 with {room} bytes for {n}"));
+        }
+    }
+    if places > 0 {
+        for fewer in [0, places - 1] {
+            if library.combine(&texts.call(fewer, n)) != Err(10) {
+                return Err(format!("not 10 with {fewer} places for {places}"));
+            }
+        }
+    }
+    Ok((list.records.len(), n))
+}
+
 pub fn compare(seed: u64, count: u64) -> Result<String, String> {
     let mut library = Library::new();
     let (mut records, mut bytes) = (0, 0);
     for i in 0..count {
         let profile = sort_of(i);
         let lent = generate::lent(profile, rng::mix(seed ^ rng::mix(i)));
-        let texts = Texts::of(&lent);
-        let (list, expected) = record::combined(&lent)?;
-        let places = breakpoints(&lent);
-        let (n, more) = (expected.len(), (i % 3) as usize * 7);
-        let told = |what: &str| format!("seed {seed}, cohort {i}, sort {}: {what}", profile.name);
-        if library.combine(&texts.call(places + more, n + more)) != Ok(expected.into_bytes()) {
-            return Err(told("another list"));
-        }
-        if library.combine(&texts.call(places, n - 1)) != Err(14) {
-            return Err(told("not 14 with one byte too few"));
-        }
-        if places > 0 && library.combine(&texts.call(places - 1, n)) != Err(10) {
-            return Err(told("not 10 with one place too few"));
-        }
-        records += list.records.len();
+        let (r, n) = hold(&mut library, &lent, (i % 3) as usize * 7)
+            .map_err(|what| format!("seed {seed}, cohort {i}, sort {}: {what}", profile.name))?;
+        records += r;
         bytes += n;
     }
     Ok(format!("{count} cohorts, {records} records, {bytes} bytes of lists: no difference\n"))

@@ -1,14 +1,6 @@
-//! The compiled library, held against the Rust and against document 01, on generated inputs.
+//! The commands: generated inputs from a seed, so many of them, and the borders of the domain.
 
-mod bad;
-mod call;
-mod combine;
-mod demand3;
-mod groups;
-mod guarded;
-mod ours;
-mod rows;
-
+use compare::{bad, borders, call, combine, demand3, groups};
 use std::process::ExitCode;
 
 const USAGE: &str = "\
@@ -17,15 +9,19 @@ const USAGE: &str = "\
   compare KIND SEED COUNT       COUNT groups; KIND is trim, likelihoods, gq, subset or unused_alts
   compare demand3 SEED COUNT    COUNT pairs of cohorts: what the first list says stands in the second
   compare bad SEED COUNT        COUNT texts with faults: rows 1 to 9, buffers, nothing touched outside
+  compare bad_list SEED COUNT   COUNT combined lists with faults: rows 1 to 8
+  compare borders               the ends of the domain: largest counts and lengths, and one more
 ";
 
 fn run(words: &[&str]) -> Result<String, String> {
     let number = |word: &str| word.parse::<u64>().map_err(|_| format!("`{word}` is not a number"));
     match *words {
+        ["borders"] => borders::check(),
         ["combine", seed, count] => combine::compare(number(seed)?, number(count)?),
         ["call", seed, count] => call::compare(number(seed)?, number(count)?),
         ["demand3", seed, count] => demand3::check(number(seed)?, number(count)?),
         ["bad", seed, count] => bad::check(number(seed)?, number(count)?),
+        ["bad_list", seed, count] => bad::check_lists(number(seed)?, number(count)?),
         [kind, seed, count] => groups::compare(kind, number(seed)?, number(count)?),
         _ => Err(format!("usage:\n{USAGE}")),
     }

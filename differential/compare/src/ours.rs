@@ -3,7 +3,7 @@
 use crate::guarded::Guarded;
 use wintabol::Refused;
 
-const TEXT_ROOM: usize = 1 << 22;
+const TEXT_ROOM: usize = (1 << 24) + 4096;
 const LIST_ROOM: usize = 1 << 25;
 const SCRATCH_ROOM: usize = 1 << 20;
 
@@ -56,9 +56,19 @@ impl Library {
         answer.map(|n| out[..n].to_vec()).map_err(|Refused(row)| row)
     }
 
-    /// The same with an output that is made longer until it is long enough.
+    /// The called list of a combined list, or the row that refuses it; the output as above.
+    pub fn call(&mut self, list: &[u8], room: usize) -> Result<Vec<u8>, usize> {
+        self.at_end = !self.at_end;
+        let out = self.out.bytes(room, BEFORE, self.at_end);
+        let answer = wintabol::call(self.texts[0].text(list, self.at_end), out);
+        let written = *answer.as_ref().unwrap_or(&0);
+        assert!(out[written..].iter().all(|&b| b == BEFORE), "the output is changed behind the list");
+        answer.map(|n| out[..n].to_vec()).map_err(|Refused(row)| row)
+    }
+
+    /// `combine` with an output that is made longer until it is long enough.
     pub fn combine_roomy(&mut self, call: &Call) -> Result<Vec<u8>, usize> {
-        let mut room = 4096 + 8 * call.cohort.len();
+        let mut room = LIST_ROOM.min(4096 + 8 * call.cohort.len());
         loop {
             let answer = self.combine(&Call { room, ..*call });
             if answer != Err(14) || 8 * room > LIST_ROOM {

@@ -1,6 +1,6 @@
 //! Rows 1 to 9 of document 01's table once more, written from the document alone: which row refuses the texts of a call, if one does.
 
-const MOST_BYTES: usize = 16_777_216;
+pub const MOST_BYTES: usize = 16_777_216;
 const MOST_NUMBER: u64 = 2_147_483_647;
 
 /// The row, 1 to 9, that refuses the call; 0 if none does.
@@ -22,8 +22,11 @@ pub fn refusing(cohort: &[u8], clip: Option<&[u8]>, reference: Option<&[u8]>) ->
     }
 }
 
+/// Lines of a text, one after the other.
+pub type Group<'a> = [Option<&'a [u8]>];
+
 /// The lines of a text; one that no LF ends is None.
-fn lines(text: &[u8]) -> Vec<Option<&[u8]>> {
+pub fn lines(text: &[u8]) -> Vec<Option<&[u8]>> {
     let mut all: Vec<Option<&[u8]>> = text.split(|&b| b == b'\n').map(Some).collect();
     match all.pop() {
         Some(Some(rest)) if !rest.is_empty() => all.push(None),
@@ -36,13 +39,13 @@ fn groups(text: &[u8], size: usize) -> Vec<Vec<Option<&[u8]>>> {
     lines(text).chunks(size).map(<[_]>::to_vec).collect()
 }
 
-fn value<'a>(group: &[Option<&'a [u8]>], number: usize, key: &str) -> Option<&'a [u8]> {
+pub fn value<'a>(group: &Group<'a>, number: usize, key: &str) -> Option<&'a [u8]> {
     let line = (*group.get(number)?)?;
     let rest = line.strip_prefix(key.as_bytes())?;
     rest.strip_prefix(b"=")
 }
 
-fn number(value: &[u8]) -> Option<u64> {
+pub fn number(value: &[u8]) -> Option<u64> {
     let digits = !value.is_empty() && value.len() <= 10 && value.iter().all(u8::is_ascii_digit);
     if !digits || (value.len() > 1 && value[0] == b'0') {
         return None;
@@ -51,19 +54,19 @@ fn number(value: &[u8]) -> Option<u64> {
     (n <= MOST_NUMBER).then_some(n)
 }
 
-fn name(value: &[u8]) -> Option<&[u8]> {
+pub fn name(value: &[u8]) -> Option<&[u8]> {
     let right = |b: &u8| (33..=126).contains(b) && *b != b'=' && *b != b',';
     ((1..=32).contains(&value.len()) && value.iter().all(right)).then_some(value)
 }
 
-fn or_missing<T>(value: &[u8], read: impl Fn(&[u8]) -> Option<T>) -> Option<Option<T>> {
+pub fn or_missing<T>(value: &[u8], read: impl Fn(&[u8]) -> Option<T>) -> Option<Option<T>> {
     if value == b"." {
         return Some(None);
     }
     read(value).map(Some)
 }
 
-fn numbers(value: &[u8]) -> Option<Vec<u64>> {
+pub fn numbers(value: &[u8]) -> Option<Vec<u64>> {
     value.split(|&b| b == b',').map(number).collect()
 }
 
@@ -71,21 +74,36 @@ fn letters(value: &[u8], most: usize) -> bool {
     (1..=most).contains(&value.len()) && value.iter().all(|b| b"ACGTN".contains(b))
 }
 
-fn cohort_row(text: &[u8]) -> usize {
-    let all = lines(text);
-    let Some(count) = value(&all, 0, "samples").and_then(number) else { return 1 };
+/// Whether REF and the ALTs are spelled right and are few enough, none twice: row 5.
+pub fn spelled(reference: &[u8], alts: &[&[u8]], letters_most: usize, alleles_most: usize) -> bool {
+    let right = |a: &&[u8]| letters(a, letters_most) || **a == *b"*" || **a == *b"<NON_REF>";
+    let twice = (0..alts.len()).any(|i| alts[i] == reference || alts[..i].contains(&alts[i]));
+    letters(reference, letters_most) && alts.iter().all(right) && alts.len() < alleles_most && !twice
+}
+
+/// The names of the samples, or the row that refuses them.
+pub fn sample_names<'a>(all: &Group<'a>) -> Result<Vec<&'a [u8]>, usize> {
+    let count = value(all, 0, "samples").and_then(number).ok_or(1usize)?;
     if !(1..=64).contains(&count) {
-        return 2;
+        return Err(2);
     }
-    let count = count as usize;
     let mut names: Vec<&[u8]> = Vec::new();
-    for i in 0..count {
-        let Some(own) = value(&all, i + 1, "sample").and_then(name) else { return 1 };
+    for i in 0..count as usize {
+        let own = value(all, i + 1, "sample").and_then(name).ok_or(1usize)?;
         if names.contains(&own) {
-            return 3;
+            return Err(3);
         }
         names.push(own);
     }
+    Ok(names)
+}
+
+fn cohort_row(text: &[u8]) -> usize {
+    let all = lines(text);
+    let count = match sample_names(&all) {
+        Ok(names) => names.len(),
+        Err(row) => return row,
+    };
     for (before, group) in all[count + 1..].chunks(10).enumerate() {
         let row = site_row(group, count, before);
         if row != 0 {
@@ -95,7 +113,7 @@ fn cohort_row(text: &[u8]) -> usize {
     0
 }
 
-fn site_row(group: &[Option<&[u8]>], samples: usize, before: usize) -> usize {
+fn site_row(group: &Group, samples: usize, before: usize) -> usize {
     let read = || {
         Some((
             value(group, 0, "site").and_then(number)?,
@@ -121,9 +139,7 @@ fn site_row(group: &[Option<&[u8]>], samples: usize, before: usize) -> usize {
         return 4;
     }
     let alts: Vec<&[u8]> = alt.split(|&b| b == b',').collect();
-    let spelled = |a: &&[u8]| letters(a, 128) || **a == *b"*" || **a == *b"<NON_REF>";
-    let twice = (0..alts.len()).any(|i| alts[i] == reference || alts[..i].contains(&alts[i]));
-    if !letters(reference, 128) || !alts.iter().all(spelled) || alts.len() > 7 || twice {
+    if !spelled(reference, &alts, 128, 8) {
         return 5;
     }
     if !alts.contains(&&b"<NON_REF>"[..]) {
@@ -140,7 +156,7 @@ fn site_row(group: &[Option<&[u8]>], samples: usize, before: usize) -> usize {
     0
 }
 
-fn clip_group(group: &[Option<&[u8]>]) -> bool {
+fn clip_group(group: &Group) -> bool {
     let read = || {
         value(group, 0, "contig").and_then(name)?;
         Some((value(group, 1, "start").and_then(number)?, value(group, 2, "end").and_then(number)?))
@@ -148,7 +164,7 @@ fn clip_group(group: &[Option<&[u8]>]) -> bool {
     read().is_some_and(|(start, end)| 1 <= start && start <= end)
 }
 
-fn reference_group(group: &[Option<&[u8]>]) -> bool {
+fn reference_group(group: &Group) -> bool {
     let read = || {
         value(group, 0, "contig").and_then(name)?;
         Some((value(group, 1, "first").and_then(number)?, value(group, 2, "bases")?))
