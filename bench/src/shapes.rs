@@ -6,6 +6,21 @@ use oracle::rng::Rng;
 #[allow(dead_code)]
 pub const SHAPES: [&str; 5] = ["mixed", "dense", "blocks", "contigs", "overlaps"];
 
+/// Samples, and sites of all of them.
+#[allow(dead_code)]
+pub const SIZES: [(usize, usize); 10] = [
+    (2, 10),
+    (2, 64),
+    (4, 128),
+    (8, 256),
+    (8, 512),
+    (16, 1024),
+    (32, 1024),
+    (32, 2048),
+    (64, 2048),
+    (64, 4096),
+];
+
 pub fn cohort(shape: &str, samples: usize, sites: usize, seed: u64) -> Cohort {
     let mut rng = Rng::new(seed);
     let mut all = Vec::new();
@@ -33,7 +48,7 @@ pub fn cohort(shape: &str, samples: usize, sites: usize, seed: u64) -> Cohort {
 }
 
 /// The letter of the reference at a position.
-fn letter(position: u64) -> char {
+pub fn letter(position: u64) -> char {
     b"ACGT"[((position.wrapping_mul(0x9E37_79B9_7F4A_7C15)) >> 40) as usize % 4] as char
 }
 

@@ -13,7 +13,7 @@ fn main() {
     let number = |i: usize| words[i].parse::<usize>().expect("a number");
     let cohort = shapes::cohort(&words[2], number(3), number(4), 20261115);
     let (text, loaded) = (write_cohort(&cohort), loaded_gvcfs(&cohort));
-    let mut scratch = vec![0u64; 16384];
+    let mut scratch = vec![0u64; 8192];
     let mut out = vec![0u8; 1 << 24];
     for _ in 0..number(5) {
         if words[1] == "rust" {
