@@ -88,15 +88,15 @@ pub fn genotype_index_map_diploid(map: &[u8], place: usize) -> MappedAt
 }
 
 // The place of two alleles, in either order, in the sample's PL; `row` is that of REF and the second.
-fn place_in_row(a: AlleleIndex, b: AlleleIndex, row: usize) -> usize
-    requires { ⌜ row ≡ genotypeIndexAny 0 (b .0) ⌝ }
-    ensures { λ r. ⌜ r ≡ genotypeIndexAny (a .0) (b .0) ⌝ }
+fn place_in_row(first: AlleleIndex, second: AlleleIndex, row: usize) -> usize
+    requires { ⌜ row ≡ genotypeIndexAny 0 (second .0) ⌝ }
+    ensures { λ r. ⌜ r ≡ genotypeIndexAny (first .0) (second .0) ⌝ }
 {
-    let j = a.get();
-    if j <= b.get() {
-        row + j
+    let behind = first.get();
+    if behind <= second.get() {
+        row + behind
     } else {
-        diploid_pairs::place_of(a, b)
+        diploid_pairs::place_of(first, second)
     }
 }
 

@@ -12,7 +12,7 @@ get-requires-2 : tie.Need-get-requires-2
 get-requires-2 c κs = search needs
 
 add-result : tie.Need-add-result
-add-result c = omega (arith, row-bound (c .before .before .before .args .b .0) (omega arith))
+add-result c = omega (arith, row-bound (c .before .before .before .args .second .0) (omega arith))
 
 place-of-requires : tie.Need-place-of-requires
 place-of-requires c κs = search needs
@@ -20,7 +20,7 @@ place-of-requires c κs = search needs
 returns : tie.Need-returns
 returns c =
     let args = c .before .before .before .args in
-    rw (c .before .before .before .pre, c .before .before .get .ensures) (place-behind (args .a .0) (args .b .0) (omega arith))
+    rw (c .before .before .before .pre, c .before .before .get .ensures) (place-behind (args .first .0) (args .second .0) (omega arith))
 
 returns-2 : tie.Need-returns-2
 returns-2 c = search needs
