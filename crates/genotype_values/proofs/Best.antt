@@ -1,11 +1,11 @@
 -- The first place of the least PL, as a loop finds it, and the genotype there.
 -- Assumes nothing.
 use Prim.Native.Nat.{_+_, _<_, _≤_, min, suc, ℕ}
-use borrow.Author.Tests.{eq-eqb, le-leb, lt-leb, lt-ltb, ltb-false, ltb-true, ne-eqb}
-use lib.Dec.{eqb, leb, ltb}
+use borrow.Author.Tests.{eq-eqb, le-leb, lt-leb, lt-ltb, ne-eqb}
+use lib.Dec.{eqb, leb}
 use lib.ListN.{drop, drop-of-length-le, getD, getElem?, length}
 use lib.Seq.{drop-cons}
-use mathlib.Core.Bool.{Bool, cond, false, true}
+use mathlib.Core.Bool.{cond}
 use mathlib.Core.List.{List, List·Memᴰ·head, [], _∷_, foldr}
 use mathlib.Core.Option.{Option, Option·getD, bind, none, some}
 use mathlib.Core.Path.{_∙_, _≡_, ap, refl, sym}
@@ -99,21 +99,17 @@ unfolding leastPlace least
 place-start [] = unfold placeFrom indexWhere in refl
 place-start (x ∷ xs) = sym (head-best 0 x xs) ∙ omega arith
 
-pub place-next : (pl : List ℕ) (best i : ℕ) → i < length pl
-    → placeFrom (cond (ltb (getD pl i 0) (getD pl best 0)) i best)
-    (getD pl (cond (ltb (getD pl i 0) (getD pl best 0)) i best) 0) (i + 1) (drop (i + 1) pl)
-    ≡ placeFrom best (getD pl best 0) i (drop i pl)
-place-next pl best i h = rw (add-one, drop-cons pl i 0) (go (ltb (getD pl i 0) (getD pl best 0)) refl)
-  where
-    go : (b : Bool) → ltb (getD pl i 0) (getD pl best 0) ≡ b
-        → placeFrom (cond b i best) (getD pl (cond b i best) 0) (suc i) (drop (suc i) pl)
-        ≡ placeFrom best (getD pl best 0) i (getD pl i 0 ∷ drop (suc i) pl)
-    go true e = next-less best (getD pl best 0) i (getD pl i 0) (drop (suc i) pl) (ltb-true _ _ e)
-    go false e = next-other best (getD pl best 0) i (getD pl i 0) (drop (suc i) pl) (ltb-false _ _ e)
+-- the next number x of pl is less than the least so far, or it is not
+module _ (pl : List ℕ) (best v i : ℕ) {x : ℕ} (h : i < length pl) (e : x ≡ getD pl i 0) where
+  pub place-less : x < v → placeFrom i x (i + 1) (drop (i + 1) pl) ≡ placeFrom best v i (drop i pl)
+  place-less l = rw (add-one, drop-cons pl i 0, ← e) (next-less best v i x (drop (suc i) pl) l)
 
-pub place-end : (pl : List ℕ) (best i : ℕ) → length pl ≤ i → placeFrom best (getD pl best 0) i (drop i pl) ≡ best
+  pub place-other : v ≤ x → placeFrom best v (i + 1) (drop (i + 1) pl) ≡ placeFrom best v i (drop i pl)
+  place-other l = rw (add-one, drop-cons pl i 0, ← e) (next-other best v i x (drop (suc i) pl) l)
+
+pub place-end : (pl : List ℕ) (best v i : ℕ) → length pl ≤ i → placeFrom best v i (drop i pl) ≡ best
 unfolding placeFrom
-place-end pl best i h = rw (drop-of-length-le pl h) (rw (le-leb (getD pl best 0) (getD pl best 0) (omega arith)))
+place-end pl best v i h = rw (drop-of-length-le pl h) (rw (le-leb v v (omega arith)))
 
 -- the genotype
 

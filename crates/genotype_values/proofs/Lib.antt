@@ -1,5 +1,6 @@
 pub mod Storing
 pub mod Mapped
+pub mod Rows
 pub mod Filled
 pub mod Best
 pub mod Said

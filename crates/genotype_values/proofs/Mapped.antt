@@ -1,9 +1,8 @@
--- PL at a place of the record, through the table of the pairs of 16 alleles.
+-- PL and AD over the record's alleles, by its pairs: what they are and how many.
 -- Assumes nothing.
-use Prim.Native.Nat.{_*_, _+_, _/_, _<_, _≤_, ℕ}
-use lib.ListN.{getD, getElem?, length, length-map}
+use Prim.Native.Nat.{_*_, _+_, _/_, _≤_, ℕ}
+use lib.ListN.{getD, length, length-map}
 use mathlib.Core.List.{List, map}
-use mathlib.Core.Option.{some}
 use mathlib.Core.Path.{_∙_, _≡_, ap, refl, sym}
 use native.Mathlib.Nat.{mul-le-mul}
 use native.Mathlib.Numerals.{add-one}
@@ -11,8 +10,6 @@ use native.Mathlib.Omega.{arith}
 use Rattle.definitions.specs.Alleles.{genotypeCount}
 use Rattle.definitions.specs.Genotypes.{AllelePair, atMappedPairs, genotypePairs, remappedAd, remappedPl}
 use Rattle.laws.proofs.Genotypes.{genotype-pairs-length}
-use Rattle.laws.proofs.Members.{getD-some}
-use Rattle.diploid_pairs.proofs.Places.{same-pair}
 use Rattle.genotype_values.specs.Values.{mappedPlace}
 
 -- the record's PL at a pair
@@ -41,8 +38,3 @@ count-is n = rw add-one
 -- of at most 16 alleles
 pub product-bound : (n : ℕ) → n ≤ 16 → n * (n + 1) ≤ 16 * 17
 product-bound n h = mul-le-mul {n₂ = 16} {m₂ = 17} h (omega arith)
-
--- the pair at a place of 16 alleles is that of n alleles
-pub pair-there-too : (n place : ℕ) {p : AllelePair} → n ≤ 16 → place < genotypeCount n → getElem? (genotypePairs 16) place ≡ some p
-    → getD (genotypePairs n) place noPair ≡ p
-pair-there-too n place l h e = getD-some (genotypePairs n) place noPair (same-pair n 16 place l h ∙ e)

@@ -1,23 +1,20 @@
 // A sample's AD, PL and GT over a record's alleles, and the lines that say them.
 // A map gives, for each allele of the record, the number of the sample's allele.
-ghost use mathlib.Core.Bool.{cond};
 ghost use mathlib.Core.Option.{Option·map};
 ghost use mathlib.Core.Path.{_≡_};
-ghost use Prim.Native.Nat.{_+_, _<_, _≤_, _^_};
-ghost use lib.Dec.{ltb};
+ghost use Prim.Native.Nat.{_+_, _-_, _<_, _≤_, _^_, min};
 ghost use lib.ListN.{getD, getElem?, length, set};
 ghost use lib.Seq.{sets};
-ghost use Rattle.definitions.specs.Genotypes.{genotypePairs, missingData, remappedAd, remappedPl};
+ghost use Rattle.definitions.specs.Genotypes.{genotypeIndexAny, genotypePairs, missingData, remappedAd, remappedPl};
 ghost use Rattle.definitions.specs.Printed.{printedSampleData, writtenGenotype};
 ghost use Rattle.definitions.specs.Lines.{line};
 ghost use Rattle.definitions.specs.Numbers.{writtenOrMissing};
 ghost use Rattle.diploid_pairs.specs.Pairs.{pairOf};
 ghost use Rattle.kv_write.specs.Laid.{Laid};
 ghost use Rattle.kv_write.specs.Optional.{optionOf};
-ghost use Rattle.genotype_values.specs.Remapped.{Filled, PlRemapped, ofPresent, placeOf};
+ghost use Rattle.genotype_values.specs.Remapped.{Filled, PlRemapped, ofPresent, placeOf, plRow};
 ghost use Rattle.genotype_values.specs.Values.{Printable, genotypeLine, leastPair, leastPlace, mappedPlace, present, saidOf, valuesOf};
 use bio_ids::AlleleIndex;
-use diploid_pairs::AllelePair;
 use diploid_pairs::PairAt;
 use kv_write::OptionalNumber;
 
@@ -90,14 +87,43 @@ pub fn genotype_index_map_diploid(map: &[u8], place: usize) -> MappedAt
     }
 }
 
-// The record's PL of a pair of its alleles.
-fn mapped_pl(map: &[u8], pl: &[u32], pair: AllelePair) -> u32
-    ensures { λ r. ⌜ r ≡ getD (now (pl .entry))
-        (mappedPlace (now (map .entry)) (record { low = pair .0; high = pair .1 }))
-        0 ⌝ }
+// The place of two alleles, in either order, in the sample's PL; `row` is that of REF and the second.
+fn place_in_row(first: AlleleIndex, second: AlleleIndex, row: usize) -> usize
+    requires { ⌜ row ≡ genotypeIndexAny 0 (second .0) ⌝ }
+    ensures { λ r. ⌜ r ≡ genotypeIndexAny (first .0) (second .0) ⌝ }
 {
-    let old = mapped_place(map, AlleleIndex::new(pair.0), AlleleIndex::new(pair.1));
-    value_at(pl, old)
+    let behind = first.get();
+    if behind <= second.get() {
+        row + behind
+    } else {
+        diploid_pairs::place_of(first, second)
+    }
+}
+
+// How many of `count` values have room from a place on.
+fn room_for(count: usize, at: usize, len: usize) -> usize
+    ensures { λ r. ⌜ r ≡ min count (len - at) ⌝ }
+{
+    if len <= at {
+        return 0;
+    }
+    let room = len - at;
+    if count <= room { count } else { room }
+}
+
+// Lays the PLs of the record's pairs whose higher allele is `high`, by the lower, as far as they fit.
+fn remap_pl_row(map: &[u8], pl: &[u32], high: usize, out: &mut [u32], at: usize)
+    requires { ⌜ high < length (now map) ⌝ }
+    ensures { λ _. ⌜ now (out .exit) ≡ sets (now (out .entry)) at (plRow (now (map .entry)) (now (pl .entry)) high) ⌝ }
+{
+    let b = AlleleIndex::new(map[high]);
+    let row = diploid_pairs::place_of(AlleleIndex::reference(), b);
+    let room = room_for(high + 1, at, out.len());
+    for low in 0..room {
+        let a = AlleleIndex::new(map[low]);
+        let x = value_at(pl, place_in_row(a, b, row));
+        out[at + low] = x;
+    }
 }
 
 // PL over the record's alleles, as far as it fits, and how many values it has. More than 16 alleles are refused.
@@ -108,23 +134,12 @@ pub fn remap_pl(map: &[u8], pl: &[u32], out: &mut [u32]) -> usize
     if 16 < alleles {
         return 0;
     }
-    let count = alleles * (alleles + 1) / 2;
-    let pairs = diploid_pairs::table();
-    for place in 0..count {
-        let pair = pairs[place];
-        let x = mapped_pl(map, pl, pair);
-        put_value(out, place, x);
+    let mut at = 0;
+    for high in 0..alleles {
+        remap_pl_row(map, pl, high, out, at);
+        at += high + 1;
     }
-    count
-}
-
-// The second place if its PL is less than that at the first, else the first.
-fn lesser_place(pl: &[u32], first: usize, second: usize) -> usize
-    ensures { λ r. ⌜ r ≡ cond (ltb (getD (now (pl .entry)) second 0) (getD (now (pl .entry)) first 0)) second first ⌝ }
-{
-    let a = value_at(pl, first);
-    let b = value_at(pl, second);
-    if b < a { second } else { first }
+    at
 }
 
 // The first place of the least PL; 0 if there is none.
@@ -132,8 +147,13 @@ fn least_place(pl: &[u32]) -> usize
     ensures { λ r. ⌜ r ≡ leastPlace (now (pl .entry)) ⌝ }
 {
     let mut best = 0;
+    let mut least = value_at(pl, 0);
     for i in 1..pl.len() {
-        best = lesser_place(pl, best, i);
+        let x = pl[i];
+        if x < least {
+            best = i;
+            least = x;
+        }
     }
     best
 }
