@@ -2,9 +2,11 @@
 // fit, and returns the offset behind them: a call on `&mut out[..0]` only measures.
 // Each requires that this offset fits a usize, since a function that took every offset would have to return a wrong one
 // where the sum overflows.
+ghost use mathlib.Core.Bool.{cond};
 ghost use mathlib.Core.List.{[], _∷_};
 ghost use mathlib.Core.Path.{_≡_};
-ghost use Prim.Native.Nat.{_+_, _<_, _^_};
+ghost use Prim.Native.Nat.{_+_, _*_, _<_, _≤_, _^_};
+ghost use lib.Dec.{leb};
 ghost use lib.ListN.{length};
 ghost use Rattle.definitions.specs.Bytes.{text};
 ghost use Rattle.definitions.specs.Lists.{onlyIf};
@@ -54,38 +56,29 @@ pub fn put_bytes(out: &mut [u8], at: usize, bytes: &[u8]) -> usize
     end
 }
 
+// 1 if a number is at least another, else 0. A sum of such needs no branch.
+fn at_least(n: u32, from: u32) -> usize
+    ensures { λ r. ⌜ (r ≤ 1) × (r ≡ cond (leb from n) 1 0) ⌝ }
+{
+    if from <= n {
+        return 1;
+    }
+    0
+}
+
 // How many decimal digits a number has.
 fn digits(n: u32) -> usize
     ensures { λ r. ⌜ r ≡ length (decimal n) ⌝ }
 {
-    if n < 10 {
-        return 1;
-    }
-    if n < 100 {
-        return 2;
-    }
-    if n < 1000 {
-        return 3;
-    }
     if n < 10000 {
-        return 4;
+        return 1 + at_least(n, 10) + at_least(n, 100) + at_least(n, 1000);
     }
-    if n < 100000 {
-        return 5;
-    }
-    if n < 1000000 {
-        return 6;
-    }
-    if n < 10000000 {
-        return 7;
-    }
-    if n < 100000000 {
-        return 8;
-    }
-    if n < 1000000000 {
-        return 9;
-    }
-    10
+    let six = at_least(n, 100000);
+    let seven = at_least(n, 1000000);
+    let eight = at_least(n, 10000000);
+    let nine = at_least(n, 100000000);
+    let ten = at_least(n, 1000000000);
+    5 + six + seven + eight + nine + ten
 }
 
 // Stores a number's decimal digits, the last first, over as many bytes.
@@ -103,23 +96,100 @@ fn store_digits(to: &mut [u8], n: u32)
     to[0] = 48 + left as u8;
 }
 
+// Stores a number of at most four digits where there is room for four. What would be a leading zero is stored where the
+// next digit goes, and that one is stored over it: no branch depends on the number.
+fn store_short(out: &mut [u8], at: usize, n: u32) -> usize
+    requires { ⌜ (n < 10000) × (at + 4 ≤ length (now out)) ⌝ }
+    ensures { λ r. ⌜ Laid (now (out .entry)) at (decimal n) (now (out .exit)) r ⌝ }
+{
+    let thousands = (n / 1000) as u8;
+    let hundreds = (n / 100 % 10) as u8;
+    let tens = (n / 10 % 10) as u8;
+    let ones = (n % 10) as u8;
+    let second = at + at_least(n, 1000);
+    let third = second + at_least(n, 100);
+    let fourth = third + at_least(n, 10);
+    out[at] = 48 + thousands;
+    out[second] = 48 + hundreds;
+    out[third] = 48 + tens;
+    out[fourth] = 48 + ones;
+    fourth + 1
+}
+
+// Stores a number where there is room for ten digits.
+fn store_number(out: &mut [u8], at: usize, n: u32) -> usize
+    requires { ⌜ at + 10 ≤ length (now out) ⌝ }
+    ensures { λ r. ⌜ Laid (now (out .entry)) at (decimal n) (now (out .exit)) r ⌝ }
+{
+    if n < 10000 {
+        return store_short(out, at, n);
+    }
+    let count = digits(n);
+    let end = at + count;
+    store_digits(&mut out[at..end], n);
+    end
+}
+
 // Lays a number in decimal digits.
 pub fn put_number(out: &mut [u8], at: usize, n: u32) -> usize
     requires { ⌜ at + length (decimal n) < 2 ^ 64 ⌝ }
     ensures { λ r. ⌜ Laid (now (out .entry)) at (decimal n) (now (out .exit)) r ⌝ }
 {
-    let count = digits(n);
-    let end = at + count;
     if out.len() <= at {
-        return end;
+        let count = digits(n);
+        return at + count;
     }
-    if end <= out.len() {
-        store_digits(&mut out[at..end], n);
-        return end;
+    if 10 <= out.len() - at {
+        return store_number(out, at, n);
     }
     let mut whole = [0u8; 10];
-    store_digits(&mut whole[..count], n);
+    let count = store_number(&mut whole, 0, n);
     put_bytes(out, at, &whole[..count])
+}
+
+// The offset behind numbers with commas between, of which there is one at least.
+fn numbers_end(at: usize, numbers: &[u32]) -> usize
+    requires { ⌜ (0 < length (now numbers)) × (at + length (decimals (now numbers)) < 2 ^ 64) ⌝ }
+    ensures { λ r. ⌜ r ≡ at + length (decimals (now (numbers .entry))) ⌝ }
+{
+    let first = numbers[0];
+    let mut next = at + digits(first);
+    for i in 1..numbers.len() {
+        let n = numbers[i];
+        next = next + 1 + digits(n);
+    }
+    next
+}
+
+// Stores numbers with commas between where there is room for eleven bytes for each.
+fn store_numbers(out: &mut [u8], at: usize, numbers: &[u32]) -> usize
+    requires { ⌜ (0 < length (now numbers)) × (at + length (decimals (now numbers)) < 2 ^ 64)
+        × (at + 11 * length (now numbers) ≤ length (now out)) ⌝ }
+    ensures { λ r. ⌜ Laid (now (out .entry)) at (decimals (now (numbers .entry))) (now (out .exit)) r ⌝ }
+{
+    let first = numbers[0];
+    let mut next = store_number(out, at, first);
+    for i in 1..numbers.len() {
+        out[next] = b',';
+        let n = numbers[i];
+        next = store_number(out, next + 1, n);
+    }
+    next
+}
+
+// Lays numbers with commas between, of which there is one at least, wherever the buffer ends.
+fn put_each_number(out: &mut [u8], at: usize, numbers: &[u32]) -> usize
+    requires { ⌜ (0 < length (now numbers)) × (at + length (decimals (now numbers)) < 2 ^ 64) ⌝ }
+    ensures { λ r. ⌜ Laid (now (out .entry)) at (decimals (now (numbers .entry))) (now (out .exit)) r ⌝ }
+{
+    let first = numbers[0];
+    let mut next = put_number(out, at, first);
+    for i in 1..numbers.len() {
+        next = put_byte(out, next, b',');
+        let n = numbers[i];
+        next = put_number(out, next, n);
+    }
+    next
 }
 
 // Lays numbers with commas between; no numbers are no bytes.
@@ -130,14 +200,13 @@ pub fn put_numbers(out: &mut [u8], at: usize, numbers: &[u32]) -> usize
     if numbers.len() == 0 {
         return at;
     }
-    let first = numbers[0];
-    let mut next = put_number(out, at, first);
-    for i in 1..numbers.len() {
-        next = put_byte(out, next, b',');
-        let n = numbers[i];
-        next = put_number(out, next, n);
+    if out.len() <= at {
+        return numbers_end(at, numbers);
     }
-    next
+    if numbers.len() <= (out.len() - at) / 11 {
+        return store_numbers(out, at, numbers);
+    }
+    put_each_number(out, at, numbers)
 }
 
 // Lays a line: a key with its `=`, a value, LF.

@@ -1,50 +1,83 @@
--- By the power of ten that the number is below.
+-- By how many powers of ten the number reaches.
 use native.Mathlib.Omega.{arith}
-use Rattle.kv_write.proofs.StoredDigits.{length-between, length-short}
+use Rattle.kv_write.proofs.StoredDigits.{length-few, length-many}
+use borrow.Author.Needs.{needs}
 use Rattle.kv_write.proofs.digits.Statement.{statement}
 use Rattle.kv_write.proofs.digits.Tie as tie
 
+at-least-requires : tie.Need-at-least-requires
+at-least-requires c κs = search needs
+
+add-result : tie.Need-add-result
+add-result c = search needs
+
+at-least-requires-2 : tie.Need-at-least-requires-2
+at-least-requires-2 c κs = search needs
+
+add-result-2 : tie.Need-add-result-2
+add-result-2 c = search needs
+
+at-least-requires-3 : tie.Need-at-least-requires-3
+at-least-requires-3 c κs = search needs
+
+add-result-3 : tie.Need-add-result-3
+add-result-3 c = search needs
+
 returns : tie.Need-returns
-returns c = length-short _ (c .if1 .taken)
+returns c = length-few (omega arith) ((c .before .before .at-least .ensures .1)) ((c .before .at-least2 .ensures .1)) ((c .at-least3 .ensures .1))
+
+at-least-requires-4 : tie.Need-at-least-requires-4
+at-least-requires-4 c κs = search needs
+
+at-least-requires-5 : tie.Need-at-least-requires-5
+at-least-requires-5 c κs = search needs
+
+at-least-requires-6 : tie.Need-at-least-requires-6
+at-least-requires-6 c κs = search needs
+
+at-least-requires-7 : tie.Need-at-least-requires-7
+at-least-requires-7 c κs = search needs
+
+at-least-requires-8 : tie.Need-at-least-requires-8
+at-least-requires-8 c κs = search needs
+
+add-result-4 : tie.Need-add-result-4
+add-result-4 c = search needs
+
+add-result-5 : tie.Need-add-result-5
+add-result-5 c = search needs
+
+add-result-6 : tie.Need-add-result-6
+add-result-6 c = search needs
+
+add-result-7 : tie.Need-add-result-7
+add-result-7 c = search needs
+
+add-result-8 : tie.Need-add-result-8
+add-result-8 c = search needs
 
 returns-2 : tie.Need-returns-2
-returns-2 c = length-between 1 _ (c .before .if1 .left) (c .if2 .taken)
-
-returns-3 : tie.Need-returns-3
-returns-3 c = length-between 2 _ (c .before .if2 .left) (c .if3 .taken)
-
-returns-4 : tie.Need-returns-4
-returns-4 c = length-between 3 _ (c .before .if3 .left) (c .if4 .taken)
-
-returns-5 : tie.Need-returns-5
-returns-5 c = length-between 4 _ (c .before .if4 .left) (c .if5 .taken)
-
-returns-6 : tie.Need-returns-6
-returns-6 c = length-between 5 _ (c .before .if5 .left) (c .if6 .taken)
-
-returns-7 : tie.Need-returns-7
-returns-7 c = length-between 6 _ (c .before .if6 .left) (c .if7 .taken)
-
-returns-8 : tie.Need-returns-8
-returns-8 c = length-between 7 _ (c .before .if7 .left) (c .if8 .taken)
-
-returns-9 : tie.Need-returns-9
-returns-9 c = length-between 8 _ (c .before .if8 .left) (c .if9 .taken)
-
-returns-10 : tie.Need-returns-10
-returns-10 c = length-between 9 _ (c .if9 .left) (omega arith)
+returns-2 c = length-many (omega arith) (omega arith) ((c .before .before .before .before .at-least4 .ensures .1)) ((c .before .before .before .at-least5 .ensures .1)) ((c .before .before .at-least6 .ensures .1)) ((c .before .at-least7 .ensures .1)) ((c .at-least8 .ensures .1))
 
 pub digits-spec : {M : Type 1} → statement M
 digits-spec =
     tie.close
     (tie.spec
+    at-least-requires
+    add-result
+    at-least-requires-2
+    add-result-2
+    at-least-requires-3
+    add-result-3
     returns
-    returns-2
-    returns-3
-    returns-4
-    returns-5
-    returns-6
-    returns-7
-    returns-8
-    returns-9
-    returns-10)
+    at-least-requires-4
+    at-least-requires-5
+    at-least-requires-6
+    at-least-requires-7
+    at-least-requires-8
+    add-result-4
+    add-result-5
+    add-result-6
+    add-result-7
+    add-result-8
+    returns-2)
