@@ -66,19 +66,20 @@ fn at_least(n: u32, from: u32) -> usize
     0
 }
 
-// How many decimal digits a number has.
-fn digits(n: u32) -> usize
-    ensures { λ r. ⌜ r ≡ length (decimal n) ⌝ }
+// The offset behind a number's decimal digits.
+fn number_end(at: usize, n: u32) -> usize
+    requires { ⌜ at + length (decimal n) < 2 ^ 64 ⌝ }
+    ensures { λ r. ⌜ r ≡ at + length (decimal n) ⌝ }
 {
     if n < 10000 {
-        return 1 + at_least(n, 10) + at_least(n, 100) + at_least(n, 1000);
+        return at + (1 + at_least(n, 10) + at_least(n, 100) + at_least(n, 1000));
     }
     let six = at_least(n, 100000);
     let seven = at_least(n, 1000000);
     let eight = at_least(n, 10000000);
     let nine = at_least(n, 100000000);
     let ten = at_least(n, 1000000000);
-    5 + six + seven + eight + nine + ten
+    at + (5 + six + seven + eight + nine + ten)
 }
 
 // Stores a number's decimal digits, the last first, over as many bytes.
@@ -96,24 +97,32 @@ fn store_digits(to: &mut [u8], n: u32)
     to[0] = 48 + left as u8;
 }
 
-// Stores a number of at most four digits where there is room for four. What would be a leading zero is stored where the
-// next digit goes, and that one is stored over it: no branch depends on the number.
-fn store_short(out: &mut [u8], at: usize, n: u32) -> usize
-    requires { ⌜ (n < 10000) × (at + 4 ≤ length (now out)) ⌝ }
+// Stores a number of one or two digits where there is room for two. A leading zero is stored where the next digit is
+// then stored over it, so that no branch depends on how many there are.
+fn store_one_or_two(out: &mut [u8], at: usize, n: u32) -> usize
+    requires { ⌜ (n < 100) × (at + 2 ≤ length (now out)) ⌝ }
     ensures { λ r. ⌜ Laid (now (out .entry)) at (decimal n) (now (out .exit)) r ⌝ }
 {
-    let thousands = (n / 1000) as u8;
-    let hundreds = (n / 100 % 10) as u8;
-    let tens = (n / 10 % 10) as u8;
-    let ones = (n % 10) as u8;
+    let low = n as u8;
+    let last = at + at_least(n, 10);
+    out[at] = 48 + low / 10;
+    out[last] = 48 + low % 10;
+    last + 1
+}
+
+// The same for three or four digits.
+fn store_three_or_four(out: &mut [u8], at: usize, n: u32) -> usize
+    requires { ⌜ (100 ≤ n) × (n < 10000) × (at + 4 ≤ length (now out)) ⌝ }
+    ensures { λ r. ⌜ Laid (now (out .entry)) at (decimal n) (now (out .exit)) r ⌝ }
+{
+    let high = (n / 100) as u8;
+    let low = (n % 100) as u8;
     let second = at + at_least(n, 1000);
-    let third = second + at_least(n, 100);
-    let fourth = third + at_least(n, 10);
-    out[at] = 48 + thousands;
-    out[second] = 48 + hundreds;
-    out[third] = 48 + tens;
-    out[fourth] = 48 + ones;
-    fourth + 1
+    out[at] = 48 + high / 10;
+    out[second] = 48 + high % 10;
+    out[second + 1] = 48 + low / 10;
+    out[second + 2] = 48 + low % 10;
+    second + 3
 }
 
 // Stores a number where there is room for ten digits.
@@ -121,11 +130,13 @@ fn store_number(out: &mut [u8], at: usize, n: u32) -> usize
     requires { ⌜ at + 10 ≤ length (now out) ⌝ }
     ensures { λ r. ⌜ Laid (now (out .entry)) at (decimal n) (now (out .exit)) r ⌝ }
 {
-    if n < 10000 {
-        return store_short(out, at, n);
+    if n < 100 {
+        return store_one_or_two(out, at, n);
     }
-    let count = digits(n);
-    let end = at + count;
+    if n < 10000 {
+        return store_three_or_four(out, at, n);
+    }
+    let end = number_end(at, n);
     store_digits(&mut out[at..end], n);
     end
 }
@@ -136,8 +147,7 @@ pub fn put_number(out: &mut [u8], at: usize, n: u32) -> usize
     ensures { λ r. ⌜ Laid (now (out .entry)) at (decimal n) (now (out .exit)) r ⌝ }
 {
     if out.len() <= at {
-        let count = digits(n);
-        return at + count;
+        return number_end(at, n);
     }
     if 10 <= out.len() - at {
         return store_number(out, at, n);
@@ -153,10 +163,10 @@ fn numbers_end(at: usize, numbers: &[u32]) -> usize
     ensures { λ r. ⌜ r ≡ at + length (decimals (now (numbers .entry))) ⌝ }
 {
     let first = numbers[0];
-    let mut next = at + digits(first);
+    let mut next = number_end(at, first);
     for i in 1..numbers.len() {
         let n = numbers[i];
-        next = next + 1 + digits(n);
+        next = number_end(next + 1, n);
     }
     next
 }

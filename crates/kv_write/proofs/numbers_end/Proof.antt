@@ -19,14 +19,11 @@ abbrev μ-loop : tie.MeasureT-loop
 shared-slice-read-first : tie.Need-shared-slice-read-first Inv-loop μ-loop
 shared-slice-read-first c = search needs
 
-digits-requires : tie.Need-digits-requires Inv-loop μ-loop
-digits-requires c κs = search needs
-
-add-next : tie.Need-add-next Inv-loop μ-loop
-add-next c = omega (arith, length-first ((c .before .before .before .args .numbers .now)) ((c .before .before .before .pre .0)), (c .digits .ensures))
+number-end-requires : tie.Need-number-end-requires Inv-loop μ-loop
+number-end-requires c κs = omega (arith, length-first ((c .before .before .args .numbers .now)) ((c .before .before .pre .0)))
 
 loop-holds : tie.Need-loop-holds Inv-loop μ-loop
-loop-holds c = omega (arith, length-first ((c .before .before .before .args .numbers .now)) ((c .before .before .before .pre .0)), (c .digits .ensures))
+loop-holds c = omega (arith, length-first ((c .before .before .before .args .numbers .now)) ((c .before .before .before .pre .0)), (c .number-end .ensures))
 
 mul-n : tie.Need-mul-n Inv-loop μ-loop
 mul-n c = search needs
@@ -34,14 +31,11 @@ mul-n c = search needs
 shared-slice-read-n : tie.Need-shared-slice-read-n Inv-loop μ-loop
 shared-slice-read-n c = search needs
 
-add-next-2 : tie.Need-add-next-2 Inv-loop μ-loop
-add-next-2 c = omega (arith, length-next ((c .before .before .before .before .before .before .args .numbers .now)) ((c .before .before .loop .i)) ((c .before .loop-test .taken)))
+add-number-end : tie.Need-add-number-end Inv-loop μ-loop
+add-number-end c = omega (arith, length-next ((c .before .before .before .before .before .before .args .numbers .now)) ((c .before .before .loop .i)) ((c .before .loop-test .taken)), (c .before .before .loop .inv))
 
-digits-requires-2 : tie.Need-digits-requires-2 Inv-loop μ-loop
-digits-requires-2 c κs = search needs
-
-add-next-3 : tie.Need-add-next-3 Inv-loop μ-loop
-add-next-3 c = omega (arith, length-next ((c .before .before .before .before .before .before .before .args .numbers .now)) ((c .before .before .before .loop .i)) ((c .before .before .loop-test .taken)), (c .digits2 .ensures))
+number-end-requires-2 : tie.Need-number-end-requires-2 Inv-loop μ-loop
+number-end-requires-2 c κs = omega (arith, length-next ((c .before .before .before .before .before .before .args .numbers .now)) ((c .before .before .loop .i)) ((c .before .loop-test .taken)), (c .before .before .loop .inv))
 
 add-i : tie.Need-add-i Inv-loop μ-loop
 add-i c = search needs
@@ -50,7 +44,7 @@ loop-less : tie.Need-loop-less Inv-loop μ-loop
 loop-less c = search needs
 
 loop-again : tie.Need-loop-again Inv-loop μ-loop
-loop-again c = omega (arith, length-next ((c .before .before .before .before .before .before .before .args .numbers .now)) ((c .before .before .before .loop .i)) ((c .before .before .loop-test .taken)), (c .digits2 .ensures))
+loop-again c = omega (arith, length-next ((c .before .before .before .before .before .before .before .args .numbers .now)) ((c .before .before .before .loop .i)) ((c .before .before .loop-test .taken)), (c .number-end2 .ensures), (c .before .before .before .loop .inv))
 
 returns : tie.Need-returns Inv-loop μ-loop
 returns c = omega (arith, length-none ((c .before .before .before .before .before .args .numbers .now)) ((c .before .loop .i)) ((c .loop-test .left)))
@@ -62,14 +56,12 @@ numbers-end-spec =
     Inv-loop
     μ-loop
     shared-slice-read-first
-    digits-requires
-    add-next
+    number-end-requires
     loop-holds
     mul-n
     shared-slice-read-n
-    add-next-2
-    digits-requires-2
-    add-next-3
+    add-number-end
+    number-end-requires-2
     add-i
     loop-less
     loop-again

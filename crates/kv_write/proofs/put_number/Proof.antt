@@ -1,15 +1,15 @@
 -- By how much room there is; where there may be too little, the digits are stored apart and then laid.
 use Prim.Native.Nat.{_≤_, ℕ}
-use borrow.Author.Needs.{needs}
 use lib.ListN.{drop, length, take}
 use lib.Seq.{take-at}
 use mathlib.Core.List.{List}
-use mathlib.Core.Path.{_∙_, _≡_}
+use mathlib.Core.Path.{_∙_, _≡_, refl}
 use native.Mathlib.Nat.{zero-add}
 use native.Mathlib.Omega.{arith}
 use Rattle.kv_write.proofs.Laying.{laid-length, laid-past, sets-front}
 use Rattle.kv_write.proofs.StoredDigits.{length-most}
 use Rattle.kv_write.specs.Laid.{Laid}
+use borrow.Author.Needs.{needs}
 use Rattle.kv_write.proofs.put_number.Statement.{statement}
 use Rattle.kv_write.proofs.put_number.Tie as tie
 
@@ -21,14 +21,11 @@ whole-front : {d d′ bytes : List ℕ} {count : ℕ} → Laid d 0 bytes d′ co
 whole-front {d} {d′} {bytes} {count} p h =
     rw (p .laid ∙ sets-front d bytes h) (take-at bytes (drop (length bytes) d) count (omega (arith, p .next)))
 
-digits-requires : tie.Need-digits-requires
-digits-requires c κs = search needs
-
-add-result : tie.Need-add-result
-add-result c = search needs
+number-end-requires : tie.Need-number-end-requires
+number-end-requires c κs = search needs
 
 returns : tie.Need-returns
-returns c = laid-past ((c .digits .ensures)) ((c .before .if1 .taken))
+returns c = rw ((c .number-end .ensures)) (laid-past refl ((c .before .if1 .taken)))
 
 sub-if2 : tie.Need-sub-if2
 sub-if2 c = search needs
@@ -67,8 +64,7 @@ pub put-number-spec : {M : Type 1} → statement M
 put-number-spec =
     tie.close
     (tie.spec
-    digits-requires
-    add-result
+    number-end-requires
     returns
     sub-if2
     store-number-requires

@@ -1,4 +1,5 @@
 -- By how long the number is.
+use mathlib.Core.Path.{refl}
 use native.Mathlib.Omega.{arith}
 use Rattle.kv_write.proofs.Laying.{laid-whole}
 use Rattle.kv_write.proofs.StoredDigits.{length-most}
@@ -6,8 +7,8 @@ use borrow.Author.Needs.{needs}
 use Rattle.kv_write.proofs.store_number.Statement.{statement}
 use Rattle.kv_write.proofs.store_number.Tie as tie
 
-store-short-requires : tie.Need-store-short-requires
-store-short-requires c κs = search needs
+store-one-or-two-requires : tie.Need-store-one-or-two-requires
+store-one-or-two-requires c κs = search needs
 
 same-length : tie.Need-same-length
 same-length c = search needs
@@ -15,11 +16,17 @@ same-length c = search needs
 returns : tie.Need-returns
 returns c = search needs
 
-digits-requires : tie.Need-digits-requires
-digits-requires c κs = search needs
+store-three-or-four-requires : tie.Need-store-three-or-four-requires
+store-three-or-four-requires c κs = search needs
 
-add-end : tie.Need-add-end
-add-end c = omega (arith, length-most ((c .before .before .before .args .n)) (omega arith), (c .digits .ensures))
+same-length-2 : tie.Need-same-length-2
+same-length-2 c = search needs
+
+returns-2 : tie.Need-returns-2
+returns-2 c = search needs
+
+number-end-requires : tie.Need-number-end-requires
+number-end-requires c κs = omega (arith, length-most ((c .before .before .before .args .n)) (omega arith))
 
 sub-store-digits : tie.Need-sub-store-digits
 sub-store-digits c = search needs
@@ -28,29 +35,31 @@ part-store-digits-start : tie.Need-part-store-digits-start
 part-store-digits-start c = search needs
 
 part-store-digits-end : tie.Need-part-store-digits-end
-part-store-digits-end c = omega (arith, length-most ((c .before .before .before .args .n)) (omega arith), (c .digits .ensures))
+part-store-digits-end c = omega (arith, length-most ((c .before .before .before .before .args .n)) (omega arith), (c .number-end .ensures))
 
 store-digits-requires : tie.Need-store-digits-requires
 store-digits-requires c κs = search needs
 
-same-length-2 : tie.Need-same-length-2
-same-length-2 c = search needs
+same-length-3 : tie.Need-same-length-3
+same-length-3 c = search needs
 
-returns-2 : tie.Need-returns-2
-returns-2 c = laid-whole ((c .before .before .before .before .digits .ensures)) (omega (arith, length-most ((c .before .before .before .before .before .before .before .args .n)) (omega arith), (c .before .before .before .before .digits .ensures))) ((c .before .before .store-digits .ensures))
+returns-3 : tie.Need-returns-3
+returns-3 c = rw ((c .before .before .before .before .number-end .ensures)) (laid-whole refl (omega (arith, length-most ((c .before .before .before .before .before .before .before .before .args .n)) (omega arith))) ((c .before .before .store-digits .ensures)))
 
 pub store-number-spec : {M : Type 1} → statement M
 store-number-spec =
     tie.close
     (tie.spec
-    store-short-requires
+    store-one-or-two-requires
     same-length
     returns
-    digits-requires
-    add-end
+    store-three-or-four-requires
+    same-length-2
+    returns-2
+    number-end-requires
     sub-store-digits
     part-store-digits-start
     part-store-digits-end
     store-digits-requires
-    same-length-2
-    returns-2)
+    same-length-3
+    returns-3)
