@@ -1,5 +1,5 @@
-// Writers that measure and write with one body. Each lays bytes over a lent buffer from an offset on, as far as they
-// fit, and returns the offset behind them: a call on `&mut out[..0]` only measures.
+// Writers that measure and write. Each lays bytes over a lent buffer from an offset on, as far as they fit, and returns
+// the offset behind them: a call on `&mut out[..0]` only measures.
 // Each requires that this offset fits a usize, since a function that took every offset would have to return a wrong one
 // where the sum overflows.
 ghost use mathlib.Core.Bool.{cond};

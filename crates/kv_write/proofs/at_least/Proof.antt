@@ -1,6 +1,5 @@
 -- By the test.
 use borrow.Author.Tests.{le-leb, lt-leb}
-use mathlib.Core.Path.{refl}
 use native.Mathlib.Omega.{arith}
 use Rattle.kv_write.proofs.at_least.Statement.{statement}
 use Rattle.kv_write.proofs.at_least.Tie as tie

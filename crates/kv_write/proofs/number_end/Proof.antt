@@ -1,7 +1,7 @@
 -- By how many powers of ten the number reaches.
+use borrow.Author.Needs.{needs}
 use native.Mathlib.Omega.{arith}
 use Rattle.kv_write.proofs.StoredDigits.{length-few, length-many}
-use borrow.Author.Needs.{needs}
 use Rattle.kv_write.proofs.number_end.Statement.{statement}
 use Rattle.kv_write.proofs.number_end.Tie as tie
 
@@ -24,10 +24,10 @@ add-result-3 : tie.Need-add-result-3
 add-result-3 c = search needs
 
 add-result-4 : tie.Need-add-result-4
-add-result-4 c = omega (arith, length-few {n = c .before .before .before .before .args .n} (omega arith) ((c .before .before .at-least .ensures .1)) ((c .before .at-least2 .ensures .1)) ((c .at-least3 .ensures .1)))
+add-result-4 c = omega (arith, length-few {n = c .before .before .before .before .args .n} (omega arith) (c .before .before .at-least .ensures .1) (c .before .at-least2 .ensures .1) (c .at-least3 .ensures .1))
 
 returns : tie.Need-returns
-returns c = omega (arith, length-few {n = c .before .before .before .before .args .n} (omega arith) ((c .before .before .at-least .ensures .1)) ((c .before .at-least2 .ensures .1)) ((c .at-least3 .ensures .1)))
+returns c = omega (arith, length-few {n = c .before .before .before .before .args .n} (omega arith) (c .before .before .at-least .ensures .1) (c .before .at-least2 .ensures .1) (c .at-least3 .ensures .1))
 
 at-least-requires-4 : tie.Need-at-least-requires-4
 at-least-requires-4 c κs = search needs
@@ -60,10 +60,10 @@ add-result-9 : tie.Need-add-result-9
 add-result-9 c = search needs
 
 add-result-10 : tie.Need-add-result-10
-add-result-10 c = omega (arith, length-many {n = c .before .before .before .before .before .before .args .n} (omega arith) (omega arith) ((c .before .before .before .before .at-least4 .ensures .1)) ((c .before .before .before .at-least5 .ensures .1)) ((c .before .before .at-least6 .ensures .1)) ((c .before .at-least7 .ensures .1)) ((c .at-least8 .ensures .1)))
+add-result-10 c = omega (arith, length-many {n = c .before .before .before .before .before .before .args .n} (omega arith) (omega arith) (c .before .before .before .before .at-least4 .ensures .1) (c .before .before .before .at-least5 .ensures .1) (c .before .before .at-least6 .ensures .1) (c .before .at-least7 .ensures .1) (c .at-least8 .ensures .1))
 
 returns-2 : tie.Need-returns-2
-returns-2 c = omega (arith, length-many {n = c .before .before .before .before .before .before .args .n} (omega arith) (omega arith) ((c .before .before .before .before .at-least4 .ensures .1)) ((c .before .before .before .at-least5 .ensures .1)) ((c .before .before .at-least6 .ensures .1)) ((c .before .at-least7 .ensures .1)) ((c .at-least8 .ensures .1)))
+returns-2 c = omega (arith, length-many {n = c .before .before .before .before .before .before .args .n} (omega arith) (omega arith) (c .before .before .before .before .at-least4 .ensures .1) (c .before .before .before .at-least5 .ensures .1) (c .before .before .at-least6 .ensures .1) (c .before .at-least7 .ensures .1) (c .at-least8 .ensures .1))
 
 pub number-end-spec : {M : Type 1} → statement M
 number-end-spec =

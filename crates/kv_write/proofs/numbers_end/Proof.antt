@@ -20,10 +20,10 @@ shared-slice-read-first : tie.Need-shared-slice-read-first Inv-loop μ-loop
 shared-slice-read-first c = search needs
 
 number-end-requires : tie.Need-number-end-requires Inv-loop μ-loop
-number-end-requires c κs = omega (arith, length-first ((c .before .before .args .numbers .now)) ((c .before .before .pre .0)))
+number-end-requires c κs = omega (arith, length-first (c .before .before .args .numbers .now) (c .before .before .pre .0))
 
 loop-holds : tie.Need-loop-holds Inv-loop μ-loop
-loop-holds c = omega (arith, length-first ((c .before .before .before .args .numbers .now)) ((c .before .before .before .pre .0)), (c .number-end .ensures))
+loop-holds c = omega (arith, length-first (c .before .before .before .args .numbers .now) (c .before .before .before .pre .0), (c .number-end .ensures))
 
 mul-n : tie.Need-mul-n Inv-loop μ-loop
 mul-n c = search needs
@@ -32,10 +32,10 @@ shared-slice-read-n : tie.Need-shared-slice-read-n Inv-loop μ-loop
 shared-slice-read-n c = search needs
 
 add-number-end : tie.Need-add-number-end Inv-loop μ-loop
-add-number-end c = omega (arith, length-next ((c .before .before .before .before .before .before .args .numbers .now)) ((c .before .before .loop .i)) ((c .before .loop-test .taken)), (c .before .before .loop .inv))
+add-number-end c = omega (arith, length-next (c .before .before .before .before .before .before .args .numbers .now) (c .before .before .loop .i) (c .before .loop-test .taken), (c .before .before .loop .inv))
 
 number-end-requires-2 : tie.Need-number-end-requires-2 Inv-loop μ-loop
-number-end-requires-2 c κs = omega (arith, length-next ((c .before .before .before .before .before .before .args .numbers .now)) ((c .before .before .loop .i)) ((c .before .loop-test .taken)), (c .before .before .loop .inv))
+number-end-requires-2 c κs = omega (arith, length-next (c .before .before .before .before .before .before .args .numbers .now) (c .before .before .loop .i) (c .before .loop-test .taken), (c .before .before .loop .inv))
 
 add-i : tie.Need-add-i Inv-loop μ-loop
 add-i c = search needs
@@ -44,10 +44,10 @@ loop-less : tie.Need-loop-less Inv-loop μ-loop
 loop-less c = search needs
 
 loop-again : tie.Need-loop-again Inv-loop μ-loop
-loop-again c = omega (arith, length-next ((c .before .before .before .before .before .before .before .args .numbers .now)) ((c .before .before .before .loop .i)) ((c .before .before .loop-test .taken)), (c .number-end2 .ensures), (c .before .before .before .loop .inv))
+loop-again c = omega (arith, length-next (c .before .before .before .before .before .before .before .args .numbers .now) (c .before .before .before .loop .i) (c .before .before .loop-test .taken), (c .number-end2 .ensures), (c .before .before .before .loop .inv))
 
 returns : tie.Need-returns Inv-loop μ-loop
-returns c = omega (arith, length-none ((c .before .before .before .before .before .args .numbers .now)) ((c .before .loop .i)) ((c .loop-test .left)))
+returns c = omega (arith, length-none (c .before .before .before .before .before .args .numbers .now) (c .before .loop .i) (c .loop-test .left))
 
 pub numbers-end-spec : {M : Type 1} → statement M
 numbers-end-spec =

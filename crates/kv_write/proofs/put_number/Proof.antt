@@ -1,5 +1,6 @@
 -- By how much room there is; where there may be too little, the digits are stored apart and then laid.
 use Prim.Native.Nat.{_≤_, ℕ}
+use borrow.Author.Needs.{needs}
 use lib.ListN.{drop, length, take}
 use lib.Seq.{take-at}
 use mathlib.Core.List.{List}
@@ -9,7 +10,6 @@ use native.Mathlib.Omega.{arith}
 use Rattle.kv_write.proofs.Laying.{laid-length, laid-past, sets-front}
 use Rattle.kv_write.proofs.StoredDigits.{length-most}
 use Rattle.kv_write.specs.Laid.{Laid}
-use borrow.Author.Needs.{needs}
 use Rattle.kv_write.proofs.put_number.Statement.{statement}
 use Rattle.kv_write.proofs.put_number.Tie as tie
 
@@ -25,7 +25,7 @@ number-end-requires : tie.Need-number-end-requires
 number-end-requires c κs = search needs
 
 returns : tie.Need-returns
-returns c = rw ((c .number-end .ensures)) (laid-past refl ((c .before .if1 .taken)))
+returns c = rw (c .number-end .ensures) (laid-past refl (c .before .if1 .taken))
 
 sub-if2 : tie.Need-sub-if2
 sub-if2 c = search needs
@@ -46,19 +46,19 @@ store-number-requires-2 : tie.Need-store-number-requires-2
 store-number-requires-2 c κs = search needs
 
 array-share-prefix-whole : tie.Need-array-share-prefix-whole
-array-share-prefix-whole c = whole-within ((c .before .before .store-number2 .ensures)) (length-most ((c .before .before .before .before .before .before .before .args .n)) (omega arith))
+array-share-prefix-whole c = whole-within (c .before .before .store-number2 .ensures) (length-most (c .before .before .before .before .before .before .before .args .n) (omega arith))
 
 slice-aggregate-put-bytes : tie.Need-slice-aggregate-put-bytes
-slice-aggregate-put-bytes c = rw (whole-front ((c .before .before .before .store-number2 .ensures)) (length-most ((c .before .before .before .before .before .before .before .before .args .n)) (omega arith))) ((c .before .before .before .store-number2 .ensures .next) ∙ zero-add _)
+slice-aggregate-put-bytes c = rw (whole-front (c .before .before .before .store-number2 .ensures) (length-most (c .before .before .before .before .before .before .before .before .args .n) (omega arith))) ((c .before .before .before .store-number2 .ensures .next) ∙ zero-add _)
 
 put-bytes-requires : tie.Need-put-bytes-requires
-put-bytes-requires c κs = rw (whole-front ((c .before .before .before .store-number2 .ensures)) (length-most ((c .before .before .before .before .before .before .before .before .args .n)) (omega arith))) ((c .before .before .before .before .before .before .before .before .pre))
+put-bytes-requires c κs = rw (whole-front (c .before .before .before .store-number2 .ensures) (length-most (c .before .before .before .before .before .before .before .before .args .n) (omega arith))) (c .before .before .before .before .before .before .before .before .pre)
 
 same-length-2 : tie.Need-same-length-2
 same-length-2 c = search needs
 
 returns-3 : tie.Need-returns-3
-returns-3 c = rw (whole-front ((c .before .before .before .before .before .before .store-number2 .ensures)) (length-most ((c .before .before .before .before .before .before .before .before .before .before .before .args .n)) (omega arith))) at ((c .before .before .put-bytes .ensures))
+returns-3 c = rw (whole-front (c .before .before .before .before .before .before .store-number2 .ensures) (length-most (c .before .before .before .before .before .before .before .before .before .before .before .args .n) (omega arith))) at (c .before .before .put-bytes .ensures)
 
 pub put-number-spec : {M : Type 1} → statement M
 put-number-spec =

@@ -37,7 +37,7 @@ store-number-requires : tie.Need-store-number-requires Inv-loop μ-loop
 store-number-requires c κs = search needs
 
 loop-holds : tie.Need-loop-holds Inv-loop μ-loop
-loop-holds c = (start (fits-rest _ ((c .before .before .store-number .ensures)) (rw (first-then _ ((c .before .before .before .before .before .before .before .pre .0))) at ((c .before .before .before .before .before .before .before .pre .1)))), omega (arith, (c .before .before .store-number .ensures .next), laid-length ((c .before .before .store-number .ensures)), length-most (getD ((c .before .before .before .before .before .before .before .args .numbers .now)) 0 0) (omega (arith, (c .before .before .before .before .shared-slice-known2 .given) 0))))
+loop-holds c = (start (fits-rest _ (c .before .before .store-number .ensures) (rw (first-then _ (c .before .before .before .before .before .before .before .pre .0)) at (c .before .before .before .before .before .before .before .pre .1))), omega (arith, (c .before .before .store-number .ensures .next), laid-length (c .before .before .store-number .ensures), length-most (getD (c .before .before .before .before .before .before .before .args .numbers .now) 0 0) (omega (arith, (c .before .before .before .before .shared-slice-known2 .given) 0))))
 
 slice-write-out : tie.Need-slice-write-out Inv-loop μ-loop
 slice-write-out c = omega (arith, (c .before .loop .inv .1))
@@ -49,7 +49,7 @@ shared-slice-read-n : tie.Need-shared-slice-read-n Inv-loop μ-loop
 shared-slice-read-n c = search needs
 
 add-store-number : tie.Need-add-store-number Inv-loop μ-loop
-add-store-number c = omega (arith, (c .before .before .before .loop .inv .1), left-length ((c .before .before .before .loop .inv .0)))
+add-store-number c = omega (arith, (c .before .before .before .loop .inv .1), left-length (c .before .before .before .loop .inv .0))
 
 store-number-requires-2 : tie.Need-store-number-requires-2 Inv-loop μ-loop
 store-number-requires-2 c κs = simp length-set (omega (arith, (c .before .before .before .loop .inv .1)))
@@ -61,13 +61,13 @@ loop-less : tie.Need-loop-less Inv-loop μ-loop
 loop-less c = search needs
 
 loop-again : tie.Need-loop-again Inv-loop μ-loop
-loop-again c = turn ((c .before .before .before .before .before .before .before .before .before .before .before .before .before .before .args .numbers .now)) ((c .before .before .before .before .before .before .loop .i)) ((c .before .before .before .before .before .loop-test .taken)) (omega (arith, (c .before .before .before .before .shared-slice-known3 .given) ((c .before .before .before .before .before .before .loop .i)))) ((c .before .before .store-number2 .ensures)) ((c .before .before .before .before .before .before .loop .inv))
+loop-again c = turn (c .before .before .before .before .before .before .before .before .before .before .before .before .before .before .args .numbers .now) (c .before .before .before .before .before .before .loop .i) (c .before .before .before .before .before .loop-test .taken) (omega (arith, (c .before .before .before .before .shared-slice-known3 .given) (c .before .before .before .before .before .before .loop .i))) (c .before .before .store-number2 .ensures) (c .before .before .before .before .before .before .loop .inv)
 
 same-length : tie.Need-same-length Inv-loop μ-loop
-same-length c = left-length ((c .before .loop .inv .0)) ∙ ((c .before .before .before .before .store-number .kept .0))
+same-length c = left-length (c .before .loop .inv .0) ∙ (c .before .before .before .before .store-number .kept .0)
 
 returns : tie.Need-returns Inv-loop μ-loop
-returns c = rw (first-then _ ((c .before .before .before .before .before .before .before .before .before .pre .0))) (laid-append ((c .before .before .before .before .store-number .ensures)) (done (recast (none-behind _ _ ((c .loop-test .left))) ((c .before .loop .inv .0)))))
+returns c = rw (first-then _ (c .before .before .before .before .before .before .before .before .before .pre .0)) (laid-append (c .before .before .before .before .store-number .ensures) (done (recast (none-behind _ _ (c .loop-test .left)) (c .before .loop .inv .0))))
 
 pub store-numbers-spec : {M : Type 1} → statement M
 store-numbers-spec =
