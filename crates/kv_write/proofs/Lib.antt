@@ -1,4 +1,6 @@
 pub mod Laying
 pub mod Joined
+pub mod NumberList
 pub mod Lines
 pub mod StoredDigits
+pub mod ShortNumbers

@@ -1,10 +1,12 @@
-// Writers that measure and write with one body. Each lays bytes over a lent buffer from an offset on, as far as they
-// fit, and returns the offset behind them: a call on `&mut out[..0]` only measures.
+// Writers that measure and write. Each lays bytes over a lent buffer from an offset on, as far as they fit, and returns
+// the offset behind them: a call on `&mut out[..0]` only measures.
 // Each requires that this offset fits a usize, since a function that took every offset would have to return a wrong one
 // where the sum overflows.
+ghost use mathlib.Core.Bool.{cond};
 ghost use mathlib.Core.List.{[], _∷_};
 ghost use mathlib.Core.Path.{_≡_};
-ghost use Prim.Native.Nat.{_+_, _<_, _^_};
+ghost use Prim.Native.Nat.{_+_, _*_, _<_, _≤_, _^_};
+ghost use lib.Dec.{leb};
 ghost use lib.ListN.{length};
 ghost use Rattle.definitions.specs.Bytes.{text};
 ghost use Rattle.definitions.specs.Lists.{onlyIf};
@@ -54,38 +56,30 @@ pub fn put_bytes(out: &mut [u8], at: usize, bytes: &[u8]) -> usize
     end
 }
 
-// How many decimal digits a number has.
-fn digits(n: u32) -> usize
-    ensures { λ r. ⌜ r ≡ length (decimal n) ⌝ }
+// 1 if a number is at least another, else 0. A sum of such needs no branch.
+fn at_least(n: u32, from: u32) -> usize
+    ensures { λ r. ⌜ (r ≤ 1) × (r ≡ cond (leb from n) 1 0) ⌝ }
 {
-    if n < 10 {
+    if from <= n {
         return 1;
     }
-    if n < 100 {
-        return 2;
-    }
-    if n < 1000 {
-        return 3;
-    }
+    0
+}
+
+// The offset behind a number's decimal digits.
+fn number_end(at: usize, n: u32) -> usize
+    requires { ⌜ at + length (decimal n) < 2 ^ 64 ⌝ }
+    ensures { λ r. ⌜ r ≡ at + length (decimal n) ⌝ }
+{
     if n < 10000 {
-        return 4;
+        return at + (1 + at_least(n, 10) + at_least(n, 100) + at_least(n, 1000));
     }
-    if n < 100000 {
-        return 5;
-    }
-    if n < 1000000 {
-        return 6;
-    }
-    if n < 10000000 {
-        return 7;
-    }
-    if n < 100000000 {
-        return 8;
-    }
-    if n < 1000000000 {
-        return 9;
-    }
-    10
+    let six = at_least(n, 100000);
+    let seven = at_least(n, 1000000);
+    let eight = at_least(n, 10000000);
+    let nine = at_least(n, 100000000);
+    let ten = at_least(n, 1000000000);
+    at + (5 + six + seven + eight + nine + ten)
 }
 
 // Stores a number's decimal digits, the last first, over as many bytes.
@@ -103,23 +97,109 @@ fn store_digits(to: &mut [u8], n: u32)
     to[0] = 48 + left as u8;
 }
 
+// Stores a number of one or two digits where there is room for two. A leading zero is stored where the next digit is
+// then stored over it, so that no branch depends on how many there are.
+fn store_one_or_two(out: &mut [u8], at: usize, n: u32) -> usize
+    requires { ⌜ (n < 100) × (at + 2 ≤ length (now out)) ⌝ }
+    ensures { λ r. ⌜ Laid (now (out .entry)) at (decimal n) (now (out .exit)) r ⌝ }
+{
+    let low = n as u8;
+    let last = at + at_least(n, 10);
+    out[at] = 48 + low / 10;
+    out[last] = 48 + low % 10;
+    last + 1
+}
+
+// The same for three or four digits.
+fn store_three_or_four(out: &mut [u8], at: usize, n: u32) -> usize
+    requires { ⌜ (100 ≤ n) × (n < 10000) × (at + 4 ≤ length (now out)) ⌝ }
+    ensures { λ r. ⌜ Laid (now (out .entry)) at (decimal n) (now (out .exit)) r ⌝ }
+{
+    let high = (n / 100) as u8;
+    let low = (n % 100) as u8;
+    let second = at + at_least(n, 1000);
+    out[at] = 48 + high / 10;
+    out[second] = 48 + high % 10;
+    out[second + 1] = 48 + low / 10;
+    out[second + 2] = 48 + low % 10;
+    second + 3
+}
+
+// Stores a number where there is room for ten digits.
+fn store_number(out: &mut [u8], at: usize, n: u32) -> usize
+    requires { ⌜ at + 10 ≤ length (now out) ⌝ }
+    ensures { λ r. ⌜ Laid (now (out .entry)) at (decimal n) (now (out .exit)) r ⌝ }
+{
+    if n < 100 {
+        return store_one_or_two(out, at, n);
+    }
+    if n < 10000 {
+        return store_three_or_four(out, at, n);
+    }
+    let end = number_end(at, n);
+    store_digits(&mut out[at..end], n);
+    end
+}
+
 // Lays a number in decimal digits.
 pub fn put_number(out: &mut [u8], at: usize, n: u32) -> usize
     requires { ⌜ at + length (decimal n) < 2 ^ 64 ⌝ }
     ensures { λ r. ⌜ Laid (now (out .entry)) at (decimal n) (now (out .exit)) r ⌝ }
 {
-    let count = digits(n);
-    let end = at + count;
     if out.len() <= at {
-        return end;
+        return number_end(at, n);
     }
-    if end <= out.len() {
-        store_digits(&mut out[at..end], n);
-        return end;
+    if 10 <= out.len() - at {
+        return store_number(out, at, n);
     }
     let mut whole = [0u8; 10];
-    store_digits(&mut whole[..count], n);
+    let count = store_number(&mut whole, 0, n);
     put_bytes(out, at, &whole[..count])
+}
+
+// The offset behind numbers with commas between, of which there is one at least.
+fn numbers_end(at: usize, numbers: &[u32]) -> usize
+    requires { ⌜ (0 < length (now numbers)) × (at + length (decimals (now numbers)) < 2 ^ 64) ⌝ }
+    ensures { λ r. ⌜ r ≡ at + length (decimals (now (numbers .entry))) ⌝ }
+{
+    let first = numbers[0];
+    let mut next = number_end(at, first);
+    for i in 1..numbers.len() {
+        let n = numbers[i];
+        next = number_end(next + 1, n);
+    }
+    next
+}
+
+// Stores numbers with commas between where there is room for eleven bytes for each.
+fn store_numbers(out: &mut [u8], at: usize, numbers: &[u32]) -> usize
+    requires { ⌜ (0 < length (now numbers)) × (at + length (decimals (now numbers)) < 2 ^ 64)
+        × (at + 11 * length (now numbers) ≤ length (now out)) ⌝ }
+    ensures { λ r. ⌜ Laid (now (out .entry)) at (decimals (now (numbers .entry))) (now (out .exit)) r ⌝ }
+{
+    let first = numbers[0];
+    let mut next = store_number(out, at, first);
+    for i in 1..numbers.len() {
+        out[next] = b',';
+        let n = numbers[i];
+        next = store_number(out, next + 1, n);
+    }
+    next
+}
+
+// Lays numbers with commas between, of which there is one at least, wherever the buffer ends.
+fn put_each_number(out: &mut [u8], at: usize, numbers: &[u32]) -> usize
+    requires { ⌜ (0 < length (now numbers)) × (at + length (decimals (now numbers)) < 2 ^ 64) ⌝ }
+    ensures { λ r. ⌜ Laid (now (out .entry)) at (decimals (now (numbers .entry))) (now (out .exit)) r ⌝ }
+{
+    let first = numbers[0];
+    let mut next = put_number(out, at, first);
+    for i in 1..numbers.len() {
+        next = put_byte(out, next, b',');
+        let n = numbers[i];
+        next = put_number(out, next, n);
+    }
+    next
 }
 
 // Lays numbers with commas between; no numbers are no bytes.
@@ -130,14 +210,13 @@ pub fn put_numbers(out: &mut [u8], at: usize, numbers: &[u32]) -> usize
     if numbers.len() == 0 {
         return at;
     }
-    let first = numbers[0];
-    let mut next = put_number(out, at, first);
-    for i in 1..numbers.len() {
-        next = put_byte(out, next, b',');
-        let n = numbers[i];
-        next = put_number(out, next, n);
+    if out.len() <= at {
+        return numbers_end(at, numbers);
     }
-    next
+    if numbers.len() <= (out.len() - at) / 11 {
+        return store_numbers(out, at, numbers);
+    }
+    put_each_number(out, at, numbers)
 }
 
 // Lays a line: a key with its `=`, a value, LF.

@@ -1,86 +1,77 @@
--- By how many of the digits the buffer has room for; if only for some, they are stored apart and then laid.
-use Prim.Native.Nat.{ℕ}
+-- By how much room there is; where there may be too little, the digits are stored apart and then laid.
+use Prim.Native.Nat.{_≤_, ℕ}
 use borrow.Author.Needs.{needs}
-use lib.ListN.{length, length-append, length-take, take}
+use lib.ListN.{drop, length, take}
 use lib.Seq.{take-at}
-use mathlib.Core.List.{List, _++_}
-use mathlib.Core.Path.{_∙_, _≡_, ap, sym}
+use mathlib.Core.List.{List}
+use mathlib.Core.Path.{_∙_, _≡_, refl}
+use native.Mathlib.Nat.{zero-add}
 use native.Mathlib.Omega.{arith}
-use Rattle.kv_write.proofs.Laying.{laid-past, laid-whole}
+use Rattle.kv_write.proofs.Laying.{laid-length, laid-past, sets-front}
 use Rattle.kv_write.proofs.StoredDigits.{length-most}
+use Rattle.kv_write.specs.Laid.{Laid}
 use Rattle.kv_write.proofs.put_number.Statement.{statement}
 use Rattle.kv_write.proofs.put_number.Tie as tie
 
-in-front : {digits stored : List ℕ} {count : ℕ} → stored ≡ digits → count ≡ length digits → (rest : List ℕ) → take count (stored ++ rest) ≡ digits
-in-front {digits} {stored} {count} e h rest = take-at stored rest count (ap length e ∙ sym h) ∙ e
+-- what is laid from the start on, where it fits, is what stands in front
+whole-within : {d d′ bytes : List ℕ} {count : ℕ} → Laid d 0 bytes d′ count → length bytes ≤ length d → count ≤ length d′
+whole-within p h = omega (arith, p .next, laid-length p)
 
-digits-requires : tie.Need-digits-requires
-digits-requires c κs = search needs
+whole-front : {d d′ bytes : List ℕ} {count : ℕ} → Laid d 0 bytes d′ count → length bytes ≤ length d → take count d′ ≡ bytes
+whole-front {d} {d′} {bytes} {count} p h =
+    rw (p .laid ∙ sets-front d bytes h) (take-at bytes (drop (length bytes) d) count (omega (arith, p .next)))
 
-add-end : tie.Need-add-end
-add-end c = search needs
+number-end-requires : tie.Need-number-end-requires
+number-end-requires c κs = search needs
 
 returns : tie.Need-returns
-returns c = laid-past (c .before .digits .ensures) (c .if1 .taken)
+returns c = rw (c .number-end .ensures) (laid-past refl (c .before .if1 .taken))
 
-sub-store-digits : tie.Need-sub-store-digits
-sub-store-digits c = search needs
+sub-if2 : tie.Need-sub-if2
+sub-if2 c = search needs
 
-part-store-digits-start : tie.Need-part-store-digits-start
-part-store-digits-start c = search needs
-
-part-store-digits-end : tie.Need-part-store-digits-end
-part-store-digits-end c = search needs
-
-store-digits-requires : tie.Need-store-digits-requires
-store-digits-requires c κs = search needs
+store-number-requires : tie.Need-store-number-requires
+store-number-requires c κs = search needs
 
 same-length : tie.Need-same-length
 same-length c = search needs
 
 returns-2 : tie.Need-returns-2
-returns-2 c = laid-whole (c .before .before .before .before .before .before .digits .ensures) (c .before .before .before .before .if2 .taken) (c .before .before .store-digits .ensures)
+returns-2 c = search needs
 
-array-borrow-prefix-whole : tie.Need-array-borrow-prefix-whole
-array-borrow-prefix-whole c = omega (arith, length-most (c .before .before .before .before .args .n) (omega arith), (c .before .before .digits .ensures))
+slice-aggregate-store-number : tie.Need-slice-aggregate-store-number
+slice-aggregate-store-number c = search needs
 
-slice-aggregate-store-digits : tie.Need-slice-aggregate-store-digits
-slice-aggregate-store-digits c = simp length-take (omega (arith, length-most (c .before .before .before .before .before .args .n) (omega arith)))
-
-store-digits-requires-2 : tie.Need-store-digits-requires-2
-store-digits-requires-2 c κs = simp length-take (omega (arith, length-most (c .before .before .before .before .before .args .n) (omega arith), (c .before .before .before .digits .ensures)))
+store-number-requires-2 : tie.Need-store-number-requires-2
+store-number-requires-2 c κs = search needs
 
 array-share-prefix-whole : tie.Need-array-share-prefix-whole
-array-share-prefix-whole c = simp length-append (omega (arith, ap length (c .before .before .store-digits2 .ensures), (c .before .before .before .before .before .before .digits .ensures)))
+array-share-prefix-whole c = whole-within (c .before .before .store-number2 .ensures) (length-most (c .before .before .before .before .before .before .before .args .n) (omega arith))
 
 slice-aggregate-put-bytes : tie.Need-slice-aggregate-put-bytes
-slice-aggregate-put-bytes c = rw (in-front (c .before .before .before .store-digits2 .ensures) (c .before .before .before .before .before .before .before .digits .ensures)) (c .before .before .before .before .before .before .before .digits .ensures)
+slice-aggregate-put-bytes c = rw (whole-front (c .before .before .before .store-number2 .ensures) (length-most (c .before .before .before .before .before .before .before .before .args .n) (omega arith))) ((c .before .before .before .store-number2 .ensures .next) ∙ zero-add _)
 
 put-bytes-requires : tie.Need-put-bytes-requires
-put-bytes-requires c κs = rw (in-front (c .before .before .before .store-digits2 .ensures) (c .before .before .before .before .before .before .before .digits .ensures)) (c .before .before .before .before .before .before .before .before .before .pre)
+put-bytes-requires c κs = rw (whole-front (c .before .before .before .store-number2 .ensures) (length-most (c .before .before .before .before .before .before .before .before .args .n) (omega arith))) (c .before .before .before .before .before .before .before .before .pre)
 
 same-length-2 : tie.Need-same-length-2
 same-length-2 c = search needs
 
 returns-3 : tie.Need-returns-3
-returns-3 c = rw (in-front (c .before .before .before .before .before .before .store-digits2 .ensures) (c .before .before .before .before .before .before .before .before .before .before .digits .ensures)) at (c .before .before .put-bytes .ensures)
+returns-3 c = rw (whole-front (c .before .before .before .before .before .before .store-number2 .ensures) (length-most (c .before .before .before .before .before .before .before .before .before .before .before .args .n) (omega arith))) at (c .before .before .put-bytes .ensures)
 
 pub put-number-spec : {M : Type 1} → statement M
 put-number-spec =
     tie.close
     (tie.spec
-    digits-requires
-    add-end
+    number-end-requires
     returns
-    sub-store-digits
-    part-store-digits-start
-    part-store-digits-end
-    store-digits-requires
+    sub-if2
+    store-number-requires
     same-length
     returns-2
-    array-borrow-prefix-whole
-    slice-aggregate-store-digits
-    store-digits-requires-2
+    slice-aggregate-store-number
+    store-number-requires-2
     array-share-prefix-whole
     slice-aggregate-put-bytes
     put-bytes-requires
