@@ -3,7 +3,7 @@ use Prim.Native.Nat.{_*_, _+_, _<_, _≤_, suc, zero, ℕ}
 use borrow.Author.Tests.{eq-eqb}
 use lib.Dec.{eqb}
 use lib.ListN.{drop, getD, length, length-map, set}
-use lib.Seq.{drop-set-lt, getD-set-other, getD-set-same, length-sets, lt-length-set, sets}
+use lib.Seq.{drop-drop, drop-set-lt, getD-set-other, getD-set-same, length-sets, lt-length-set, sets}
 use mathlib.Core.Bool.{Bool, cond, false, true}
 use mathlib.Core.List.{List, [], _++_, _∷_, map, map-append, map-map, reverse}
 use mathlib.Core.Option.{Option, Option·getD, Option·map, none, some}
@@ -68,8 +68,14 @@ module _ (rows row : List ℕ) (count : ℕ) (whole : length row ≡ 17) (room :
   unfolding column
   column-here k h = get-here row rows (count * 17) k (omega arith) (omega arith)
 
-  pub rest-kept : drop ((count + 1) * 17) stored ≡ drop ((count + 1) * 17) rows
+  rest-kept : drop ((count + 1) * 17) stored ≡ drop ((count + 1) * 17) rows
   rest-kept = drop-sets row rows (count * 17) ((count + 1) * 17) (omega arith)
+
+  -- behind the rows the table stays as it was
+  pub rest-more : (rows₀ : List ℕ) → drop (count * 17) rows ≡ drop (count * 17) rows₀ → drop ((count + 1) * 17) stored ≡ drop ((count + 1) * 17) rows₀
+  rest-more rows₀ e =
+      let there : (count + 1) * 17 ≡ count * 17 + 17 = omega arith in
+      rest-kept ∙ rw there (sym (drop-drop 17 (count * 17) rows) ∙ ap (drop 17) e ∙ drop-drop 17 (count * 17) rows₀)
 
   part-before : (s : List ℕ) (from to site : ℕ) → from < 17 → to < 17 → site < count → partAt from to s stored site ≡ partAt from to s rows site
   unfolding partAt

@@ -2,7 +2,7 @@
 use Prim.Native.Nat.{_*_, _+_, _<_, _≤_, ℕ}
 use borrow.Author.Tests.{ltb-true}
 use lib.ListN.{drop, length, length-reverse}
-use lib.Seq.{drop-drop, sets}
+use lib.Seq.{sets}
 use mathlib.Core.Bool.{Bool}
 use mathlib.Core.List.{List, [], _++_, _∷_, reverse, reverse-append, reverse-reverse}
 use mathlib.Core.Path.{_∙_, _≡_, ap, refl, sym}
@@ -20,7 +20,7 @@ use Rattle.site_groups.specs.SiteGroups.{SiteTo, siteFrom, siteGroup, siteGroup
 use Rattle.site_groups.specs.declared.SiteAlleles.{SiteAlleles}
 use Rattle.site_groups.specs.declared.SitePlace.{SitePlace}
 use Rattle.site_groups.specs.declared.SiteValues.{SiteValues}
-use Rattle.cohort.proofs.Rows.{Numbered, numbered-more, numbered-none, numbered-rows, rest-kept, sites-count, sites-more}
+use Rattle.cohort.proofs.Rows.{Numbered, numbered-more, numbered-none, numbered-rows, rest-more, sites-count, sites-more}
 use Rattle.cohort.specs.Cohort.{SitesRead, firstOn, rowOf, sitesFrom, sitesIn}
 use Rattle.cohort.specs.declared.SitesAt.the-variants as sites
 
@@ -79,15 +79,10 @@ module _ (samples : ℕ) (s : List ℕ) (at₀ : ℕ) (rows₀ : List ℕ) where
         long = same ∙ inv .long;
         numbered = rw e (numbered-more s rows count p contig a v block fits (inv .numbered) first (to .is-block));
         few = omega (arith, few-before s next samples count (to .value));
-        rest = rw e (rest-kept rows (rowOf p contig a v block) count refl fits ∙ drop-more);
+        rest = rw e (rest-more rows (rowOf p contig a v block) count refl fits rows₀ (inv .rest));
         whole = λ names n. rw (e, sites-more s rows count p contig a v block fits) (turned names n);
       }
         where
-          drop-more : drop ((count + 1) * 17) rows ≡ drop ((count + 1) * 17) rows₀
-          drop-more =
-              let there : (count + 1) * 17 ≡ count * 17 + 17 = omega arith in
-              rw there (sym (drop-drop 17 (count * 17) rows) ∙ ap (drop 17) (inv .rest) ∙ drop-drop 17 (count * 17) rows₀)
-
           turned : (names : List (List ℕ)) → samples ≡ length names
               → left names s (sitesIn s rows count ++ (siteFrom s p a v ∷ [])) (v .next) ≡ sitesFrom names s at₀
           turned names n =

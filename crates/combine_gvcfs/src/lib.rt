@@ -484,6 +484,6 @@ pub fn combine<'a>(
     ensures { λ r. ⌜ Combined (textsOf (now (cohort .entry)) clipped (now (clip .entry)) referenced (now (reference .entry))) (now (scratch .entry)) (now (scratch .exit)) (now (out .entry)) (now (out .exit)) r ⌝ }
 {
     let outcome = combine_texts(cohort, clipped, clip, referenced, reference, scratch, out);
-    list_header::clear_places(scratch);
+    tables::clear_places(scratch);
     outcome
 }

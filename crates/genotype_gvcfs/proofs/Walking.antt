@@ -17,7 +17,7 @@ use Rattle.laws.proofs.Checked.{not-required}
 use Rattle.laws.proofs.Lines.{lines-end}
 use Rattle.laws.proofs.SoundList.{record-sound}
 use Rattle.list_header.proofs.TwoPasses.{counted-none}
-use Rattle.list_reader.specs.RecordGroups.{PreviousOf, RecordTo, groupLines, recordFrom, recordGroup}
+use Rattle.list_reader.specs.RecordGroups.{PreviousOf, RecordTo, RefusedBy, groupLines, recordFrom, recordGroup}
 use Rattle.list_reader.specs.declared.Previous.the-variants as previous
 use Rattle.list_reader.specs.declared.Previous.{Previous}
 use Rattle.list_reader.specs.declared.RecordPlace.{RecordPlace}
@@ -97,8 +97,7 @@ module _ (s : List ℕ) (at₀ samples records : ℕ) where
         fewer = omega (arith, before-count)
 
         -- it is refused
-        pub going-refused : (row : ℕ)
-            → ((k : ℕ) (before : List Record) → length before < k → PreviousOf s before last → recordRead samples k before (recordGroup s next samples) ≡ refused row)
+        pub going-refused : (row : ℕ) → RefusedBy s next samples last row
             → RecordsWalked (recordsFrom samples records s at₀) records (ready .d₀) (ready .bytes) out (walked.Refused row)
         unfolding RecordsWalked
         going-refused row says = refused-left row
@@ -106,7 +105,7 @@ module _ (s : List ℕ) (at₀ samples records : ℕ) where
             (says records (reverse (g .done)) fewer (g .last-is)))
 
         -- it is a record
-        module _ {rows : List ℕ} {p : RecordPlace} (to : RecordTo s next samples last rows p) where
+        module _ {rows₁ rows : List ℕ} {p : RecordPlace} (to : RecordTo s next samples last rows₁ rows p) where
           abbrev new : Record
           new = recordFrom s (p .contig) (p .pos) (p .end) (p .alleles) (to .sampleData)
 

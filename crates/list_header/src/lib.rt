@@ -1,8 +1,6 @@
-// The header of a list, scratch cleared at the end of a call, and the offset and the count of a list that is first measured
-// and then written.
+// The header of a list, and the offset and the count of a list that is first measured and then written.
 ghost use mathlib.Core.Path.{_≡_};
 ghost use Prim.Native.Nat.{_+_, min};
-ghost use Rattle.definitions.specs.Answers.{scratchAfter};
 ghost use Rattle.definitions.specs.Printed.{printedHeader};
 ghost use Rattle.kv_write.specs.Laid.{Laid};
 ghost use Rattle.tables.specs.Tables.{namesIn};
@@ -24,15 +22,6 @@ pub fn put_header(s: &[u8], names: &[usize], samples: usize, records: u32, out: 
         next = kv_write::put_line(out, next, b"sample=", name);
     }
     kv_write::put_number_line(out, next, b"records=", records)
-}
-
-// Sets every place of scratch to 0.
-pub fn clear_places(scratch: &mut [u64])
-    ensures { λ _. ⌜ now (scratch .exit) ≡ scratchAfter (now (scratch .entry)) ⌝ }
-{
-    for i in 0..scratch.len() {
-        scratch[i] = 0;
-    }
 }
 
 // An offset held at 2^63 at most, so that what is laid from there on never runs past a usize.

@@ -20,7 +20,7 @@ use Rattle.laws.proofs.Checked.{not-required, or-refused, required, then, then-
 use Rattle.laws.proofs.Tests.{bool-ext}
 use Rattle.site_groups.specs.SiteGroups.{bytesOf}
 use Rattle.tables.specs.Tables.{alleleSpelled, codeOption, refAltsSpelled}
-use Rattle.list_reader.specs.RecordGroups.{PreviousOf, Ready, RecordChecked, RecordRead, TextTo, allelesAt, altsAt, comesAfterLast, recordFrom, recordGroup, rightCounts}
+use Rattle.list_reader.specs.RecordGroups.{PreviousOf, Ready, RecordChecked, RecordFound, TextTo, allelesAt, altsAt, comesAfterLast, recordFrom, recordGroup, rightCounts}
 use Rattle.list_reader.specs.declared.Previous.{Previous}
 use Rattle.list_reader.specs.declared.Previous.the-variants.{Last, None}
 use Rattle.list_reader.specs.declared.RecordAt.the-variants as found
@@ -184,16 +184,17 @@ module _ (s : List ℕ) (h : RecordHead) (last : Previous) (fit : Bool) where
 
 -- ---- the lines and the checks together
 
-module _ {s : List ℕ} {at samples : ℕ} {rows : List ℕ} {h : RecordHead} {r : SamplesRead} (t : TextTo s at samples rows h r) (last : Previous) where
+module _ {s : List ℕ} {at samples : ℕ} {rows₀ rows : List ℕ} {h : RecordHead} {r : SamplesRead} (t : TextTo s at samples rows₀ rows h r)
+    (last : Previous) where
   ready : (records : ℕ) (before : List Record) → length before < records → PreviousOf s before last
       → Ready s h last (r .fit) at samples records before (t .sampleData)
   ready records before more previous = record { lines = t .lines; counted = t .fit; more = more; previous = previous }
 
-  pub record-refused : (row : ℕ) → RecordChecked s h last (r .fit) (check.Refused row) → RecordRead s at samples last rows (found.Refused row)
-  unfolding RecordChecked RecordRead
+  pub record-refused : (row : ℕ) → RecordChecked s h last (r .fit) (check.Refused row) → RecordFound s at samples last rows₀ rows (found.Refused row)
+  unfolding RecordChecked RecordFound
   record-refused row c records before more previous = c at samples records before (t .sampleData) (ready records before more previous)
 
-  pub record-found : (n : ℕ) → RecordChecked s h last (r .fit) (check.Right n) → RecordRead s at samples last rows (found.Record (record {
+  pub record-found : (n : ℕ) → RecordChecked s h last (r .fit) (check.Right n) → RecordFound s at samples last rows₀ rows (found.Record (record {
     contig = h .contig;
     pos = h .pos;
     end = h .end;
@@ -202,11 +203,12 @@ module _ {s : List ℕ} {at samples : ℕ} {rows : List ℕ} {h : RecordHead} {r
     «has_pl» = r .«has_pl»;
     next = r .next;
   }))
-  unfolding RecordChecked RecordRead
+  unfolding RecordChecked RecordFound
   record-found n c = record {
     sampleData = t .sampleData;
     value = λ records before more previous. c .value at samples records before (t .sampleData) (ready records before more previous);
     table = t .table;
+    rest = t .rest;
     count = c .count;
     few = c .few;
     has-pl = t .has-pl;

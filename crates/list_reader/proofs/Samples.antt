@@ -2,7 +2,7 @@
 use Prim.Native.Nat.{_*_, _+_, _-_, _<_, _≤_, suc, ℕ}
 use borrow.Author.Tests.{le-ltb, lt-ltb, ne-eqb}
 use lib.Dec.{eqb, ltb}
-use lib.ListN.{length, length-map}
+use lib.ListN.{drop, length, length-map}
 use lib.Seq.{sets}
 use mathlib.Core.Bool.{Bool, _&&_, _||_, false, true}
 use mathlib.Core.List.{List, [], _++_, _∷_, append-assoc, append-nil, map, map-append, map-map}
@@ -11,7 +11,7 @@ use mathlib.Core.Path.{_∙_, _≡_, ap, refl, sym}
 use native.Mathlib.Nat.{sub-zero}
 use native.Mathlib.Numerals.{add-one}
 use native.Mathlib.Omega.{arith}
-use Rattle.cohort.proofs.Rows.{sites-more}
+use Rattle.cohort.proofs.Rows.{rest-more, sites-more}
 use Rattle.cohort.specs.Cohort.{rowOf, sitesIn}
 use Rattle.definitions.specs.Alleles.{genotypeCount}
 use Rattle.definitions.specs.Bytes.{comma, fieldsOf}
@@ -154,6 +154,7 @@ module _ (s : List ℕ) (at samples : ℕ) (rows₀ : List ℕ) (h : RecordHead)
     pub sampleData : List SampleData
     pub whole : inOrder (map sampleRead (numbersFrom 0 samples)) ≡ After sampleRead sampleData i (samples - i)
     pub table : map withoutGt sampleData ≡ map siteSample (sitesIn s rows i)
+    pub rest : drop (i * 17) rows ≡ drop (i * 17) rows₀
     pub some-pl : has-pl ≡ anyOf (λ (v : SampleData). isThere (v .pl)) sampleData
     pub right : fit ≡ allOf (rightCounts s (h .alleles)) sampleData
     pub long : length rows ≡ length rows₀
@@ -168,6 +169,7 @@ module _ (s : List ℕ) (at samples : ℕ) (rows₀ : List ℕ) (h : RecordHead)
     sampleData = [];
     whole = rw (sub-zero samples) (after-start sampleRead samples);
     table = refl;
+    rest = refl;
     some-pl = refl;
     right = refl;
     long = refl;
@@ -209,6 +211,7 @@ module _ (s : List ℕ) (at samples : ℕ) (rows₀ : List ℕ) (h : RecordHead)
                   ∙ ap (λ (l : List SampleData). l ++ (withoutGt (sampleFrom s (to .gt) v) ∷ [])) (inv .table)
                   ∙ sym (map-append siteSample (sitesIn s rows i) (siteFrom s (placeOf h) (h .alleles) v ∷ []))
                   ∙ rw (e, sites-more s rows i (placeOf h) 0 (h .alleles) v false fits);
+              rest = rw e (rest-more rows (rowOf (placeOf h) 0 (h .alleles) v false) i refl fits rows₀ (inv .rest));
               some-pl =
                   e₁ ∙ rw (any-more (λ (w : SampleData). isThere (w .pl)) (inv .sampleData) (sampleFrom s (to .gt) v), ← inv .some-pl, pl-there _ _ (to .pl-count));
               right =
@@ -225,7 +228,7 @@ module _ (s : List ℕ) (at samples : ℕ) (rows₀ : List ℕ) (h : RecordHead)
               within = to .within;
             }
 
-    pub samples-end : HeadTo s at h → samples ≤ i → TextTo s at samples rows h (record { «has_pl» = has-pl; fit = fit; next = next })
+    pub samples-end : HeadTo s at h → samples ≤ i → TextTo s at samples rows₀ rows h (record { «has_pl» = has-pl; fit = fit; next = next })
     samples-end head past =
         let all : i ≡ samples = omega (arith, inv .few) in
         let none-left : samples - i ≡ 0 = omega arith in
@@ -233,6 +236,7 @@ module _ (s : List ℕ) (at samples : ℕ) (rows₀ : List ℕ) (h : RecordHead)
           sampleData = inv .sampleData;
           lines = record { first = head .lines samples; later = inv .whole ∙ rw none-left (after-end sampleRead (inv .sampleData) i) };
           table = inv .table ∙ rw all (in-table s rows samples);
+          rest = rw (← all) (inv .rest);
           has-pl = inv .some-pl;
           fit = inv .right;
           behind = rw (← all) (inv .behind);

@@ -7,6 +7,7 @@ use mathlib.Core.List.{List, [], _∷_, map}
 use mathlib.Core.Option.{Option, none, some}
 use mathlib.Core.Path.{_≡_}
 use Rattle.definitions.specs.Alleles.{RefAlts}
+use Rattle.definitions.specs.Answers.{scratchAfter}
 use Rattle.definitions.specs.Bytes.{comma, compareBytes, fieldsOf}
 use Rattle.definitions.specs.Checked.{accepted, inOrder, refused}
 use Rattle.definitions.specs.Genotypes.{AllelePair, SampleData}
@@ -21,7 +22,7 @@ use Rattle.site_groups.specs.SiteGroups.{Counted, bytesOf, numbersOf}
 use Rattle.site_groups.specs.declared.Part.{Part}
 use Rattle.site_groups.specs.declared.SiteAlleles.{SiteAlleles}
 use Rattle.site_groups.specs.declared.SiteValues.{SiteValues}
-use Rattle.tables.specs.Tables.{codeOption, column, partAt, refAltsSpelled}
+use Rattle.tables.specs.Tables.{codeOption, column, partAt, refAltsSpelled, rowLength}
 use Rattle.list_reader.specs.declared.GtAt.{GtAt}
 use Rattle.list_reader.specs.declared.GtAt.the-variants as gt
 use Rattle.list_reader.specs.declared.HeadAt.{HeadAt}
@@ -134,19 +135,20 @@ pub record GroupLines (s : List ℕ) (at samples : ℕ) (h : RecordHead) (sample
 unfoldable pub rightCounts : List ℕ → SiteAlleles → SampleData → Bool
 rightCounts s a v = ltb (altsAt s a) maxAlleles && countsFit (allelesAt s a) v
 
-pub record TextTo (s : List ℕ) (at samples : ℕ) (rows : List ℕ) (h : RecordHead) (r : SamplesRead) : Type 0 where
+pub record TextTo (s : List ℕ) (at samples : ℕ) (rows₀ rows : List ℕ) (h : RecordHead) (r : SamplesRead) : Type 0 where
   pub sampleData : List SampleData
   pub lines : GroupLines s at samples h sampleData
   pub table : map withoutGt sampleData ≡ map (sampleAt s rows) (numbersFrom 0 samples)
+  pub rest : drop (samples * rowLength) rows ≡ drop (samples * rowLength) rows₀
   pub has-pl : r .«has_pl» ≡ anyOf (λ (v : SampleData). isThere (v .pl)) sampleData
   pub fit : r .fit ≡ allOf (rightCounts s (h .alleles)) sampleData
   pub behind : Behind s at (groupLines samples) (r .next)
   pub forward : at < r .next
   pub within : r .next ≤ length s
 
-unfoldable pub TextRead : List ℕ → ℕ → ℕ → List ℕ → TextAt → Type 0
-TextRead s at samples rows (text.Text h r) = TextTo s at samples rows h r
-TextRead s at samples rows text.Wrong = Misspelled s at samples
+unfoldable pub TextRead : List ℕ → ℕ → ℕ → List ℕ → List ℕ → TextAt → Type 0
+TextRead s at samples rows₀ rows (text.Text h r) = TextTo s at samples rows₀ rows h r
+TextRead s at samples rows₀ rows text.Wrong = Misspelled s at samples
 
 -- ---- rows 4 to 8
 
@@ -196,12 +198,13 @@ RecordChecked s h last fit (check.Refused row) =
 -- ---- the record
 
 -- The group reads as a record behind all records that end as `last` says, if they are fewer than the list's; the table's rows have
--- its samples' data but for GT.
-pub record RecordTo (s : List ℕ) (at samples : ℕ) (last : Previous) (rows : List ℕ) (p : RecordPlace) : Type 0 where
+-- its samples' data but for GT, and behind them it is as it was.
+pub record RecordTo (s : List ℕ) (at samples : ℕ) (last : Previous) (rows₀ rows : List ℕ) (p : RecordPlace) : Type 0 where
   pub sampleData : List SampleData
   pub value : (records : ℕ) (before : List Record) → length before < records → PreviousOf s before last
       → recordRead samples records before (recordGroup s at samples) ≡ accepted (recordFrom s (p .contig) (p .pos) (p .end) (p .alleles) sampleData)
   pub table : map withoutGt sampleData ≡ map (sampleAt s rows) (numbersFrom 0 samples)
+  pub rest : drop (samples * rowLength) rows ≡ drop (samples * rowLength) rows₀
   pub count : p .count ≡ suc (altsAt s (p .alleles))
   pub few : p .count ≤ maxAlleles
   pub has-pl : p .«has_pl» ≡ anyOf (λ (v : SampleData). isThere (v .pl)) sampleData
@@ -209,7 +212,21 @@ pub record RecordTo (s : List ℕ) (at samples : ℕ) (last : Previous) (rows : 
   pub forward : at < p .next
   pub within : p .next ≤ length s
 
-unfoldable pub RecordRead : List ℕ → ℕ → ℕ → Previous → List ℕ → RecordAt → Type 0
-RecordRead s at samples last rows (found.Record p) = RecordTo s at samples last rows p
-RecordRead s at samples last rows (found.Refused row) = (records : ℕ) (before : List Record) → length before < records → PreviousOf s before last
+-- a row refuses the group behind all such records
+abbrev pub RefusedBy : List ℕ → ℕ → ℕ → Previous → ℕ → Type 0
+RefusedBy s at samples last row = (records : ℕ) (before : List Record) → length before < records → PreviousOf s before last
     → recordRead samples records before (recordGroup s at samples) ≡ refused row
+
+-- the row refuses it, and the table is zero
+pub record RecordRefused (s : List ℕ) (at samples : ℕ) (last : Previous) (rows₀ rows : List ℕ) (row : ℕ) : Type 0 where
+  pub value : RefusedBy s at samples last row
+  pub cleared : rows ≡ scratchAfter rows₀
+
+unfoldable pub RecordRead : List ℕ → ℕ → ℕ → Previous → List ℕ → List ℕ → RecordAt → Type 0
+RecordRead s at samples last rows₀ rows (found.Record p) = RecordTo s at samples last rows₀ rows p
+RecordRead s at samples last rows₀ rows (found.Refused row) = RecordRefused s at samples last rows₀ rows row
+
+-- the same with the table left open after a refusal
+unfoldable pub RecordFound : List ℕ → ℕ → ℕ → Previous → List ℕ → List ℕ → RecordAt → Type 0
+RecordFound s at samples last rows₀ rows (found.Record p) = RecordTo s at samples last rows₀ rows p
+RecordFound s at samples last rows₀ rows (found.Refused row) = RefusedBy s at samples last row

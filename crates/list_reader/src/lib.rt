@@ -8,7 +8,7 @@ ghost use Rattle.definitions.specs.Alleles.{genotypeCount};
 ghost use Rattle.definitions.specs.ListReader.{gtOf};
 ghost use Rattle.definitions.specs.Lists.{isThere, missingOr};
 ghost use Rattle.tables.specs.Tables.{codeOption, rowLength};
-ghost use Rattle.list_reader.specs.RecordGroups.{GtRead, HeadRead, RecordChecked, RecordRead, SampleRead, TextRead, comesAfterLast};
+ghost use Rattle.list_reader.specs.RecordGroups.{GtRead, HeadRead, RecordChecked, RecordFound, RecordRead, SampleRead, TextRead, comesAfterLast};
 use alleles::AllelesRead;
 use kv_text::NumberAt;
 use kv_text::NumberRead;
@@ -224,7 +224,7 @@ enum TextAt {
 // The lines of the record group at an offset: a row of the table for each sample.
 fn record_text(s: &[u8], at: usize, samples: usize, rows: &mut [usize]) -> TextAt
     requires { ⌜ samples * rowLength ≤ length (now rows) ⌝ }
-    ensures { λ r. ⌜ TextRead (now (s .entry)) at samples (now (rows .exit)) r ⌝ }
+    ensures { λ r. ⌜ TextRead (now (s .entry)) at samples (now (rows .entry)) (now (rows .exit)) r ⌝ }
 {
     let first = record_head(s, at);
     let HeadAt::Head(head) = first else {
@@ -356,9 +356,9 @@ pub enum RecordAt {
     Refused(usize),
 }
 
-// The record group at an offset, of a list with so many samples, after the record before it: a row of the table for each sample,
-// with GQ, DP, AD and PL; or the row, 1 to 8, that refuses it.
-pub fn record_at(
+// The record group at an offset, of a list with so many samples, after the record before it; what stands in the table after a refusal
+// is open.
+fn read_record(
     s: &[u8],
     at: usize,
     samples: usize,
@@ -366,7 +366,7 @@ pub fn record_at(
     rows: &mut [usize],
 ) -> RecordAt
     requires { ⌜ samples * rowLength ≤ length (now rows) ⌝ }
-    ensures { λ r. ⌜ RecordRead (now (s .entry)) at samples previous (now (rows .exit)) r ⌝ }
+    ensures { λ r. ⌜ RecordFound (now (s .entry)) at samples previous (now (rows .entry)) (now (rows .exit)) r ⌝ }
 {
     let text = record_text(s, at, samples, rows);
     let TextAt::Text(head, read) = text else {
@@ -386,5 +386,27 @@ pub fn record_at(
             has_pl: read.has_pl,
             next: read.next,
         }),
+    }
+}
+
+// The record group at an offset, of a list with so many samples, after the record before it: a row of the table for each sample,
+// with GQ, DP, AD and PL, and behind them the table as it was; or the row, 1 to 8, that refuses it, and a table of zeros.
+pub fn record_at(
+    s: &[u8],
+    at: usize,
+    samples: usize,
+    previous: Previous,
+    rows: &mut [usize],
+) -> RecordAt
+    requires { ⌜ samples * rowLength ≤ length (now rows) ⌝ }
+    ensures { λ r. ⌜ RecordRead (now (s .entry)) at samples previous (now (rows .entry)) (now (rows .exit)) r ⌝ }
+{
+    let found = read_record(s, at, samples, previous, rows);
+    match found {
+        RecordAt::Record(place) => RecordAt::Record(place),
+        RecordAt::Refused(row) => {
+            tables::clear(rows);
+            RecordAt::Refused(row)
+        }
     }
 }

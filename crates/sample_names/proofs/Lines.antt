@@ -8,7 +8,6 @@ use mathlib.Core.Option.{none}
 use mathlib.Core.Path.{_∙_, _≡_, ap, ap₂, refl, sym}
 use native.Mathlib.Nat.{add-zero, sub-zero}
 use native.Mathlib.Omega.{arith}
-use Rattle.definitions.specs.Answers.{scratchAfter}
 use Rattle.definitions.specs.Checked.{_>>=_, accepted, readEach, refused}
 use Rattle.definitions.specs.Cohort.{sampleName, samplesOf}
 use Rattle.definitions.specs.Limits.{maxSamples}
@@ -151,11 +150,3 @@ module _ (s : List ℕ) (count at : ℕ) (c : CountTo s count at) where
         within = n .within;
         rest = n .rest;
       }
-
--- a cleared table has only its length
-pub scratch-same : (l m : List ℕ) → length l ≡ length m → scratchAfter l ≡ scratchAfter m
-unfolding scratchAfter
-scratch-same [] [] h = refl
-scratch-same [] (y ∷ m) h = absurd (omega arith)
-scratch-same (x ∷ l) [] h = absurd (omega arith)
-scratch-same (x ∷ l) (y ∷ m) h = ap (λ (k : List ℕ). 0 ∷ k) (scratch-same l m (omega arith))

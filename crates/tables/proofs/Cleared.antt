@@ -3,7 +3,7 @@ use Prim.Native.Nat.{_+_, _<_, _≤_, suc, ℕ}
 use lib.ListN.{drop, drop-of-length-le, length, length-set, set, take}
 use lib.Seq.{append-snoc, drop-cons, drop-set-lt, take-all, take-suc-set}
 use mathlib.Core.List.{List, [], _++_, _∷_, append-nil, map}
-use mathlib.Core.Path.{_∙_, _≡_, refl, sym}
+use mathlib.Core.Path.{_∙_, _≡_, ap, refl, sym}
 use native.Mathlib.Numerals.{add-one}
 use native.Mathlib.Omega.{arith}
 use Rattle.definitions.specs.Answers.{scratchAfter}
@@ -31,3 +31,11 @@ pub cleared-end : (t₀ t : List ℕ) (i : ℕ) → Cleared t₀ t i → length 
 unfolding scratchAfter
 cleared-end t₀ t i c h =
     sym (append-nil t) ∙ (rw (take-all i t h, drop-of-length-le t h) at (c .whole))
+
+-- a cleared table has only its length
+pub scratch-same : (l m : List ℕ) → length l ≡ length m → scratchAfter l ≡ scratchAfter m
+unfolding scratchAfter
+scratch-same [] [] h = refl
+scratch-same [] (y ∷ m) h = absurd (omega arith)
+scratch-same (x ∷ l) [] h = absurd (omega arith)
+scratch-same (x ∷ l) (y ∷ m) h = ap (λ (k : List ℕ). 0 ∷ k) (scratch-same l m (omega arith))

@@ -27,6 +27,15 @@ pub fn clear(table: &mut [usize])
     }
 }
 
+// Sets every place of scratch to 0.
+pub fn clear_places(scratch: &mut [u64])
+    ensures { λ _. ⌜ now (scratch .exit) ≡ scratchAfter (now (scratch .entry)) ⌝ }
+{
+    for i in 0..scratch.len() {
+        scratch[i] = 0;
+    }
+}
+
 // Stores the numbers of a row from an offset on.
 pub fn store_row(rows: &mut [usize], first: usize, row: &[usize])
     requires { ⌜ first + length (now row) ≤ length (now rows) ⌝ }

@@ -4,7 +4,7 @@ use mathlib.Core.Logic.{inl, inr}
 use mathlib.Core.Path.{_∙_, refl}
 use native.Mathlib.Omega.{arith}
 use Rattle.cohort.specs.Cohort.{CohortAt, CohortFitting}
-use Rattle.sample_names.proofs.Lines.{scratch-same}
+use Rattle.tables.proofs.Cleared.{scratch-same}
 use Rattle.cohort.proofs.read_cohort.Statement.{statement}
 use Rattle.cohort.proofs.read_cohort.Tie as tie
 

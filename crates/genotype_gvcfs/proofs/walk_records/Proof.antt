@@ -35,7 +35,7 @@ same-length-2 c = (c .before .before .before .before .before .before .before .be
 
 returns : tie.Need-returns Inv-loop μ-loop
 unfolding RecordRead
-returns c = λ ready. going-refused _ _ _ _ ready ((c .before .before .before .before .before .before .before .before .loop .inv .3) ready) (c .before .before .before .before .before .before .before .loop-test .taken) _ (rw ((c .before .found .given .1)) at (c .before .before .before .before .before .record-at .ensures))
+returns c = λ ready. going-refused _ _ _ _ ready ((c .before .before .before .before .before .before .before .before .loop .inv .3) ready) (c .before .before .before .before .before .before .before .loop-test .taken) _ ((rw ((c .before .found .given .1)) at (c .before .before .before .before .before .record-at .ensures)) .value)
 
 enum-known-found-2 : tie.Need-enum-known-found-2 Inv-loop μ-loop
 enum-known-found-2 c = search needs

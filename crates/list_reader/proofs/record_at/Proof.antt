@@ -1,64 +1,46 @@
--- The lines, then the checks.
+-- A refused record leaves a cleared table.
 use borrow.Author.Needs.{needs}
-use Rattle.list_reader.proofs.RecordChecks.{record-found, record-refused}
-use Rattle.list_reader.specs.RecordGroups.{RecordRead, TextRead}
+use mathlib.Core.Path.{_∙_}
+use Rattle.list_reader.specs.RecordGroups.{RecordFound, RecordRead}
+use Rattle.tables.proofs.Cleared.{scratch-same}
 use Rattle.list_reader.proofs.record_at.Statement.{statement}
 use Rattle.list_reader.proofs.record_at.Tie as tie
 
-record-text-requires : tie.Need-record-text-requires
-record-text-requires c κs = search needs
+read-record-requires : tie.Need-read-record-requires
+read-record-requires c κs = search needs
 
-enum-known-text : tie.Need-enum-known-text
-enum-known-text c = search needs
+enum-known-found : tie.Need-enum-known-found
+enum-known-found c = search needs
 
-enum-told : tie.Need-enum-told
-enum-told c = search needs
+enum-known-found-2 : tie.Need-enum-known-found-2
+enum-known-found-2 c = search needs
+
+clear-requires : tie.Need-clear-requires
+clear-requires c κs = search needs
 
 same-length : tie.Need-same-length
 same-length c = search needs
 
 returns : tie.Need-returns
-unfolding RecordRead TextRead
-returns c = λ records before more previous. (rw (c .enum-told .given .1) at (c .before .before .before .before .record-text .ensures)) records before
-
-check-record-requires : tie.Need-check-record-requires
-check-record-requires c κs = search needs
-
-enum-known-check : tie.Need-enum-known-check
-enum-known-check c = search needs
-
-enum-known-check-2 : tie.Need-enum-known-check-2
-enum-known-check-2 c = search needs
+unfolding RecordFound RecordRead
+returns c = rw ((c .before .found .given .1)) at ((c .before .before .before .before .before .read-record .ensures))
 
 same-length-2 : tie.Need-same-length-2
 same-length-2 c = search needs
 
 returns-2 : tie.Need-returns-2
-unfolding TextRead
-returns-2 c = let t = rw (c .before .before .before .before .before .before .before .text .given .1) at (c .before .before .before .before .before .before .before .before .before .before .before .record-text .ensures) in
-    record-refused t _ _ (rw (c .before .check .given .1) at (c .before .before .before .before .before .check-record .ensures))
-
-same-length-3 : tie.Need-same-length-3
-same-length-3 c = search needs
-
-returns-3 : tie.Need-returns-3
-unfolding TextRead
-returns-3 c = let t = rw (c .before .before .before .before .before .before .before .text .given .1) at (c .before .before .before .before .before .before .before .before .before .before .before .record-text .ensures) in
-    record-found t _ _ (rw (c .before .check2 .given .1) at (c .before .before .before .before .before .check-record .ensures))
+unfolding RecordFound RecordRead
+returns-2 c = record { value = rw ((c .before .before .before .before .before .found2 .given .1)) at ((c .before .before .before .before .before .before .before .before .before .read-record .ensures)); cleared = ((c .before .before .clear .ensures)) ∙ scratch-same _ _ ((c .before .before .before .before .before .before .before .before .before .read-record .kept .1 .1 .1 .1 .0)) }
 
 pub record-at-spec : {M : Type 1} → statement M
 record-at-spec =
     tie.close
     (tie.spec
-    record-text-requires
-    enum-known-text
-    enum-told
+    read-record-requires
+    enum-known-found
+    enum-known-found-2
+    clear-requires
     same-length
     returns
-    check-record-requires
-    enum-known-check
-    enum-known-check-2
     same-length-2
-    returns-2
-    same-length-3
-    returns-3)
+    returns-2)

@@ -2,8 +2,9 @@
 use borrow.Author.Needs.{needs}
 use mathlib.Core.Path.{_∙_, refl}
 use native.Mathlib.Omega.{arith}
-use Rattle.sample_names.proofs.Lines.{header-read, header-refused, scratch-same}
+use Rattle.sample_names.proofs.Lines.{header-read, header-refused}
 use Rattle.sample_names.specs.Header.{CountRead, Header, NamesRead}
+use Rattle.tables.proofs.Cleared.{scratch-same}
 use Rattle.sample_names.proofs.read_samples.Statement.{statement}
 use Rattle.sample_names.proofs.read_samples.Tie as tie
 

@@ -1,9 +1,9 @@
 -- Place by place; the places before i are zero.
 use Prim.Native.Nat.{_-_}
 use native.Mathlib.Omega.{arith}
 use Rattle.tables.proofs.Cleared.{Cleared, cleared-end, cleared-next, cleared-start}
-use Rattle.list_header.proofs.clear_places.Statement.{statement}
-use Rattle.list_header.proofs.clear_places.Tie as tie
+use Rattle.tables.proofs.clear_places.Statement.{statement}
+use Rattle.tables.proofs.clear_places.Tie as tie
 
 abbrev Inv-loop : tie.InvT-loop
 Inv-loop scratch₀ i₀ i-end scratch i = Cleared scratch₀ scratch i
