@@ -15,7 +15,7 @@ ghost use Rattle.merged_records.specs.Loaded.{chosenLetters};
 ghost use Rattle.tables.specs.Tables.{tableLength};
 ghost use Rattle.combine_gvcfs.specs.Combined.{CallLoaded, Combined, CohortHeld, ListReady, Measurement, TextsAnswered, TextsFit, listTo, listWithin, textsOf};
 ghost use Rattle.combine_gvcfs.specs.Contigs.{AllReady, OneReady, allRecords, givenClip, recordsOn};
-ghost use Rattle.contig_walk.specs.Walk.{RecordsWalked};
+ghost use Rattle.contig_walk.specs.Walk.{RecordsWalked, WalkRoom};
 use answers::Outcome;
 use cohort::CohortRead;
 use contig_walk::Walked;
@@ -44,11 +44,14 @@ fn walk_one<'a>(
     order: &[usize],
     runs: &[usize],
     scratch: &mut [u64],
+    held: &mut [u8],
+    fresh: &mut [u8],
+    alts: &mut [u8],
     out: &mut [u8],
     at: usize,
     count: usize,
 ) -> Walked
-    requires { ⌜ OneReady (now s) (now rows) samples clipped (now clip) referenced (now reference) first (now order) (now runs) (now out) at count ⌝ }
+    requires { ⌜ OneReady (now s) (now rows) samples clipped (now clip) referenced (now reference) first (now order) (now runs) (now out) at count × WalkRoom (now held) (now fresh) (now alts) ⌝ }
     ensures { λ r. ⌜ ((ready : OneReady (now (s .entry)) (now (rows .entry)) samples clipped (now (clip .entry)) referenced (now (reference .entry)) first (now (order .entry)) (now (runs .entry)) (now (out .entry)) at count)
         → RecordsWalked (recordsOn (ready .tables) (length (now (scratch .entry))) first) (ready .d₀) (ready .bytes) (ready .records) (now (out .exit)) r) ⌝ }
 {
@@ -73,6 +76,9 @@ fn walk_one<'a>(
             &chosen,
             &bounds,
             &scratch[..n],
+            held,
+            fresh,
+            alts,
             out,
             at,
             count,
@@ -100,6 +106,9 @@ fn walk_contigs<'a>(
     ensures { λ r. ⌜ ((ready : AllReady (now (s .entry)) (now (rows .entry)) samples clipped (now (clip .entry)) referenced (now (reference .entry)) (now (contigs .entry)) (now (order .entry)) (now (runs .entry)) (now (out .entry)) at)
         → RecordsWalked (allRecords (ready .tables) (length (now (scratch .entry)))) (ready .d₀) (ready .bytes) 0 (now (out .exit)) r) ⌝ }
 {
+    let mut held = [0u8; 8192];
+    let mut fresh = [0u8; 8192];
+    let mut alts = [0u8; 4096];
     let mut next = at;
     let mut count = 0;
     for c in 0..contigs.len() {
@@ -116,6 +125,9 @@ fn walk_contigs<'a>(
             order,
             runs,
             scratch,
+            &mut held,
+            &mut fresh,
+            &mut alts,
             out,
             next,
             count,
