@@ -259,8 +259,8 @@ fn walk_interval<'a>(
     }
 }
 
-// Lays the records of a contig behind those before it, as far as they fit: rows 11 to 13. In the lent buffers stand the samples' lines of
-// the record that is held back, those of the next one, and its ALTs.
+// Lays the records of a contig behind those before it, as far as they fit: rows 11 to 13. `held` and `fresh` take the samples'
+// lines of the record that is held back and of the next one, `alts` its ALTs.
 pub fn walk_contig<'a>(
     s: &'a [u8],
     rows: &[usize],
