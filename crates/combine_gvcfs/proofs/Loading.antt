@@ -44,9 +44,6 @@ use Rattle.combine_gvcfs.specs.Combined.{CallLoaded, CohortHeld, Combine
 
 -- ---- the sites by sample, and the contigs in order
 
-pub equal-few : {a b : ℕ} → a ≡ b → a ≤ b
-equal-few e = omega arith
-
 module _ {s names rows : List ℕ} {samples sites : ℕ} {clipped : Bool} {clip : List ℕ} {referenced : Bool} {reference : List ℕ}
     (call : CallLoaded s names rows samples sites clipped clip referenced reference) where
   -- sites are few
@@ -71,10 +68,10 @@ module _ {s names rows : List ℕ} {samples sites : ℕ} {clipped : Bool} {clip 
     firsts-are : take n firsts ≡ o .firsts
     firsts-are = rw (o .counted, all-stored) (take-append-seam (o .firsts) _)
 
-    module _ {order runs : List ℕ} (few : length order ≤ maxSites) (g : Runs order runs samples (sampleSites rows sites)) where
+    module _ {order runs : List ℕ} (g : Runs order runs samples (sampleSites rows sites)) where
       pub list-ready : ListReady s names rows samples clipped clip referenced reference (take n firsts) order runs
       list-ready = record {
-        tables = record { loaded = call .loaded; clip-given = call .clip-given; grouped = rw (← call .all-sites) g; few = few };
+        tables = record { loaded = call .loaded; clip-given = call .clip-given; grouped = rw (← call .all-sites) g };
         in-order = rw firsts-are (o .names);
         firsts = rw firsts-are (every-map (λ i h. record { known = h .0; own = h .1 }) (o .each));
         header = call .header;

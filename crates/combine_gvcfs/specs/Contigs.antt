@@ -1,5 +1,5 @@
 -- What walking over contigs, one after the other, finds and lays.
-use Prim.Native.Nat.{_<_, _≤_, ℕ}
+use Prim.Native.Nat.{_<_, ℕ}
 use lib.ListN.{length}
 use mathlib.Core.Bool.{Bool, cond}
 use mathlib.Core.List.{List, [], map}
@@ -9,7 +9,6 @@ use Rattle.covering_sites.specs.Runs.{Runs}
 use Rattle.definitions.specs.Checked.{Checked}
 use Rattle.definitions.specs.CombinedList.{combinedRecords, contigRecords}
 use Rattle.definitions.specs.Intervals.{contigsOf}
-use Rattle.definitions.specs.Limits.{maxSites}
 use Rattle.definitions.specs.Records.{Record}
 use Rattle.laws.proofs.Every.{Every}
 use Rattle.merged_records.specs.Loaded.{Loaded, chosenLetters}
@@ -26,7 +25,6 @@ pub record Grouped (s rows : List ℕ) (samples : ℕ) (clipped : Bool) (clip : 
   pub loaded : Loaded s rows samples referenced reference
   pub clip-given : ClipGiven clipped clip rows (loaded .input)
   pub grouped : Runs order bounds samples (sampleSites rows (length (loaded .input .cohort .sites)))
-  pub few : length order ≤ maxSites
 
 module _ {s rows : List ℕ} {samples : ℕ} {clipped : Bool} {clip : List ℕ} {referenced : Bool} {reference order bounds : List ℕ}
     (g : Grouped s rows samples clipped clip referenced reference order bounds) where

@@ -15,7 +15,7 @@ ghost use Rattle.merged_records.specs.Loaded.{chosenLetters};
 ghost use Rattle.tables.specs.Tables.{tableLength};
 ghost use Rattle.combine_gvcfs.specs.Combined.{CallLoaded, Combined, CohortHeld, ListReady, Measurement, TextsAnswered, TextsFit, listTo, listWithin, textsOf};
 ghost use Rattle.combine_gvcfs.specs.Contigs.{AllReady, OneReady, allRecords, givenClip, recordsOn};
-ghost use Rattle.contig_walk.specs.Walk.{RecordsWalked};
+ghost use Rattle.contig_walk.specs.Walk.{RecordsWalked, WalkRoom};
 use answers::Outcome;
 use cohort::CohortRead;
 use contig_walk::Walked;
@@ -31,7 +31,7 @@ fn given_clip<'a>(clipped: bool, clip: &'a [u8]) -> &'a [u8]
     &clip[..0]
 }
 
-// Lays the records of a contig, which is named by the number of its first site: rows 10 to 13.
+// Lays the records of a contig, which is named by the number of its first site: rows 10 to 13. `chosen` takes the numbers of its sites.
 fn walk_one<'a>(
     s: &'a [u8],
     rows: &[usize],
@@ -43,18 +43,21 @@ fn walk_one<'a>(
     first: usize,
     order: &[usize],
     runs: &[usize],
+    chosen: &mut [usize],
     scratch: &mut [u64],
+    held: &mut [u8],
+    fresh: &mut [u8],
+    alts: &mut [u8],
     out: &mut [u8],
     at: usize,
     count: usize,
 ) -> Walked
-    requires { ⌜ OneReady (now s) (now rows) samples clipped (now clip) referenced (now reference) first (now order) (now runs) (now out) at count ⌝ }
+    requires { ⌜ OneReady (now s) (now rows) samples clipped (now clip) referenced (now reference) first (now order) (now runs) (now out) at count × WalkRoom (now held) (now fresh) (now alts) × (length (now order) ≤ length (now chosen)) ⌝ }
     ensures { λ r. ⌜ ((ready : OneReady (now (s .entry)) (now (rows .entry)) samples clipped (now (clip .entry)) referenced (now (reference .entry)) first (now (order .entry)) (now (runs .entry)) (now (out .entry)) at count)
         → RecordsWalked (recordsOn (ready .tables) (length (now (scratch .entry))) first) (ready .d₀) (ready .bytes) (ready .records) (now (out .exit)) r) ⌝ }
 {
-    let mut chosen = [0usize; 4096];
     let mut bounds = [0usize; 65];
-    covering_sites::select_contig(rows, order, runs, samples, first, &mut chosen, &mut bounds);
+    covering_sites::select_contig(rows, order, runs, samples, first, chosen, &mut bounds);
     let end = bounds[samples];
     let contig = tables::contig_name(s, rows, first);
     let spans = given_clip(clipped, clip);
@@ -70,9 +73,12 @@ fn walk_one<'a>(
             referenced,
             reference,
             contig,
-            &chosen,
+            chosen,
             &bounds,
             &scratch[..n],
+            held,
+            fresh,
+            alts,
             out,
             at,
             count,
@@ -92,14 +98,18 @@ fn walk_contigs<'a>(
     contigs: &[usize],
     order: &[usize],
     runs: &[usize],
+    chosen: &mut [usize],
     scratch: &mut [u64],
     out: &mut [u8],
     at: usize,
 ) -> Walked
-    requires { ⌜ AllReady (now s) (now rows) samples clipped (now clip) referenced (now reference) (now contigs) (now order) (now runs) (now out) at ⌝ }
+    requires { ⌜ AllReady (now s) (now rows) samples clipped (now clip) referenced (now reference) (now contigs) (now order) (now runs) (now out) at × (length (now order) ≤ length (now chosen)) ⌝ }
     ensures { λ r. ⌜ ((ready : AllReady (now (s .entry)) (now (rows .entry)) samples clipped (now (clip .entry)) referenced (now (reference .entry)) (now (contigs .entry)) (now (order .entry)) (now (runs .entry)) (now (out .entry)) at)
         → RecordsWalked (allRecords (ready .tables) (length (now (scratch .entry)))) (ready .d₀) (ready .bytes) 0 (now (out .exit)) r) ⌝ }
 {
+    let mut held = [0u8; 8192];
+    let mut fresh = [0u8; 8192];
+    let mut alts = [0u8; 4096];
     let mut next = at;
     let mut count = 0;
     for c in 0..contigs.len() {
@@ -115,7 +125,11 @@ fn walk_contigs<'a>(
             first,
             order,
             runs,
+            chosen,
             scratch,
+            &mut held,
+            &mut fresh,
+            &mut alts,
             out,
             next,
             count,
@@ -146,12 +160,13 @@ fn write_list<'a>(
     contigs: &[usize],
     order: &[usize],
     runs: &[usize],
+    chosen: &mut [usize],
     scratch: &mut [u64],
     out: &mut [u8],
     len: usize,
     count: usize,
 )
-    requires { ⌜ Measurement (now s) (now names) (now rows) samples clipped (now clip) referenced (now reference) (now contigs) (now order) (now runs) (length (now scratch)) len count × (length (now out) ≤ limit) ⌝ }
+    requires { ⌜ Measurement (now s) (now names) (now rows) samples clipped (now clip) referenced (now reference) (now contigs) (now order) (now runs) (length (now scratch)) len count × (length (now out) ≤ limit) × (length (now order) ≤ length (now chosen)) ⌝ }
     ensures { λ _. ⌜ ((m : Measurement (now (s .entry)) (now (names .entry)) (now (rows .entry)) samples clipped (now (clip .entry)) referenced (now (reference .entry)) (now (contigs .entry)) (now (order .entry)) (now (runs .entry)) (length (now (scratch .entry))) len count)
         → length (now (out .entry)) ≡ length (listTo m) → now (out .exit) ≡ listTo m) ⌝ }
 {
@@ -167,6 +182,7 @@ fn write_list<'a>(
         contigs,
         order,
         runs,
+        chosen,
         scratch,
         out,
         at,
@@ -186,12 +202,13 @@ fn write_measured<'a>(
     contigs: &[usize],
     order: &[usize],
     runs: &[usize],
+    chosen: &mut [usize],
     scratch: &mut [u64],
     out: &mut [u8],
     len: usize,
     count: usize,
 ) -> Outcome
-    requires { ⌜ Measurement (now s) (now names) (now rows) samples clipped (now clip) referenced (now reference) (now contigs) (now order) (now runs) (length (now scratch)) len count ⌝ }
+    requires { ⌜ Measurement (now s) (now names) (now rows) samples clipped (now clip) referenced (now reference) (now contigs) (now order) (now runs) (length (now scratch)) len count × (length (now order) ≤ length (now chosen)) ⌝ }
     ensures { λ r. ⌜ ((m : Measurement (now (s .entry)) (now (names .entry)) (now (rows .entry)) samples clipped (now (clip .entry)) referenced (now (reference .entry)) (now (contigs .entry)) (now (order .entry)) (now (runs .entry)) (length (now (scratch .entry))) len count)
         → Answered (within (length (now (out .entry))) (listTo m)) (now (out .entry)) (now (out .exit)) r) ⌝ }
 {
@@ -212,6 +229,7 @@ fn write_measured<'a>(
         contigs,
         order,
         runs,
+        chosen,
         scratch,
         &mut out[..end],
         len,
@@ -234,10 +252,11 @@ fn combine_contigs<'a>(
     contigs: &[usize],
     order: &[usize],
     runs: &[usize],
+    chosen: &mut [usize],
     scratch: &mut [u64],
     out: &mut [u8],
 ) -> Outcome
-    requires { ⌜ ListReady (now s) (now names) (now rows) samples clipped (now clip) referenced (now reference) (now contigs) (now order) (now runs) ⌝ }
+    requires { ⌜ ListReady (now s) (now names) (now rows) samples clipped (now clip) referenced (now reference) (now contigs) (now order) (now runs) × (length (now order) ≤ length (now chosen)) ⌝ }
     ensures { λ r. ⌜ ((ready : ListReady (now (s .entry)) (now (names .entry)) (now (rows .entry)) samples clipped (now (clip .entry)) referenced (now (reference .entry)) (now (contigs .entry)) (now (order .entry)) (now (runs .entry)))
         → Answered (listWithin (ready .tables .loaded) (length (now (scratch .entry))) (length (now (out .entry)))) (now (out .entry)) (now (out .exit)) r) ⌝ }
 {
@@ -252,6 +271,7 @@ fn combine_contigs<'a>(
         contigs,
         order,
         runs,
+        chosen,
         scratch,
         &mut out[..0],
         0,
@@ -270,6 +290,7 @@ fn combine_contigs<'a>(
             contigs,
             order,
             runs,
+            chosen,
             scratch,
             out,
             len,
@@ -300,6 +321,7 @@ fn combine_loaded<'a>(
     let mut runs = [0usize; 65];
     covering_sites::group_by_sample(rows, sites, samples, &mut order, &mut runs);
     let mut firsts = [0usize; 4096];
+    let mut chosen = [0usize; 4096];
     let count = contigs::order_contigs(s, rows, sites, &mut firsts);
     combine_contigs(
         s,
@@ -313,6 +335,7 @@ fn combine_loaded<'a>(
         &firsts[..count],
         &order,
         &runs,
+        &mut chosen,
         scratch,
         out,
     )

@@ -1,5 +1,5 @@
 -- What walking over the intervals of a contig finds and lays.
-use Prim.Native.Nat.{_+_, ℕ}
+use Prim.Native.Nat.{_+_, _≤_, ℕ}
 use lib.ListN.{length}
 use mathlib.Core.Bool.{Bool, true}
 use mathlib.Core.List.{List, _++_, flatMap}
@@ -38,6 +38,12 @@ pub record WalkReady (s rows : List ℕ) (samples : ℕ) (clipped : Bool) (clip 
   pub runs : ContigRuns s rows samples referenced reference contig chosen bounds
   pub clip-given : ClipGiven clipped clip rows (runs .on .loaded .input)
   pub all-places : places ≡ breakpoints (runs .on .loaded .input .cohort .sites) (runs .on .loaded .input .clip) contig
+
+-- the buffers that the walk fills are long enough
+pub record WalkRoom (held fresh alts : List ℕ) : Type 0 where
+  pub for-held : 8192 ≤ length held
+  pub for-fresh : 8192 ≤ length fresh
+  pub for-alts : 4096 ≤ length alts
 
 -- these records are laid behind bytes of so many records
 pub record RecordsLaid (records : Checked (List Record)) (d₀ bytes : List ℕ) (before : ℕ) (out : List ℕ) (at count : ℕ) : Type 0 where

@@ -16,7 +16,7 @@ ghost use Rattle.merged_records.specs.Loaded.{chosenLetters};
 ghost use Rattle.merged_ref.specs.Answers.{refBytes};
 ghost use Rattle.record_laws.specs.Pending.{mergedContig};
 ghost use Rattle.contig_walk.specs.Laying.{LayReady, TurnReady, Turns, laidRecord};
-ghost use Rattle.contig_walk.specs.Walk.{Begun, ClipGiven, RecordsWalked, WalkReady};
+ghost use Rattle.contig_walk.specs.Walk.{Begun, ClipGiven, RecordsWalked, WalkReady, WalkRoom};
 use bio_ids::GenomePosition;
 use coalescing::Pending;
 use coalescing::Stepped;
@@ -259,7 +259,8 @@ fn walk_interval<'a>(
     }
 }
 
-// Lays the records of a contig behind those before it, as far as they fit: rows 11 to 13.
+// Lays the records of a contig behind those before it, as far as they fit: rows 11 to 13. `held` and `fresh` take the samples'
+// lines of the record that is held back and of the next one, `alts` its ALTs.
 pub fn walk_contig<'a>(
     s: &'a [u8],
     rows: &[usize],
@@ -272,19 +273,19 @@ pub fn walk_contig<'a>(
     chosen: &[usize],
     bounds: &[usize],
     places: &[u64],
+    held: &mut [u8],
+    fresh: &mut [u8],
+    alts: &mut [u8],
     out: &mut [u8],
     at: usize,
     count: usize,
 ) -> Walked
-    requires { ⌜ WalkReady (now s) (now rows) samples clipped (now clip) referenced (now reference) (now contig) (now chosen) (now bounds) (now places) × Begun (now out) at count ⌝ }
+    requires { ⌜ WalkReady (now s) (now rows) samples clipped (now clip) referenced (now reference) (now contig) (now chosen) (now bounds) (now places) × Begun (now out) at count × WalkRoom (now held) (now fresh) (now alts) ⌝ }
     ensures { λ r. ⌜ ((ready : WalkReady (now (s .entry)) (now (rows .entry)) samples clipped (now (clip .entry)) referenced (now (reference .entry)) (now (contig .entry)) (now (chosen .entry)) (now (bounds .entry)) (now (places .entry)))
         (d₀ bytes : List ℕ) (records : ℕ) → Progress d₀ bytes records (now (out .entry)) at count
         → RecordsWalked (mergedContig (ready .runs .on .loaded .input) (chosenLetters (ready .runs .on .loaded)) (now (contig .entry))) d₀ bytes records (now (out .exit)) r) ⌝ }
 {
-    let mut held = [0u8; 8192];
-    let mut fresh = [0u8; 8192];
     let mut found = [0usize; 64];
-    let mut alts = [0u8; 4096];
     let mut from = [0usize; 64];
     covering_sites::start_search(bounds, samples, &mut from);
     let mut state = Stepped {
@@ -313,10 +314,10 @@ pub fn walk_contig<'a>(
             first,
             last,
             pending,
-            &mut held,
-            &mut fresh,
+            held,
+            fresh,
             &mut found,
-            &mut alts,
+            alts,
             out,
             state.at,
             state.count,
@@ -332,7 +333,7 @@ pub fn walk_contig<'a>(
         }
     }
     let pending = state.pending;
-    let end = coalescing::put_pending(s, rows, reference, contig, &held, pending, out, state.at);
+    let end = coalescing::put_pending(s, rows, reference, contig, held, pending, out, state.at);
     let total = coalescing::count_pending(state.count, pending);
     Walked::To(list_header::cap(end), total)
 }

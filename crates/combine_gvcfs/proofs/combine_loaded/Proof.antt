@@ -2,7 +2,7 @@
 use borrow.Author.Needs.{needs}
 use mathlib.Core.Path.{refl}
 use native.Mathlib.Omega.{arith}
-use Rattle.combine_gvcfs.proofs.Loading.{equal-few, firsts-within, list-ready, loaded-answered, sites-few}
+use Rattle.combine_gvcfs.proofs.Loading.{firsts-within, list-ready, loaded-answered, sites-few}
 use Rattle.combine_gvcfs.proofs.OneContig.{taken-exactly}
 use Rattle.combine_gvcfs.proofs.combine_loaded.Statement.{statement}
 use Rattle.combine_gvcfs.proofs.combine_loaded.Tie as tie
@@ -34,8 +34,11 @@ slice-aggregate-combine-contigs-2 c = search needs
 slice-aggregate-combine-contigs-3 : tie.Need-slice-aggregate-combine-contigs-3
 slice-aggregate-combine-contigs-3 c = search needs
 
+slice-aggregate-combine-contigs-4 : tie.Need-slice-aggregate-combine-contigs-4
+slice-aggregate-combine-contigs-4 c = search needs
+
 combine-contigs-requires : tie.Need-combine-contigs-requires
-combine-contigs-requires c κs = list-ready ((c .before .before .before .before .before .before .before .before .before .before .before .before .before .before .before .before .before .before .before .before .pre)) refl ((c .before .before .before .before .before .before .order-contigs .ensures) _ ((c .before .before .before .before .before .before .before .before .before .before .before .before .before .before .before .before .before .before .before .before .pre .loaded .table)) ((c .before .before .before .before .before .before .before .before .before .before .before .before .before .before .before .before .before .before .before .before .pre .all-sites))) (equal-few ((c .before .before .before .before .before .before .before .before .before .before .group-by-sample .kept .1 .1 .1 .0))) ((c .before .before .before .before .before .before .before .before .before .before .group-by-sample .ensures))
+combine-contigs-requires c κs = (list-ready ((c .before .before .before .before .before .before .before .before .before .before .before .before .before .before .before .before .before .before .before .before .before .pre)) refl ((c .before .before .before .before .before .before .before .order-contigs .ensures) _ ((c .before .before .before .before .before .before .before .before .before .before .before .before .before .before .before .before .before .before .before .before .before .pre .loaded .table)) ((c .before .before .before .before .before .before .before .before .before .before .before .before .before .before .before .before .before .before .before .before .before .pre .all-sites))) ((c .before .before .before .before .before .before .before .before .before .before .before .group-by-sample .ensures)), omega (arith, (c .before .before .before .before .before .before .before .before .before .before .before .group-by-sample .kept .1 .1 .1 .0)))
 
 same-length : tie.Need-same-length
 same-length c = search needs
@@ -44,7 +47,7 @@ same-length-2 : tie.Need-same-length-2
 same-length-2 c = search needs
 
 returns : tie.Need-returns
-returns c = λ call. loaded-answered call refl ((c .before .before .before .before .before .before .before .before .before .before .before .order-contigs .ensures) _ (call .loaded .table) (call .all-sites)) (equal-few ((c .before .before .before .before .before .before .before .before .before .before .before .before .before .before .before .group-by-sample .kept .1 .1 .1 .0))) ((c .before .before .before .before .before .before .before .before .before .before .before .before .before .before .before .group-by-sample .ensures)) _ ((c .before .before .before .before .combine-contigs .ensures))
+returns c = λ call. loaded-answered call refl ((c .before .before .before .before .before .before .before .before .before .before .before .before .before .order-contigs .ensures) _ (call .loaded .table) (call .all-sites)) ((c .before .before .before .before .before .before .before .before .before .before .before .before .before .before .before .before .before .group-by-sample .ensures)) _ ((c .before .before .before .before .before .combine-contigs .ensures))
 
 pub combine-loaded-spec : {M : Type 1} → statement M
 combine-loaded-spec =
@@ -59,6 +62,7 @@ combine-loaded-spec =
     slice-aggregate-combine-contigs
     slice-aggregate-combine-contigs-2
     slice-aggregate-combine-contigs-3
+    slice-aggregate-combine-contigs-4
     combine-contigs-requires
     same-length
     same-length-2

@@ -2,7 +2,7 @@
 use Prim.Native.Nat.{_-_}
 use borrow.Author.Needs.{needs}
 use lib.ListN.{length}
-use mathlib.Core.Path.{_∙_, _≡_}
+use mathlib.Core.Path.{_∙_, _≡_, refl}
 use native.Mathlib.Omega.{arith}
 use Rattle.combine_gvcfs.proofs.AllContigs.{Going, going-end, going-next, going-refused, going-start, one-ready}
 use Rattle.combine_gvcfs.specs.Contigs.{AllReady}
@@ -10,15 +10,16 @@ use Rattle.combine_gvcfs.proofs.walk_contigs.Statement.{statement}
 use Rattle.combine_gvcfs.proofs.walk_contigs.Tie as tie
 
 abbrev Inv-loop : tie.InvT-loop
-Inv-loop s rows samples clipped clip referenced reference contigs order runs scratch₀ out₀ at next₀ count₀ c₀ c-end scratch out next count c =
+Inv-loop s rows samples clipped clip referenced reference contigs order runs chosen₀ scratch₀ out₀ at held₀ fresh₀ alts₀ next₀ count₀ c₀ c-end chosen scratch out held fresh alts next count c =
     (length scratch ≡ length scratch₀) × (length out ≡ length out₀)
     × ((ready : AllReady s rows samples clipped clip referenced reference contigs order runs out₀ at) → Going ready (length scratch₀) out next count c)
+    × (length held ≡ 8192) × (length fresh ≡ 8192) × (length alts ≡ 4096) × (length chosen ≡ length chosen₀)
 
 abbrev μ-loop : tie.MeasureT-loop
-μ-loop s rows samples clipped clip referenced reference contigs order runs scratch₀ out₀ at next₀ count₀ c₀ c-end scratch out next count c = c-end - c
+μ-loop s rows samples clipped clip referenced reference contigs order runs chosen₀ scratch₀ out₀ at held₀ fresh₀ alts₀ next₀ count₀ c₀ c-end chosen scratch out held fresh alts next count c = c-end - c
 
 loop-holds : tie.Need-loop-holds Inv-loop μ-loop
-loop-holds c = (search needs, search needs, λ ready. going-start ready _)
+loop-holds c = (search needs, search needs, (λ ready. going-start ready _), refl, refl, refl, refl)
 
 mul-first : tie.Need-mul-first Inv-loop μ-loop
 mul-first c = search needs
@@ -26,38 +27,53 @@ mul-first c = search needs
 shared-slice-read-first : tie.Need-shared-slice-read-first Inv-loop μ-loop
 shared-slice-read-first c = search needs
 
+slice-aggregate-walk-one : tie.Need-slice-aggregate-walk-one Inv-loop μ-loop
+slice-aggregate-walk-one c = search needs
+
+slice-aggregate-walk-one-2 : tie.Need-slice-aggregate-walk-one-2 Inv-loop μ-loop
+slice-aggregate-walk-one-2 c = search needs
+
+slice-aggregate-walk-one-3 : tie.Need-slice-aggregate-walk-one-3 Inv-loop μ-loop
+slice-aggregate-walk-one-3 c = search needs
+
 walk-one-requires : tie.Need-walk-one-requires Inv-loop μ-loop
-walk-one-requires c κs = one-ready ((c .before .before .before .before .before .before .before .before .before .before .before .before .before .before .pre)) _ ((c .before .before .before .before .loop .inv .2) ((c .before .before .before .before .before .before .before .before .before .before .before .before .before .before .pre))) ((c .before .before .before .loop-test .taken))
+walk-one-requires c κs = (one-ready ((c .before .before .before .before .before .before .before .before .before .before .before .before .before .before .before .before .before .before .before .pre .0)) _ ((c .before .before .before .before .before .before .before .before .loop .inv .2) ((c .before .before .before .before .before .before .before .before .before .before .before .before .before .before .before .before .before .before .before .pre .0))) ((c .before .before .before .before .before .before .before .loop-test .taken)), record { for-held = omega (arith, (c .before .before .before .before .before .before .before .before .loop .inv .3)); for-fresh = omega (arith, (c .before .before .before .before .before .before .before .before .loop .inv .4)); for-alts = omega (arith, (c .before .before .before .before .before .before .before .before .loop .inv .5)) }, omega (arith, (c .before .before .before .before .before .before .before .before .loop .inv .6), (c .before .before .before .before .before .before .before .before .before .before .before .before .before .before .before .before .before .before .before .pre .1)))
 
 enum-known-walked : tie.Need-enum-known-walked Inv-loop μ-loop
 enum-known-walked c = search needs
 
 same-length : tie.Need-same-length Inv-loop μ-loop
-same-length c = (c .before .before .before .before .before .before .before .walk-one .kept .1 .1 .1 .1 .1 .1 .1 .1 .1 .1 .0) ∙ (c .before .before .before .before .before .before .before .before .before .before .before .before .loop .inv .0)
+same-length c = (c .before .before .before .before .before .before .before .before .before .before .before .before .walk-one .kept .1 .1 .1 .1 .1 .1 .1 .1 .1 .1 .0) ∙ (c .before .before .before .before .before .before .before .before .before .before .before .before .before .before .before .before .before .before .before .before .before .loop .inv .6)
 
 same-length-2 : tie.Need-same-length-2 Inv-loop μ-loop
-same-length-2 c = (c .before .before .before .before .before .before .before .walk-one .kept .1 .1 .1 .1 .1 .1 .1 .1 .1 .1 .1 .0) ∙ (c .before .before .before .before .before .before .before .before .before .before .before .before .loop .inv .1)
+same-length-2 c = (c .before .before .before .before .before .before .before .before .before .before .before .before .walk-one .kept .1 .1 .1 .1 .1 .1 .1 .1 .1 .1 .1 .0) ∙ (c .before .before .before .before .before .before .before .before .before .before .before .before .before .before .before .before .before .before .before .before .before .loop .inv .0)
+
+same-length-3 : tie.Need-same-length-3 Inv-loop μ-loop
+same-length-3 c = (c .before .before .before .before .before .before .before .before .before .before .before .before .walk-one .kept .1 .1 .1 .1 .1 .1 .1 .1 .1 .1 .1 .1 .1 .1 .1 .0) ∙ (c .before .before .before .before .before .before .before .before .before .before .before .before .before .before .before .before .before .before .before .before .before .loop .inv .1)
 
 returns : tie.Need-returns Inv-loop μ-loop
-returns c = λ ready. going-refused ready _ ((c .before .before .before .before .before .before .before .before .before .before .before .before .loop .inv .2) ready) ((c .before .before .before .before .before .before .before .before .before .before .before .loop-test .taken)) _ _ _ ((c .before .before .before .before .before .before .before .before .before .before .before .before .loop .inv .0)) ((c .before .walked .given .1)) ((c .before .before .before .before .before .before .before .walk-one .ensures))
+returns c = λ ready. going-refused ready _ ((c .before .before .before .before .before .before .before .before .before .before .before .before .before .before .before .before .before .before .before .before .before .loop .inv .2) ready) ((c .before .before .before .before .before .before .before .before .before .before .before .before .before .before .before .before .before .before .before .before .loop-test .taken)) _ _ _ ((c .before .before .before .before .before .before .before .before .before .before .before .before .before .before .before .before .before .before .before .before .before .loop .inv .0)) ((c .before .walked .given .1)) ((c .before .before .before .before .before .before .before .before .before .before .before .before .walk-one .ensures))
 
 enum-known-walked-2 : tie.Need-enum-known-walked-2 Inv-loop μ-loop
 enum-known-walked-2 c = search needs
 
 add-c : tie.Need-add-c Inv-loop μ-loop
-add-c c = omega (arith, (c .before .before .before .before .before .before .before .before .before .before .before .loop-test .taken), (c .before .before .before .before .before .before .before .before .before .before .before .before .before .before .before .before .before .before .before .before .before .before .good .1 .1 .1 .1 .1 .1 .1 .0 .0))
+add-c c = omega (arith, (c .before .before .before .before .before .before .before .before .before .before .before .before .before .before .before .before .before .before .before .before .loop-test .taken), (c .before .before .before .before .before .before .before .before .before .before .before .before .before .before .before .before .before .before .before .before .before .before .before .before .before .before .before .before .before .before .before .before .good .1 .1 .1 .1 .1 .1 .1 .0 .0))
 
 loop-less : tie.Need-loop-less Inv-loop μ-loop
 loop-less c = search needs
 
 loop-again : tie.Need-loop-again Inv-loop μ-loop
-loop-again c = ((c .before .before .before .before .before .before .before .walk-one .kept .1 .1 .1 .1 .1 .1 .1 .1 .1 .1 .0) ∙ (c .before .before .before .before .before .before .before .before .before .before .before .before .loop .inv .0), (c .before .before .before .before .before .before .before .walk-one .kept .1 .1 .1 .1 .1 .1 .1 .1 .1 .1 .1 .0) ∙ (c .before .before .before .before .before .before .before .before .before .before .before .before .loop .inv .1), λ ready. going-next ready _ ((c .before .before .before .before .before .before .before .before .before .before .before .before .loop .inv .2) ready) ((c .before .before .before .before .before .before .before .before .before .before .before .loop-test .taken)) _ _ _ _ ((c .before .before .before .before .before .before .before .before .before .before .before .before .loop .inv .0)) ((c .before .walked2 .given .1)) ((c .before .before .before .before .before .before .before .walk-one .ensures)))
-
-same-length-3 : tie.Need-same-length-3 Inv-loop μ-loop
-same-length-3 c = (c .before .loop .inv .0)
+loop-again c = ((c .before .before .before .before .before .before .before .before .before .before .before .before .walk-one .kept .1 .1 .1 .1 .1 .1 .1 .1 .1 .1 .1 .0) ∙ (c .before .before .before .before .before .before .before .before .before .before .before .before .before .before .before .before .before .before .before .before .before .loop .inv .0), (c .before .before .before .before .before .before .before .before .before .before .before .before .walk-one .kept .1 .1 .1 .1 .1 .1 .1 .1 .1 .1 .1 .1 .1 .1 .1 .0) ∙ (c .before .before .before .before .before .before .before .before .before .before .before .before .before .before .before .before .before .before .before .before .before .loop .inv .1), (λ ready. going-next ready _ ((c .before .before .before .before .before .before .before .before .before .before .before .before .before .before .before .before .before .before .before .before .before .loop .inv .2) ready) ((c .before .before .before .before .before .before .before .before .before .before .before .before .before .before .before .before .before .before .before .before .loop-test .taken)) _ _ _ _ ((c .before .before .before .before .before .before .before .before .before .before .before .before .before .before .before .before .before .before .before .before .before .loop .inv .0)) ((c .before .walked2 .given .1)) ((c .before .before .before .before .before .before .before .before .before .before .before .before .walk-one .ensures))), (c .before .before .before .before .before .before .before .before .before .before .before .before .walk-one .kept .1 .1 .1 .1 .1 .1 .1 .1 .1 .1 .1 .1 .0) ∙ (c .before .before .before .before .before .before .before .before .before .before .before .before .before .before .before .before .before .before .before .before .before .loop .inv .3), (c .before .before .before .before .before .before .before .before .before .before .before .before .walk-one .kept .1 .1 .1 .1 .1 .1 .1 .1 .1 .1 .1 .1 .1 .0) ∙ (c .before .before .before .before .before .before .before .before .before .before .before .before .before .before .before .before .before .before .before .before .before .loop .inv .4), (c .before .before .before .before .before .before .before .before .before .before .before .before .walk-one .kept .1 .1 .1 .1 .1 .1 .1 .1 .1 .1 .1 .1 .1 .1 .0) ∙ (c .before .before .before .before .before .before .before .before .before .before .before .before .before .before .before .before .before .before .before .before .before .loop .inv .5), (c .before .before .before .before .before .before .before .before .before .before .before .before .walk-one .kept .1 .1 .1 .1 .1 .1 .1 .1 .1 .1 .0) ∙ (c .before .before .before .before .before .before .before .before .before .before .before .before .before .before .before .before .before .before .before .before .before .loop .inv .6))
 
 same-length-4 : tie.Need-same-length-4 Inv-loop μ-loop
-same-length-4 c = (c .before .loop .inv .1)
+same-length-4 c = (c .before .loop .inv .6)
+
+same-length-5 : tie.Need-same-length-5 Inv-loop μ-loop
+same-length-5 c = (c .before .loop .inv .0)
+
+same-length-6 : tie.Need-same-length-6 Inv-loop μ-loop
+same-length-6 c = (c .before .loop .inv .1)
 
 returns-2 : tie.Need-returns-2 Inv-loop μ-loop
 returns-2 c = λ ready. going-end ready _ ((c .before .loop .inv .2) ready) ((c .loop-test .left))
@@ -71,15 +87,20 @@ walk-contigs-spec =
     loop-holds
     mul-first
     shared-slice-read-first
+    slice-aggregate-walk-one
+    slice-aggregate-walk-one-2
+    slice-aggregate-walk-one-3
     walk-one-requires
     enum-known-walked
     same-length
     same-length-2
+    same-length-3
     returns
     enum-known-walked-2
     add-c
     loop-less
     loop-again
-    same-length-3
     same-length-4
+    same-length-5
+    same-length-6
     returns-2)

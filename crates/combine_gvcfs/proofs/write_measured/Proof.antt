@@ -7,7 +7,7 @@ use Rattle.combine_gvcfs.proofs.write_measured.Statement.{statement}
 use Rattle.combine_gvcfs.proofs.write_measured.Tie as tie
 
 cast-put-header : tie.Need-cast-put-header
-cast-put-header c = omega (arith, count-low ((c .before .before .before .before .before .before .before .before .before .before .pre)))
+cast-put-header c = omega (arith, count-low ((c .before .before .before .before .before .before .before .before .before .before .before .pre .0)))
 
 slice-relend-prefix-put-header : tie.Need-slice-relend-prefix-put-header
 slice-relend-prefix-put-header c = search needs
@@ -19,7 +19,7 @@ put-header-requires : tie.Need-put-header-requires
 put-header-requires c κs = search needs
 
 add-end : tie.Need-add-end
-add-end c = omega (arith, end-low ((c .before .before .before .before .before .before .before .before .before .before .before .before .before .before .pre)) ((c .before .before .put-header .ensures)))
+add-end c = omega (arith, end-low ((c .before .before .before .before .before .before .before .before .before .before .before .before .before .before .before .pre .0)) ((c .before .before .put-header .ensures)))
 
 same-length : tie.Need-same-length
 same-length c = search needs
@@ -31,10 +31,10 @@ slice-relend-prefix-write-list : tie.Need-slice-relend-prefix-write-list
 slice-relend-prefix-write-list c = search needs
 
 slice-aggregate-write-list : tie.Need-slice-aggregate-write-list
-slice-aggregate-write-list c = taken-exactly _ _ ((c .before .before .if1 .left))
+slice-aggregate-write-list c = taken-exactly _ _ ((c .before .before .before .if1 .left))
 
 write-list-requires : tie.Need-write-list-requires
-write-list-requires c κs = ((c .before .before .before .before .before .before .before .before .before .before .before .before .before .before .before .before .before .pre), part-low ((c .before .before .before .before .before .before .before .before .before .before .before .before .before .before .before .before .before .pre)) ((c .before .before .before .before .before .put-header .ensures)) _)
+write-list-requires c κs = ((c .before .before .before .before .before .before .before .before .before .before .before .before .before .before .before .before .before .before .before .pre .0), part-low ((c .before .before .before .before .before .before .before .before .before .before .before .before .before .before .before .before .before .before .before .pre .0)) ((c .before .before .before .before .before .before .put-header .ensures)) _, (c .before .before .before .before .before .before .before .before .before .before .before .before .before .before .before .before .before .before .before .pre .1))
 
 same-length-2 : tie.Need-same-length-2
 same-length-2 c = search needs
@@ -42,8 +42,11 @@ same-length-2 c = search needs
 same-length-3 : tie.Need-same-length-3
 same-length-3 c = search needs
 
+same-length-4 : tie.Need-same-length-4
+same-length-4 c = search needs
+
 returns-2 : tie.Need-returns-2
-returns-2 c = λ m. fitting-answered m ((c .before .before .before .before .before .before .before .before .before .before .put-header .ensures)) _ ((c .before .before .before .before .before .before .before .if1 .left)) ((c .before .before .before .before .write-list .ensures))
+returns-2 c = λ m. fitting-answered m ((c .before .before .before .before .before .before .before .before .before .before .before .before .before .put-header .ensures)) _ ((c .before .before .before .before .before .before .before .before .before .before .if1 .left)) ((c .before .before .before .before .before .before .write-list .ensures))
 
 pub write-measured-spec : {M : Type 1} → statement M
 write-measured-spec =
@@ -61,4 +64,5 @@ write-measured-spec =
     write-list-requires
     same-length-2
     same-length-3
+    same-length-4
     returns-2)

@@ -13,26 +13,26 @@ use Rattle.contig_walk.proofs.walk_contig.Statement.{statement}
 use Rattle.contig_walk.proofs.walk_contig.Tie as tie
 
 abbrev Inv-loop : tie.InvT-loop
-Inv-loop s rows samples clipped clip referenced reference contig chosen bounds places out₀ at count held₀ fresh₀ found₀ alts₀ from₀ state₀ k₀ out held fresh found alts from state k =
-    (length held ≡ 8192) × (length out ≡ length out₀) × (k ≤ length places)
+Inv-loop s rows samples clipped clip referenced reference contig chosen bounds places held₀ fresh₀ alts₀ out₀ at count found₀ from₀ state₀ k₀ held fresh alts out found from state k =
+    (length held ≡ length held₀) × (length out ≡ length out₀) × (k ≤ length places)
     × ((ready : WalkReady s rows samples clipped clip referenced reference contig chosen bounds places) (d₀ bytes : List ℕ) (records : ℕ)
     → Progress d₀ bytes records out₀ at count → Walking ready d₀ bytes records out held state k)
-    × (length fresh ≡ 8192) × (length found ≡ 64) × (length alts ≡ 4096) × (length from ≡ 64) × Ended rows chosen bounds from samples (getD places k 0)
+    × (length fresh ≡ length fresh₀) × (length found ≡ 64) × (length alts ≡ length alts₀) × (length from ≡ 64) × Ended rows chosen bounds from samples (getD places k 0)
 
 abbrev μ-loop : tie.MeasureT-loop
-μ-loop s rows samples clipped clip referenced reference contig chosen bounds places out₀ at count held₀ fresh₀ found₀ alts₀ from₀ state₀ k₀ out held fresh found alts from state k = length places - k
+μ-loop s rows samples clipped clip referenced reference contig chosen bounds places held₀ fresh₀ alts₀ out₀ at count found₀ from₀ state₀ k₀ held fresh alts out found from state k = length places - k
 
 slice-aggregate-start-search : tie.Need-slice-aggregate-start-search Inv-loop μ-loop
 slice-aggregate-start-search c = search needs
 
 start-search-requires : tie.Need-start-search-requires Inv-loop μ-loop
-start-search-requires c κs = (((c .before .before .before .before .before .before .before .before .before .before .pre .0 .runs .in-runs .bounded .long)), omega (arith, (c .before .before .before .before .before .before .before .before .before .before .pre .0 .runs .on .loaded .few)))
+start-search-requires c κs = (((c .before .before .before .before .before .before .before .before .before .before .before .before .before .pre .0 .runs .in-runs .bounded .long)), omega (arith, (c .before .before .before .before .before .before .before .before .before .before .before .before .before .pre .0 .runs .on .loaded .few)))
 
 loop-holds : tie.Need-loop-holds Inv-loop μ-loop
-loop-holds c = (refl, refl, omega arith, (λ ready d₀ bytes records p. walking-start ready d₀ bytes records _ _ _ _ p), refl, refl, refl, (c .before .start-search .kept .1 .1 .0), search-start (c .before .before .before .before .before .before .before .before .before .before .before .before .pre .0) (omega (arith, (c .before .before .before .before .before .before .before .before .before .before .before .before .pre .0 .runs .on .loaded .few))) (c .before .start-search .ensures))
+loop-holds c = (refl, refl, omega arith, (λ ready d₀ bytes records p. walking-start ready d₀ bytes records _ _ _ _ p), refl, refl, refl, (c .before .start-search .kept .1 .1 .0), search-start (c .before .before .before .before .before .before .before .before .before .before .before .before .before .before .before .pre .0) (omega (arith, (c .before .before .before .before .before .before .before .before .before .before .before .before .before .before .before .pre .0 .runs .on .loaded .few))) (c .before .start-search .ensures))
 
 add-loop : tie.Need-add-loop Inv-loop μ-loop
-add-loop c = omega (arith, (c .loop .inv .2), (c .before .before .before .before .before .before .before .before .before .before .before .before .before .good))
+add-loop c = omega (arith, (c .loop .inv .2), (c .before .before .before .before .before .before .before .before .before .before .before .before .before .before .before .before .good))
 
 mul-new-1based : tie.Need-mul-new-1based Inv-loop μ-loop
 mul-new-1based c = search needs
@@ -44,16 +44,16 @@ new-1based-requires : tie.Need-new-1based-requires Inv-loop μ-loop
 new-1based-requires c κs = search needs
 
 add-new-1based : tie.Need-add-new-1based Inv-loop μ-loop
-add-new-1based c = search needs
+add-new-1based c = omega (arith, (c .before .before .loop-test .taken), (c .before .before .before .before .before .before .before .before .before .before .before .before .before .before .before .before .before .before .before .good))
 
 mul-new-1based-2 : tie.Need-mul-new-1based-2 Inv-loop μ-loop
-mul-new-1based-2 c = search needs
+mul-new-1based-2 c = omega (arith, (c .before .before .loop-test .taken), (c .before .before .before .before .before .before .before .before .before .before .before .before .before .before .before .before .before .before .before .good))
 
 shared-slice-read-new-1based-2 : tie.Need-shared-slice-read-new-1based-2 Inv-loop μ-loop
 shared-slice-read-new-1based-2 c = search needs
 
 sub-new-1based : tie.Need-sub-new-1based Inv-loop μ-loop
-sub-new-1based c = next-place (c .before .before .before .before .before .before .before .before .before .before .before .before .before .before .before .before .before .pre .0) _ (c .before .before .before .loop-test .taken)
+sub-new-1based c = next-place (c .before .before .before .before .before .before .before .before .before .before .before .before .before .before .before .before .before .before .before .before .pre .0) _ (c .before .before .before .loop-test .taken)
 
 new-1based-requires-2 : tie.Need-new-1based-requires-2 Inv-loop μ-loop
 new-1based-requires-2 c κs = search needs
@@ -62,7 +62,7 @@ slice-aggregate-skip-ended : tie.Need-slice-aggregate-skip-ended Inv-loop μ-loo
 slice-aggregate-skip-ended c = search needs
 
 skip-ended-requires : tie.Need-skip-ended-requires Inv-loop μ-loop
-skip-ended-requires c κs = ((c .before .before .before .before .before .before .before .before .before .before .before .before .before .before .before .before .before .before .before .pre .0 .runs .in-runs .bounded), omega (arith, (c .before .before .before .before .before .before .loop .inv .8 .long)))
+skip-ended-requires c κs = ((c .before .before .before .before .before .before .before .before .before .before .before .before .before .before .before .before .before .before .before .before .before .before .pre .0 .runs .in-runs .bounded), omega (arith, (c .before .before .before .before .before .before .loop .inv .8 .long)))
 
 slice-aggregate-walk-interval : tie.Need-slice-aggregate-walk-interval Inv-loop μ-loop
 slice-aggregate-walk-interval c = search needs
@@ -70,59 +70,56 @@ slice-aggregate-walk-interval c = search needs
 slice-aggregate-walk-interval-2 : tie.Need-slice-aggregate-walk-interval-2 Inv-loop μ-loop
 slice-aggregate-walk-interval-2 c = search needs
 
-slice-aggregate-walk-interval-3 : tie.Need-slice-aggregate-walk-interval-3 Inv-loop μ-loop
-slice-aggregate-walk-interval-3 c = search needs
-
-slice-aggregate-walk-interval-4 : tie.Need-slice-aggregate-walk-interval-4 Inv-loop μ-loop
-slice-aggregate-walk-interval-4 c = search needs
-
-slice-aggregate-walk-interval-5 : tie.Need-slice-aggregate-walk-interval-5 Inv-loop μ-loop
-slice-aggregate-walk-interval-5 c = search needs
-
 walk-interval-requires : tie.Need-walk-interval-requires Inv-loop μ-loop
-walk-interval-requires c κs = let w = (c .before .before .before .before .before .before .before .before .before .before .before .before .before .before .loop .inv .3) (c .before .before .before .before .before .before .before .before .before .before .before .before .before .before .before .before .before .before .before .before .before .before .before .before .before .before .before .pre .0) (c .before .before .before .before .before .before .before .before .before .before .before .before .before .before .before .before .before .before .before .before .before .before .before .before .before .before .before .pre .1 .d₀) (c .before .before .before .before .before .before .before .before .before .before .before .before .before .before .before .before .before .before .before .before .before .before .before .before .before .before .before .pre .1 .bytes) (c .before .before .before .before .before .before .before .before .before .before .before .before .before .before .before .before .before .before .before .before .before .before .before .before .before .before .before .pre .1 .records) (c .before .before .before .before .before .before .before .before .before .before .before .before .before .before .before .before .before .before .before .before .before .before .before .before .before .before .before .pre .1 .progress) in
-    turn-ready (c .before .before .before .before .before .before .before .before .before .before .before .before .before .before .before .before .before .before .before .before .before .before .before .before .before .before .before .pre .0) (c .before .before .before .before .before .before .before .before .before .before .before .before .before .before .before .before .before .before .before .before .before .before .before .before .before .before .before .pre .1 .d₀) (c .before .before .before .before .before .before .before .before .before .before .before .before .before .before .before .before .before .before .before .before .before .before .before .before .before .before .before .pre .1 .bytes) (c .before .before .before .before .before .before .before .before .before .before .before .before .before .before .before .before .before .before .before .before .before .before .before .before .before .before .before .pre .1 .records) _ _ _ _ w _ _ (c .before .before .before .before .before .before .before .before .before .before .before .before .before .loop-test .taken) (c .before .before .before .before .before .before .before .before .before .before .before .new-1based .ensures) (c .before .before .before .before .before .before .before .before .before .new-1based2 .ensures) (search-here (c .before .before .before .before .before .before .before .before .before .before .before .before .before .before .before .before .before .before .before .before .before .before .before .before .before .before .before .pre .0) _ (c .before .before .before .before .before .before .before .before .before .before .before .before .before .before .loop .inv .8) _ (c .before .before .before .before .before .before .before .before .before .before .before .new-1based .ensures) (c .before .before .before .before .before .before .before .skip-ended .ensures)) (record { for-held = omega (arith, (c .before .before .before .before .before .before .before .before .before .before .before .before .before .before .loop .inv .0)); for-fresh = omega (arith, (c .before .before .before .before .before .before .before .before .before .before .before .before .before .before .loop .inv .4)); for-record = record { for-sites = omega (arith, (c .before .before .before .before .before .before .before .before .before .before .before .before .before .before .loop .inv .5), (c .before .before .before .before .before .before .before .before .before .before .before .before .before .before .before .before .before .before .before .before .before .before .before .before .before .before .before .pre .0 .runs .on .loaded .few)); for-alts = omega (arith, (c .before .before .before .before .before .before .before .before .before .before .before .before .before .before .loop .inv .6)) } })
+walk-interval-requires c κs = let w = (c .before .before .before .before .before .before .before .before .before .before .before .before .before .before .loop .inv .3) (c .before .before .before .before .before .before .before .before .before .before .before .before .before .before .before .before .before .before .before .before .before .before .before .before .before .before .before .before .before .before .pre .0) (c .before .before .before .before .before .before .before .before .before .before .before .before .before .before .before .before .before .before .before .before .before .before .before .before .before .before .before .before .before .before .pre .1 .d₀) (c .before .before .before .before .before .before .before .before .before .before .before .before .before .before .before .before .before .before .before .before .before .before .before .before .before .before .before .before .before .before .pre .1 .bytes) (c .before .before .before .before .before .before .before .before .before .before .before .before .before .before .before .before .before .before .before .before .before .before .before .before .before .before .before .before .before .before .pre .1 .records) (c .before .before .before .before .before .before .before .before .before .before .before .before .before .before .before .before .before .before .before .before .before .before .before .before .before .before .before .before .before .before .pre .1 .progress) in
+    turn-ready (c .before .before .before .before .before .before .before .before .before .before .before .before .before .before .before .before .before .before .before .before .before .before .before .before .before .before .before .before .before .before .pre .0) (c .before .before .before .before .before .before .before .before .before .before .before .before .before .before .before .before .before .before .before .before .before .before .before .before .before .before .before .before .before .before .pre .1 .d₀) (c .before .before .before .before .before .before .before .before .before .before .before .before .before .before .before .before .before .before .before .before .before .before .before .before .before .before .before .before .before .before .pre .1 .bytes) (c .before .before .before .before .before .before .before .before .before .before .before .before .before .before .before .before .before .before .before .before .before .before .before .before .before .before .before .before .before .before .pre .1 .records) _ _ _ _ w _ _ (c .before .before .before .before .before .before .before .before .before .before .before .before .before .loop-test .taken) (c .before .before .before .before .before .before .before .before .before .before .before .new-1based .ensures) (c .before .before .before .before .before .before .before .before .before .new-1based2 .ensures) (search-here (c .before .before .before .before .before .before .before .before .before .before .before .before .before .before .before .before .before .before .before .before .before .before .before .before .before .before .before .before .before .before .pre .0) _ (c .before .before .before .before .before .before .before .before .before .before .before .before .before .before .loop .inv .8) _ (c .before .before .before .before .before .before .before .before .before .before .before .new-1based .ensures) (c .before .before .before .before .before .before .before .skip-ended .ensures)) (record { for-held = omega (arith, (c .before .before .before .before .before .before .before .before .before .before .before .before .before .before .loop .inv .0), (c .before .before .before .before .before .before .before .before .before .before .before .before .before .before .before .before .before .before .before .before .before .before .before .before .before .before .before .before .before .before .pre .2 .for-held)); for-fresh = omega (arith, (c .before .before .before .before .before .before .before .before .before .before .before .before .before .before .loop .inv .4), (c .before .before .before .before .before .before .before .before .before .before .before .before .before .before .before .before .before .before .before .before .before .before .before .before .before .before .before .before .before .before .pre .2 .for-fresh)); for-record = record { for-sites = omega (arith, (c .before .before .before .before .before .before .before .before .before .before .before .before .before .before .loop .inv .5), (c .before .before .before .before .before .before .before .before .before .before .before .before .before .before .before .before .before .before .before .before .before .before .before .before .before .before .before .before .before .before .pre .0 .runs .on .loaded .few)); for-alts = omega (arith, (c .before .before .before .before .before .before .before .before .before .before .before .before .before .before .loop .inv .6), (c .before .before .before .before .before .before .before .before .before .before .before .before .before .before .before .before .before .before .before .before .before .before .before .before .before .before .before .before .before .before .pre .2 .for-alts)) } })
 
 enum-known-turn : tie.Need-enum-known-turn Inv-loop μ-loop
 enum-known-turn c = search needs
 
 same-length : tie.Need-same-length Inv-loop μ-loop
-same-length c = (c .before .before .before .before .before .before .before .before .before .walk-interval .kept .1 .1 .1 .1 .1 .1 .1 .1 .1 .1 .1 .1 .1 .1 .1 .1 .1 .1 .0) ∙ (c .before .before .before .before .before .before .before .before .before .before .before .before .before .before .before .before .before .before .before .before .before .before .before .before .loop .inv .1)
+same-length c = (c .before .before .before .before .before .before .before .before .before .before .before .before .walk-interval .kept .1 .1 .1 .1 .1 .1 .1 .1 .1 .1 .1 .1 .1 .1 .0) ∙ (c .before .before .before .before .before .before .before .before .before .before .before .before .before .before .before .before .before .before .before .before .before .before .before .before .before .before .before .loop .inv .0)
+
+same-length-2 : tie.Need-same-length-2 Inv-loop μ-loop
+same-length-2 c = (c .before .before .before .before .before .before .before .before .before .before .before .before .walk-interval .kept .1 .1 .1 .1 .1 .1 .1 .1 .1 .1 .1 .1 .1 .1 .1 .0) ∙ (c .before .before .before .before .before .before .before .before .before .before .before .before .before .before .before .before .before .before .before .before .before .before .before .before .before .before .before .loop .inv .4)
+
+same-length-3 : tie.Need-same-length-3 Inv-loop μ-loop
+same-length-3 c = (c .before .before .before .before .before .before .before .before .before .before .before .before .walk-interval .kept .1 .1 .1 .1 .1 .1 .1 .1 .1 .1 .1 .1 .1 .1 .1 .1 .1 .0) ∙ (c .before .before .before .before .before .before .before .before .before .before .before .before .before .before .before .before .before .before .before .before .before .before .before .before .before .before .before .loop .inv .6)
+
+same-length-4 : tie.Need-same-length-4 Inv-loop μ-loop
+same-length-4 c = (c .before .before .before .before .before .before .before .before .before .before .before .before .walk-interval .kept .1 .1 .1 .1 .1 .1 .1 .1 .1 .1 .1 .1 .1 .1 .1 .1 .1 .1 .0) ∙ (c .before .before .before .before .before .before .before .before .before .before .before .before .before .before .before .before .before .before .before .before .before .before .before .before .before .before .before .loop .inv .1)
 
 returns : tie.Need-returns Inv-loop μ-loop
 unfolding turn-ready
-returns c = λ ready d₀ bytes records p. let w = (c .before .before .before .before .before .before .before .before .before .before .before .before .before .before .before .before .before .before .before .before .before .before .before .before .loop .inv .3) ready d₀ bytes records p in
-    refused-here ready d₀ bytes records _ _ _ _ w _ _ _ _ _ (c .before .before .before .before .before .before .before .before .before .before .before .before .before .before .before .before .before .before .before .before .before .before .before .loop-test .taken) (c .before .before .before .before .before .before .before .before .before .before .before .before .before .before .before .before .before .before .before .before .before .new-1based .ensures) (c .before .before .before .before .before .before .before .before .before .before .before .before .before .before .before .before .before .before .before .new-1based2 .ensures) (rw (c .before .turn .given .1) at ((c .before .before .before .before .before .before .before .before .before .walk-interval .ensures) (turn-ready ready d₀ bytes records _ _ _ _ w _ _ (c .before .before .before .before .before .before .before .before .before .before .before .before .before .before .before .before .before .before .before .before .before .before .before .loop-test .taken) (c .before .before .before .before .before .before .before .before .before .before .before .before .before .before .before .before .before .before .before .before .before .new-1based .ensures) (c .before .before .before .before .before .before .before .before .before .before .before .before .before .before .before .before .before .before .before .new-1based2 .ensures) (search-here (c .before .before .before .before .before .before .before .before .before .before .before .before .before .before .before .before .before .before .before .before .before .before .before .before .before .before .before .before .before .before .before .before .before .before .before .before .before .pre .0) _ (c .before .before .before .before .before .before .before .before .before .before .before .before .before .before .before .before .before .before .before .before .before .before .before .before .loop .inv .8) _ (c .before .before .before .before .before .before .before .before .before .before .before .before .before .before .before .before .before .before .before .before .before .new-1based .ensures) (c .before .before .before .before .before .before .before .before .before .before .before .before .before .before .before .before .before .skip-ended .ensures)) (record { for-held = omega (arith, (c .before .before .before .before .before .before .before .before .before .before .before .before .before .before .before .before .before .before .before .before .before .before .before .before .loop .inv .0)); for-fresh = omega (arith, (c .before .before .before .before .before .before .before .before .before .before .before .before .before .before .before .before .before .before .before .before .before .before .before .before .loop .inv .4)); for-record = record { for-sites = omega (arith, (c .before .before .before .before .before .before .before .before .before .before .before .before .before .before .before .before .before .before .before .before .before .before .before .before .loop .inv .5), (c .before .before .before .before .before .before .before .before .before .before .before .before .before .before .before .before .before .before .before .before .before .before .before .before .before .before .before .before .before .before .before .before .before .before .before .before .before .pre .0 .runs .on .loaded .few)); for-alts = omega (arith, (c .before .before .before .before .before .before .before .before .before .before .before .before .before .before .before .before .before .before .before .before .before .before .before .before .loop .inv .6)) } })) (w .waiting) _ _ _ (w .holds) (w .progress)))
+returns c = λ ready d₀ bytes records p. let w = (c .before .before .before .before .before .before .before .before .before .before .before .before .before .before .before .before .before .before .before .before .before .before .before .before .before .before .before .loop .inv .3) ready d₀ bytes records p in
+    refused-here ready d₀ bytes records _ _ _ _ w _ _ _ _ _ (c .before .before .before .before .before .before .before .before .before .before .before .before .before .before .before .before .before .before .before .before .before .before .before .before .before .before .loop-test .taken) (c .before .before .before .before .before .before .before .before .before .before .before .before .before .before .before .before .before .before .before .before .before .before .before .before .new-1based .ensures) (c .before .before .before .before .before .before .before .before .before .before .before .before .before .before .before .before .before .before .before .before .before .before .new-1based2 .ensures) (rw (c .before .turn .given .1) at ((c .before .before .before .before .before .before .before .before .before .before .before .before .walk-interval .ensures) (turn-ready ready d₀ bytes records _ _ _ _ w _ _ (c .before .before .before .before .before .before .before .before .before .before .before .before .before .before .before .before .before .before .before .before .before .before .before .before .before .before .loop-test .taken) (c .before .before .before .before .before .before .before .before .before .before .before .before .before .before .before .before .before .before .before .before .before .before .before .before .new-1based .ensures) (c .before .before .before .before .before .before .before .before .before .before .before .before .before .before .before .before .before .before .before .before .before .before .new-1based2 .ensures) (search-here (c .before .before .before .before .before .before .before .before .before .before .before .before .before .before .before .before .before .before .before .before .before .before .before .before .before .before .before .before .before .before .before .before .before .before .before .before .before .before .before .before .before .before .before .pre .0) _ (c .before .before .before .before .before .before .before .before .before .before .before .before .before .before .before .before .before .before .before .before .before .before .before .before .before .before .before .loop .inv .8) _ (c .before .before .before .before .before .before .before .before .before .before .before .before .before .before .before .before .before .before .before .before .before .before .before .before .new-1based .ensures) (c .before .before .before .before .before .before .before .before .before .before .before .before .before .before .before .before .before .before .before .before .skip-ended .ensures)) (record { for-held = omega (arith, (c .before .before .before .before .before .before .before .before .before .before .before .before .before .before .before .before .before .before .before .before .before .before .before .before .before .before .before .loop .inv .0), (c .before .before .before .before .before .before .before .before .before .before .before .before .before .before .before .before .before .before .before .before .before .before .before .before .before .before .before .before .before .before .before .before .before .before .before .before .before .before .before .before .before .before .before .pre .2 .for-held)); for-fresh = omega (arith, (c .before .before .before .before .before .before .before .before .before .before .before .before .before .before .before .before .before .before .before .before .before .before .before .before .before .before .before .loop .inv .4), (c .before .before .before .before .before .before .before .before .before .before .before .before .before .before .before .before .before .before .before .before .before .before .before .before .before .before .before .before .before .before .before .before .before .before .before .before .before .before .before .before .before .before .before .pre .2 .for-fresh)); for-record = record { for-sites = omega (arith, (c .before .before .before .before .before .before .before .before .before .before .before .before .before .before .before .before .before .before .before .before .before .before .before .before .before .before .before .loop .inv .5), (c .before .before .before .before .before .before .before .before .before .before .before .before .before .before .before .before .before .before .before .before .before .before .before .before .before .before .before .before .before .before .before .before .before .before .before .before .before .before .before .before .before .before .before .pre .0 .runs .on .loaded .few)); for-alts = omega (arith, (c .before .before .before .before .before .before .before .before .before .before .before .before .before .before .before .before .before .before .before .before .before .before .before .before .before .before .before .loop .inv .6), (c .before .before .before .before .before .before .before .before .before .before .before .before .before .before .before .before .before .before .before .before .before .before .before .before .before .before .before .before .before .before .before .before .before .before .before .before .before .before .before .before .before .before .before .pre .2 .for-alts)) } })) (w .waiting) _ _ _ (w .holds) (w .progress)))
 
 enum-known-turn-2 : tie.Need-enum-known-turn-2 Inv-loop μ-loop
 enum-known-turn-2 c = search needs
 
 add-k : tie.Need-add-k Inv-loop μ-loop
-add-k c = omega (arith, (c .before .before .before .before .before .before .before .before .before .before .before .before .before .before .before .before .before .before .before .before .before .before .before .loop-test .taken), (c .before .before .before .before .before .before .before .before .before .before .before .before .before .before .before .before .before .before .before .before .before .before .before .before .before .before .before .before .before .before .before .before .before .before .before .before .before .good))
+add-k c = omega (arith, (c .before .before .before .before .before .before .before .before .before .before .before .before .before .before .before .before .before .before .before .before .before .before .before .before .before .before .loop-test .taken), (c .before .before .before .before .before .before .before .before .before .before .before .before .before .before .before .before .before .before .before .before .before .before .before .before .before .before .before .before .before .before .before .before .before .before .before .before .before .before .before .before .before .before .before .good))
 
 loop-less : tie.Need-loop-less Inv-loop μ-loop
-loop-less c = omega (arith, (c .before .before .before .before .before .before .before .before .before .before .before .before .before .before .before .before .before .before .before .before .before .before .before .loop-test .taken))
+loop-less c = omega (arith, (c .before .before .before .before .before .before .before .before .before .before .before .before .before .before .before .before .before .before .before .before .before .before .before .before .before .before .loop-test .taken))
 
 loop-again : tie.Need-loop-again Inv-loop μ-loop
 unfolding turn-ready
 loop-again c = (
-  (c .before .before .before .before .before .before .before .before .before .walk-interval .kept .1 .1 .1 .1 .1 .1 .1 .1 .1 .1 .1 .1 .1 .1 .0) ∙ (c .before .before .before .before .before .before .before .before .before .before .before .before .before .before .before .before .before .before .before .before .before .before .before .before .loop .inv .0),
-  (c .before .before .before .before .before .before .before .before .before .walk-interval .kept .1 .1 .1 .1 .1 .1 .1 .1 .1 .1 .1 .1 .1 .1 .1 .1 .1 .1 .0) ∙ (c .before .before .before .before .before .before .before .before .before .before .before .before .before .before .before .before .before .before .before .before .before .before .before .before .loop .inv .1),
-  omega (arith, (c .before .before .before .before .before .before .before .before .before .before .before .before .before .before .before .before .before .before .before .before .before .before .before .loop-test .taken)),
-  (λ ready d₀ bytes records p. let w = (c .before .before .before .before .before .before .before .before .before .before .before .before .before .before .before .before .before .before .before .before .before .before .before .before .loop .inv .3) ready d₀ bytes records p in
-      walking-next ready d₀ bytes records _ _ _ _ w _ _ _ _ _ (c .before .before .before .before .before .before .before .before .before .before .before .before .before .before .before .before .before .before .before .before .before .before .before .loop-test .taken) (c .before .before .before .before .before .before .before .before .before .before .before .before .before .before .before .before .before .before .before .before .before .new-1based .ensures) (c .before .before .before .before .before .before .before .before .before .before .before .before .before .before .before .before .before .before .before .new-1based2 .ensures) (rw (c .before .turn2 .given .1) at ((c .before .before .before .before .before .before .before .before .before .walk-interval .ensures) (turn-ready ready d₀ bytes records _ _ _ _ w _ _ (c .before .before .before .before .before .before .before .before .before .before .before .before .before .before .before .before .before .before .before .before .before .before .before .loop-test .taken) (c .before .before .before .before .before .before .before .before .before .before .before .before .before .before .before .before .before .before .before .before .before .new-1based .ensures) (c .before .before .before .before .before .before .before .before .before .before .before .before .before .before .before .before .before .before .before .new-1based2 .ensures) (search-here (c .before .before .before .before .before .before .before .before .before .before .before .before .before .before .before .before .before .before .before .before .before .before .before .before .before .before .before .before .before .before .before .before .before .before .before .before .before .pre .0) _ (c .before .before .before .before .before .before .before .before .before .before .before .before .before .before .before .before .before .before .before .before .before .before .before .before .loop .inv .8) _ (c .before .before .before .before .before .before .before .before .before .before .before .before .before .before .before .before .before .before .before .before .before .new-1based .ensures) (c .before .before .before .before .before .before .before .before .before .before .before .before .before .before .before .before .before .skip-ended .ensures)) (record { for-held = omega (arith, (c .before .before .before .before .before .before .before .before .before .before .before .before .before .before .before .before .before .before .before .before .before .before .before .before .loop .inv .0)); for-fresh = omega (arith, (c .before .before .before .before .before .before .before .before .before .before .before .before .before .before .before .before .before .before .before .before .before .before .before .before .loop .inv .4)); for-record = record { for-sites = omega (arith, (c .before .before .before .before .before .before .before .before .before .before .before .before .before .before .before .before .before .before .before .before .before .before .before .before .loop .inv .5), (c .before .before .before .before .before .before .before .before .before .before .before .before .before .before .before .before .before .before .before .before .before .before .before .before .before .before .before .before .before .before .before .before .before .before .before .before .before .pre .0 .runs .on .loaded .few)); for-alts = omega (arith, (c .before .before .before .before .before .before .before .before .before .before .before .before .before .before .before .before .before .before .before .before .before .before .before .before .loop .inv .6)) } })) (w .waiting) _ _ _ (w .holds) (w .progress)))),
-  (c .before .before .before .before .before .before .before .before .before .walk-interval .kept .1 .1 .1 .1 .1 .1 .1 .1 .1 .1 .1 .1 .1 .1 .1 .0) ∙ (c .before .before .before .before .before .before .before .before .before .before .before .before .before .before .before .before .before .before .before .before .before .before .before .before .loop .inv .4),
-  (c .before .before .before .before .before .before .before .before .before .walk-interval .kept .1 .1 .1 .1 .1 .1 .1 .1 .1 .1 .1 .1 .1 .1 .1 .1 .0) ∙ (c .before .before .before .before .before .before .before .before .before .before .before .before .before .before .before .before .before .before .before .before .before .before .before .before .loop .inv .5),
-  (c .before .before .before .before .before .before .before .before .before .walk-interval .kept .1 .1 .1 .1 .1 .1 .1 .1 .1 .1 .1 .1 .1 .1 .1 .1 .1 .0) ∙ (c .before .before .before .before .before .before .before .before .before .before .before .before .before .before .before .before .before .before .before .before .before .before .before .before .loop .inv .6),
-  (c .before .before .before .before .before .before .before .before .before .before .before .before .before .before .before .before .before .skip-ended .kept .1 .1 .1 .1 .1 .0) ∙ (c .before .before .before .before .before .before .before .before .before .before .before .before .before .before .before .before .before .before .before .before .before .before .before .before .loop .inv .7),
-  search-later (c .before .before .before .before .before .before .before .before .before .before .before .before .before .before .before .before .before .before .before .before .before .before .before .before .before .before .before .before .before .before .before .before .before .before .before .before .before .pre .0) _ (c .before .before .before .before .before .before .before .before .before .before .before .before .before .before .before .before .before .before .before .before .before .before .before .before .loop .inv .8) _ (c .before .before .before .before .before .before .before .before .before .before .before .before .before .before .before .before .before .before .before .before .before .new-1based .ensures) (c .before .before .before .before .before .before .before .before .before .before .before .before .before .before .before .before .before .skip-ended .ensures) (c .before .before .before .before .before .before .before .before .before .before .before .before .before .before .before .before .before .before .before .before .before .before .before .loop-test .taken),
+  (c .before .before .before .before .before .before .before .before .before .before .before .before .walk-interval .kept .1 .1 .1 .1 .1 .1 .1 .1 .1 .1 .1 .1 .1 .1 .0) ∙ (c .before .before .before .before .before .before .before .before .before .before .before .before .before .before .before .before .before .before .before .before .before .before .before .before .before .before .before .loop .inv .0),
+  (c .before .before .before .before .before .before .before .before .before .before .before .before .walk-interval .kept .1 .1 .1 .1 .1 .1 .1 .1 .1 .1 .1 .1 .1 .1 .1 .1 .1 .1 .0) ∙ (c .before .before .before .before .before .before .before .before .before .before .before .before .before .before .before .before .before .before .before .before .before .before .before .before .before .before .before .loop .inv .1),
+  omega (arith, (c .before .before .before .before .before .before .before .before .before .before .before .before .before .before .before .before .before .before .before .before .before .before .before .before .before .before .loop-test .taken)),
+  (λ ready d₀ bytes records p. let w = (c .before .before .before .before .before .before .before .before .before .before .before .before .before .before .before .before .before .before .before .before .before .before .before .before .before .before .before .loop .inv .3) ready d₀ bytes records p in
+      walking-next ready d₀ bytes records _ _ _ _ w _ _ _ _ _ (c .before .before .before .before .before .before .before .before .before .before .before .before .before .before .before .before .before .before .before .before .before .before .before .before .before .before .loop-test .taken) (c .before .before .before .before .before .before .before .before .before .before .before .before .before .before .before .before .before .before .before .before .before .before .before .before .new-1based .ensures) (c .before .before .before .before .before .before .before .before .before .before .before .before .before .before .before .before .before .before .before .before .before .before .new-1based2 .ensures) (rw (c .before .turn2 .given .1) at ((c .before .before .before .before .before .before .before .before .before .before .before .before .walk-interval .ensures) (turn-ready ready d₀ bytes records _ _ _ _ w _ _ (c .before .before .before .before .before .before .before .before .before .before .before .before .before .before .before .before .before .before .before .before .before .before .before .before .before .before .loop-test .taken) (c .before .before .before .before .before .before .before .before .before .before .before .before .before .before .before .before .before .before .before .before .before .before .before .before .new-1based .ensures) (c .before .before .before .before .before .before .before .before .before .before .before .before .before .before .before .before .before .before .before .before .before .before .new-1based2 .ensures) (search-here (c .before .before .before .before .before .before .before .before .before .before .before .before .before .before .before .before .before .before .before .before .before .before .before .before .before .before .before .before .before .before .before .before .before .before .before .before .before .before .before .before .before .before .before .pre .0) _ (c .before .before .before .before .before .before .before .before .before .before .before .before .before .before .before .before .before .before .before .before .before .before .before .before .before .before .before .loop .inv .8) _ (c .before .before .before .before .before .before .before .before .before .before .before .before .before .before .before .before .before .before .before .before .before .before .before .before .new-1based .ensures) (c .before .before .before .before .before .before .before .before .before .before .before .before .before .before .before .before .before .before .before .before .skip-ended .ensures)) (record { for-held = omega (arith, (c .before .before .before .before .before .before .before .before .before .before .before .before .before .before .before .before .before .before .before .before .before .before .before .before .before .before .before .loop .inv .0), (c .before .before .before .before .before .before .before .before .before .before .before .before .before .before .before .before .before .before .before .before .before .before .before .before .before .before .before .before .before .before .before .before .before .before .before .before .before .before .before .before .before .before .before .pre .2 .for-held)); for-fresh = omega (arith, (c .before .before .before .before .before .before .before .before .before .before .before .before .before .before .before .before .before .before .before .before .before .before .before .before .before .before .before .loop .inv .4), (c .before .before .before .before .before .before .before .before .before .before .before .before .before .before .before .before .before .before .before .before .before .before .before .before .before .before .before .before .before .before .before .before .before .before .before .before .before .before .before .before .before .before .before .pre .2 .for-fresh)); for-record = record { for-sites = omega (arith, (c .before .before .before .before .before .before .before .before .before .before .before .before .before .before .before .before .before .before .before .before .before .before .before .before .before .before .before .loop .inv .5), (c .before .before .before .before .before .before .before .before .before .before .before .before .before .before .before .before .before .before .before .before .before .before .before .before .before .before .before .before .before .before .before .before .before .before .before .before .before .before .before .before .before .before .before .pre .0 .runs .on .loaded .few)); for-alts = omega (arith, (c .before .before .before .before .before .before .before .before .before .before .before .before .before .before .before .before .before .before .before .before .before .before .before .before .before .before .before .loop .inv .6), (c .before .before .before .before .before .before .before .before .before .before .before .before .before .before .before .before .before .before .before .before .before .before .before .before .before .before .before .before .before .before .before .before .before .before .before .before .before .before .before .before .before .before .before .pre .2 .for-alts)) } })) (w .waiting) _ _ _ (w .holds) (w .progress)))),
+  (c .before .before .before .before .before .before .before .before .before .before .before .before .walk-interval .kept .1 .1 .1 .1 .1 .1 .1 .1 .1 .1 .1 .1 .1 .1 .1 .0) ∙ (c .before .before .before .before .before .before .before .before .before .before .before .before .before .before .before .before .before .before .before .before .before .before .before .before .before .before .before .loop .inv .4),
+  (c .before .before .before .before .before .before .before .before .before .before .before .before .walk-interval .kept .1 .1 .1 .1 .1 .1 .1 .1 .1 .1 .1 .1 .1 .1 .1 .1 .0) ∙ (c .before .before .before .before .before .before .before .before .before .before .before .before .before .before .before .before .before .before .before .before .before .before .before .before .before .before .before .loop .inv .5),
+  (c .before .before .before .before .before .before .before .before .before .before .before .before .walk-interval .kept .1 .1 .1 .1 .1 .1 .1 .1 .1 .1 .1 .1 .1 .1 .1 .1 .1 .0) ∙ (c .before .before .before .before .before .before .before .before .before .before .before .before .before .before .before .before .before .before .before .before .before .before .before .before .before .before .before .loop .inv .6),
+  (c .before .before .before .before .before .before .before .before .before .before .before .before .before .before .before .before .before .before .before .before .skip-ended .kept .1 .1 .1 .1 .1 .0) ∙ (c .before .before .before .before .before .before .before .before .before .before .before .before .before .before .before .before .before .before .before .before .before .before .before .before .before .before .before .loop .inv .7),
+  search-later (c .before .before .before .before .before .before .before .before .before .before .before .before .before .before .before .before .before .before .before .before .before .before .before .before .before .before .before .before .before .before .before .before .before .before .before .before .before .before .before .before .before .before .before .pre .0) _ (c .before .before .before .before .before .before .before .before .before .before .before .before .before .before .before .before .before .before .before .before .before .before .before .before .before .before .before .loop .inv .8) _ (c .before .before .before .before .before .before .before .before .before .before .before .before .before .before .before .before .before .before .before .before .before .before .before .before .new-1based .ensures) (c .before .before .before .before .before .before .before .before .before .before .before .before .before .before .before .before .before .before .before .before .skip-ended .ensures) (c .before .before .before .before .before .before .before .before .before .before .before .before .before .before .before .before .before .before .before .before .before .before .before .before .before .before .loop-test .taken),
 )
 
-slice-aggregate-put-pending : tie.Need-slice-aggregate-put-pending Inv-loop μ-loop
-slice-aggregate-put-pending c = search needs
-
 put-pending-requires : tie.Need-put-pending-requires Inv-loop μ-loop
-put-pending-requires c κs = let w = (c .before .before .before .loop .inv .3) (c .before .before .before .before .before .before .before .before .before .before .before .before .before .before .before .before .pre .0) (c .before .before .before .before .before .before .before .before .before .before .before .before .before .before .before .before .pre .1 .d₀) (c .before .before .before .before .before .before .before .before .before .before .before .before .before .before .before .before .pre .1 .bytes) (c .before .before .before .before .before .before .before .before .before .before .before .before .before .before .before .before .pre .1 .records) (c .before .before .before .before .before .before .before .before .before .before .before .before .before .before .before .before .pre .1 .progress) in end-fits (c .before .before .before .before .before .before .before .before .before .before .before .before .before .before .before .before .pre .0) (c .before .before .before .before .before .before .before .before .before .before .before .before .before .before .before .before .pre .1 .d₀) (c .before .before .before .before .before .before .before .before .before .before .before .before .before .before .before .before .pre .1 .bytes) (c .before .before .before .before .before .before .before .before .before .before .before .before .before .before .before .before .pre .1 .records) _ _ _ _ w
+put-pending-requires c κs = let w = (c .before .before .before .loop .inv .3) (c .before .before .before .before .before .before .before .before .before .before .before .before .before .before .before .before .before .before .before .pre .0) (c .before .before .before .before .before .before .before .before .before .before .before .before .before .before .before .before .before .before .before .pre .1 .d₀) (c .before .before .before .before .before .before .before .before .before .before .before .before .before .before .before .before .before .before .before .pre .1 .bytes) (c .before .before .before .before .before .before .before .before .before .before .before .before .before .before .before .before .before .before .before .pre .1 .records) (c .before .before .before .before .before .before .before .before .before .before .before .before .before .before .before .before .before .before .before .pre .1 .progress) in end-fits (c .before .before .before .before .before .before .before .before .before .before .before .before .before .before .before .before .before .before .before .pre .0) (c .before .before .before .before .before .before .before .before .before .before .before .before .before .before .before .before .before .before .before .pre .1 .d₀) (c .before .before .before .before .before .before .before .before .before .before .before .before .before .before .before .before .before .before .before .pre .1 .bytes) (c .before .before .before .before .before .before .before .before .before .before .before .before .before .before .before .before .before .before .before .pre .1 .records) _ _ _ _ w
 
 count-pending-requires : tie.Need-count-pending-requires Inv-loop μ-loop
 count-pending-requires c κs = search needs
@@ -130,8 +127,17 @@ count-pending-requires c κs = search needs
 cap-requires : tie.Need-cap-requires Inv-loop μ-loop
 cap-requires c κs = search needs
 
-same-length-2 : tie.Need-same-length-2 Inv-loop μ-loop
-same-length-2 c = (c .before .before .before .before .put-pending .kept .1 .1 .1 .1 .1 .1 .0) ∙ (c .before .before .before .before .before .before .before .before .loop .inv .1)
+same-length-5 : tie.Need-same-length-5 Inv-loop μ-loop
+same-length-5 c = (c .before .before .before .before .before .before .before .before .loop .inv .0)
+
+same-length-6 : tie.Need-same-length-6 Inv-loop μ-loop
+same-length-6 c = (c .before .before .before .before .before .before .before .before .loop .inv .4)
+
+same-length-7 : tie.Need-same-length-7 Inv-loop μ-loop
+same-length-7 c = (c .before .before .before .before .before .before .before .before .loop .inv .6)
+
+same-length-8 : tie.Need-same-length-8 Inv-loop μ-loop
+same-length-8 c = (c .before .before .before .before .put-pending .kept .1 .1 .1 .1 .1 .1 .0) ∙ (c .before .before .before .before .before .before .before .before .loop .inv .1)
 
 returns-2 : tie.Need-returns-2 Inv-loop μ-loop
 returns-2 c = λ ready d₀ bytes records p. let w = (c .before .before .before .before .before .before .before .before .loop .inv .3) ready d₀ bytes records p in
@@ -159,20 +165,22 @@ walk-contig-spec =
     skip-ended-requires
     slice-aggregate-walk-interval
     slice-aggregate-walk-interval-2
-    slice-aggregate-walk-interval-3
-    slice-aggregate-walk-interval-4
-    slice-aggregate-walk-interval-5
     walk-interval-requires
     enum-known-turn
     same-length
+    same-length-2
+    same-length-3
+    same-length-4
     returns
     enum-known-turn-2
     add-k
     loop-less
     loop-again
-    slice-aggregate-put-pending
     put-pending-requires
     count-pending-requires
     cap-requires
-    same-length-2
+    same-length-5
+    same-length-6
+    same-length-7
+    same-length-8
     returns-2)
