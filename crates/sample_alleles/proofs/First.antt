@@ -8,31 +8,22 @@ use mathlib.Core.Option.{Option, Option·getD, Option·map, none, some}
 use mathlib.Core.Path.{_∙_, _≡_, ap, refl, sym}
 use native.Mathlib.Decide.{decLt}
 use native.Mathlib.Omega.{arith}
-use Rattle.definitions.specs.Alleles.{Allele}
 use Rattle.definitions.specs.Bytes.{comma, fieldsOf}
 use Rattle.definitions.specs.Lists.{indexWhere}
-use Rattle.definitions.specs.MergedAlleles.{isAllele}
 use Rattle.kv_text.proofs.Fields.{field-first, field-last}
 use Rattle.kv_text.specs.Fields.{between, fieldLength}
-use Rattle.sample_alleles.specs.Readings.{readings, refReading}
 
 -- an index counted from n, or another number for none
-abbrev numbered : ℕ → ℕ → Option ℕ → ℕ
+abbrev pub numbered : ℕ → ℕ → Option ℕ → ℕ
 numbered n other i = Option·getD (Option·map (λ k. n + k) i) other
 
 numbered-next : (n other : ℕ) (i : Option ℕ) → numbered n other (Option·map suc i) ≡ numbered (n + 1) other i
 numbered-next n other none = refl
 numbered-next n other (some k) = omega arith
 
-numbered-one : (other : ℕ) (i : Option ℕ) → numbered 1 other i ≡ Option·getD (Option·map suc i) other
+pub numbered-one : (other : ℕ) (i : Option ℕ) → numbered 1 other i ≡ Option·getD (Option·map suc i) other
 numbered-one other none = refl
 numbered-one other (some k) = omega arith
-
--- REF is the first
-pub ref-first : (a : Allele) (starts : Bool) (ref own alternates : List ℕ) (other : ℕ) → isAllele a (refReading starts ref own) ≡ true
-    → 0 ≡ Option·getD (indexWhere (isAllele a) (take 256 (readings starts ref own alternates))) other
-unfolding indexWhere readings
-ref-first a starts ref own alternates other h = rw h
 
 module _ {A : Type 0} (p : A → Bool) (reading : List ℕ → A) (other : ℕ) where
   -- by the fields of the alleles from number n on; no number is past 255
@@ -40,15 +31,15 @@ module _ {A : Type 0} (p : A → Bool) (reading : List ℕ → A) (other : ℕ) 
   from n fs = numbered n other (indexWhere p (take (256 - n) (map reading fs)))
 
   module _ (n : ℕ) (f : List ℕ) (fs : List (List ℕ)) where
-    passes : n ≤ 255 → p (reading f) ≡ true → from n (f ∷ fs) ≡ n
+    pub passes : n ≤ 255 → p (reading f) ≡ true → from n (f ∷ fs) ≡ n
     unfolding from indexWhere
     passes l h = let e : 256 - n ≡ suc (255 - n) = omega arith in rw (e, h) (omega arith)
 
-    fails : n < 255 → p (reading f) ≡ false → from n (f ∷ fs) ≡ from (n + 1) fs
+    pub fails : n < 255 → p (reading f) ≡ false → from n (f ∷ fs) ≡ from (n + 1) fs
     unfolding from indexWhere
     fails l h = let e : 256 - n ≡ suc (256 - (n + 1)) = omega arith in rw (e, h) (numbered-next n other (indexWhere p (take (256 - (n + 1)) (map reading fs))))
 
-    fails-last : n ≡ 255 → p (reading f) ≡ false → from n (f ∷ fs) ≡ other
+    pub fails-last : n ≡ 255 → p (reading f) ≡ false → from n (f ∷ fs) ≡ other
     unfolding from indexWhere
     fails-last l h = rw (l, h)
 

@@ -1,3 +1,6 @@
-pub mod First
-pub mod Indexes
 pub mod Readings
+pub mod First
+pub mod Numbers
+pub mod Places
+pub mod Fields
+pub mod Indexes

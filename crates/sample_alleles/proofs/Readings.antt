@@ -4,7 +4,7 @@ use borrow.Author.Tests.{le-ltb, lt-ltb}
 use lib.Dec.{eqb, ltb}
 use lib.ListN.{drop, length, length-append, length-drop, length-map, take, take-append-drop}
 use lib.Seq.{drop-append-seam, take-all, take-append-seam}
-use mathlib.Core.Bool.{Bool, cond, false, true}
+use mathlib.Core.Bool.{Bool, cond, false, not, true}
 use mathlib.Core.List.{List, _++_, _∷_, map, map-map}
 use mathlib.Core.Option.{none, some}
 use mathlib.Core.Path.{_∙_, _≡_, ap, ap₂, refl, sym}
@@ -18,7 +18,7 @@ use Rattle.laws.proofs.Bytes.{is-same, not-same, same-is}
 use Rattle.laws.proofs.Tests.{bool-ext, clash}
 use Rattle.tables.specs.Tables.{alleleSpelled, column, partAt, refAltsSpelled, siteAt}
 use Rattle.alleles.proofs.Spelled.{same-by-bytes}
-use Rattle.sample_alleles.specs.Readings.{altReading, readings, refReading}
+use Rattle.sample_alleles.specs.Readings.{altReading, readings, readsAs, refReading}
 
 -- ---- how a field is spelled
 
@@ -26,7 +26,7 @@ spelled-span-del : (f : List ℕ) → sameBytes f (text "*") ≡ true → allele
 unfolding alleleSpelled spelled
 spelled-span-del f h = rw h
 
-spelled-non-ref : (f : List ℕ) → sameBytes f (text "<NON_REF>") ≡ true → alleleSpelled f ≡ nonRef
+pub spelled-non-ref : (f : List ℕ) → sameBytes f (text "<NON_REF>") ≡ true → alleleSpelled f ≡ nonRef
 unfolding alleleSpelled spelled text sameBytes compareBytes andThen
 spelled-non-ref f h = rw (same-is f (text "<NON_REF>") h)
 
@@ -47,48 +47,58 @@ pub is-non-ref : (f : List ℕ) → sameAllele (alleleSpelled f) nonRef ≡ same
 is-non-ref f =
     ap (sameAllele (alleleSpelled f)) (sym non-ref-spelled) ∙ same-by-bytes f (text "<NON_REF>")
 
--- ---- an allele of the record beside the letters of a site that starts there
+-- ---- an allele of the record beside letters
 
 pub rest : (s : List ℕ) (from : ℕ) → take (length s - from) (drop from s) ≡ drop from s
 rest s from = take-all (length s - from) (drop from s) (rw (length-drop from s) (omega arith))
 
--- bytes beside others that are two parts
+module _ (f t : List ℕ) where
+  pub span-del-letters : sameBytes f (text "*") ≡ true → sameAllele (alleleSpelled f) (letters t) ≡ false
+  unfolding sameAllele
+  span-del-letters h = rw (spelled-span-del f h)
+
+  non-ref-letters : sameBytes f (text "<NON_REF>") ≡ true → sameAllele (alleleSpelled f) (letters t) ≡ false
+  unfolding sameAllele
+  non-ref-letters h = rw (spelled-non-ref f h)
+
+  by-bytes : sameBytes f (text "*") ≡ false → sameBytes f (text "<NON_REF>") ≡ false → sameAllele (alleleSpelled f) (letters t) ≡ sameBytes f t
+  unfolding sameAllele
+  by-bytes h k = rw (spelled-letters f h k)
+
+  other-letters : sameBytes f t ≡ false → sameAllele (alleleSpelled f) (letters t) ≡ false
+  other-letters h = go (sameBytes f (text "*")) refl (sameBytes f (text "<NON_REF>")) refl
+    where
+      go : (a : Bool) → sameBytes f (text "*") ≡ a → (b : Bool) → sameBytes f (text "<NON_REF>") ≡ b → sameAllele (alleleSpelled f) (letters t) ≡ false
+      go true e b k = span-del-letters e
+      go false e true k = non-ref-letters k
+      go false e false k = by-bytes e k ∙ h
+
+  same-letters : sameBytes f (text "*") ≡ false → sameBytes f t ≡ true → not (sameBytes f (text "<NON_REF>")) ≡ sameAllele (alleleSpelled f) (letters t)
+  same-letters h k = go (sameBytes f (text "<NON_REF>")) refl
+    where
+      go : (b : Bool) → sameBytes f (text "<NON_REF>") ≡ b → not b ≡ sameAllele (alleleSpelled f) (letters t)
+      go true e = sym (non-ref-letters e)
+      go false e = sym (by-bytes h e ∙ k)
+
+-- letters in two parts
 module _ (f p q : List ℕ) where
-  shorter : length f < length p → sameBytes f (p ++ q) ≡ false
-  shorter h = not-same f (p ++ q) (λ e. absurd (omega (arith, ap length e ∙ length-append p q)))
+  pub shorter-letters : length f < length p → sameAllele (alleleSpelled f) (letters (p ++ q)) ≡ false
+  shorter-letters h = other-letters f (p ++ q) (not-same f (p ++ q) (λ e. absurd (omega (arith, ap length e ∙ length-append p q))))
 
-  front-differs : sameBytes (take (length p) f) p ≡ false → sameBytes f (p ++ q) ≡ false
-  front-differs h = not-same f (p ++ q) (λ e. clash (is-same (ap (take (length p)) e ∙ take-append-seam p q)) h)
+  pub other-length : (length f - length p ≡ length q → ⊥) → sameAllele (alleleSpelled f) (letters (p ++ q)) ≡ false
+  other-length h = other-letters f (p ++ q) (not-same f (p ++ q) (λ e. h (omega (arith, ap length e ∙ length-append p q))))
 
-  front-same : sameBytes (take (length p) f) p ≡ true → sameBytes f (p ++ q) ≡ sameBytes (drop (length p) f) q
-  front-same h = bool-ext _ _
-      (λ e. is-same (ap (drop (length p)) (same-is _ _ e) ∙ drop-append-seam p q))
-      (λ e. is-same (sym (take-append-drop (length p) f) ∙ ap₂ (λ (a b : List ℕ). a ++ b) (same-is _ _ h) (same-is _ _ e)))
+  pub other-front : sameBytes (take (length p) f) p ≡ false → sameAllele (alleleSpelled f) (letters (p ++ q)) ≡ false
+  other-front h = other-letters f (p ++ q) (not-same f (p ++ q) (λ e. clash (is-same (ap (take (length p)) e ∙ take-append-seam p q)) h))
 
-module _ (f ref own bases : List ℕ) where
-  pub span-del-extended : sameBytes f (text "*") ≡ true → sameAllele (alleleSpelled f) (extendedAllele ref own (letters bases)) ≡ false
-  unfolding sameAllele extendedAllele
-  span-del-extended h = rw (spelled-span-del f h)
+  pub other-tail : sameBytes (drop (length p) f) q ≡ false → sameAllele (alleleSpelled f) (letters (p ++ q)) ≡ false
+  other-tail h = other-letters f (p ++ q) (not-same f (p ++ q) (λ e. clash (is-same (ap (drop (length p)) e ∙ drop-append-seam p q)) h))
 
-  pub non-ref-extended : sameBytes f (text "<NON_REF>") ≡ true → sameAllele (alleleSpelled f) (extendedAllele ref own (letters bases)) ≡ false
-  unfolding sameAllele extendedAllele
-  non-ref-extended h = rw (spelled-non-ref f h)
-
-  module _ (h : sameBytes f (text "*") ≡ false) (k : sameBytes f (text "<NON_REF>") ≡ false) where
-    by-bytes : sameAllele (alleleSpelled f) (extendedAllele ref own (letters bases)) ≡ sameBytes f (bases ++ drop (length own) ref)
-    unfolding sameAllele extendedAllele
-    by-bytes = rw (spelled-letters f h k)
-
-    pub shorter-extended : length f < length bases → sameAllele (alleleSpelled f) (extendedAllele ref own (letters bases)) ≡ false
-    shorter-extended l = by-bytes ∙ shorter f bases _ l
-
-    pub other-extended : sameBytes (take (length bases) f) bases ≡ false
-        → sameAllele (alleleSpelled f) (extendedAllele ref own (letters bases)) ≡ false
-    other-extended e = by-bytes ∙ front-differs f bases _ e
-
-    pub rest-extended : sameBytes (take (length bases) f) bases ≡ true
-        → sameAllele (alleleSpelled f) (extendedAllele ref own (letters bases)) ≡ sameBytes (drop (length bases) f) (drop (length own) ref)
-    rest-extended e = by-bytes ∙ front-same f bases _ e
+  pub same-parts : sameBytes (take (length p) f) p ≡ true → sameBytes (drop (length p) f) q ≡ true → sameBytes f (text "*") ≡ false
+      → not (sameBytes f (text "<NON_REF>")) ≡ sameAllele (alleleSpelled f) (letters (p ++ q))
+  same-parts h k n =
+      same-letters f (p ++ q) n
+      (is-same (sym (take-append-drop (length p) f) ∙ ap₂ (λ (a b : List ℕ). a ++ b) (same-is _ _ h) (same-is _ _ k)))
 
 -- ---- an ALT as it reads
 
@@ -102,11 +112,11 @@ module _ (a : Allele) (starts : Bool) (ref own f : List ℕ) where
       go false = refl
 
 module _ (a : Allele) (ref own f : List ℕ) where
-  pub span-del-reads : sameBytes f (text "*") ≡ true → isAllele a (altReading true ref own f) ≡ sameAllele a spanDel
+  span-del-reads : sameBytes f (text "*") ≡ true → isAllele a (altReading true ref own f) ≡ sameAllele a spanDel
   unfolding altReading extendedAllele isAllele
   span-del-reads h = rw (spelled-span-del f h)
 
-  pub letters-read : sameBytes f (text "*") ≡ false → sameBytes f (text "<NON_REF>") ≡ false
+  letters-read : sameBytes f (text "*") ≡ false → sameBytes f (text "<NON_REF>") ≡ false
       → isAllele a (altReading true ref own f) ≡ sameAllele a (extendedAllele ref own (letters f))
   unfolding altReading isAllele
   letters-read h k = rw (spelled-letters f h k)
@@ -120,13 +130,56 @@ module _ (a : Allele) (ref own f : List ℕ) where
       go true e = rw (spelled-span-del f e, same-is f (text "*") e)
       go false e = rw (spelled-letters f e h)
 
-  pub shorter-reads : sameBytes f (text "<NON_REF>") ≡ false → length f < length own → isAllele a (altReading false ref own f) ≡ sameAllele a spanDel
+  shorter-reads : sameBytes f (text "<NON_REF>") ≡ false → length f < length own → isAllele a (altReading false ref own f) ≡ sameAllele a spanDel
   unfolding isAllele onlyIf
   shorter-reads h l = rw (spanning h, lt-ltb _ _ l)
 
-  pub longer-reads : sameBytes f (text "<NON_REF>") ≡ false → length own ≤ length f → isAllele a (altReading false ref own f) ≡ false
+  longer-reads : sameBytes f (text "<NON_REF>") ≡ false → length own ≤ length f → isAllele a (altReading false ref own f) ≡ false
   unfolding isAllele onlyIf
   longer-reads h l = rw (spanning h, le-ltb _ _ l)
+
+-- ---- `<NON_REF>` alone reads as `<NON_REF>`
+
+pub ref-not-non-ref : (starts : Bool) (ref own : List ℕ) → isAllele nonRef (refReading starts ref own) ≡ false
+unfolding refReading isAllele onlyIf extendedAllele sameAllele
+ref-not-non-ref true ref own = refl
+ref-not-non-ref false ref own = refl
+
+pub not-non-ref-reads : (starts : Bool) (ref own f : List ℕ) → sameBytes f (text "<NON_REF>") ≡ false → isAllele nonRef (altReading starts ref own f) ≡ false
+unfolding isAllele onlyIf extendedAllele sameAllele
+not-non-ref-reads true ref own f h = go (sameBytes f (text "*")) refl
+  where
+    go : (b : Bool) → sameBytes f (text "*") ≡ b → isAllele nonRef (altReading true ref own f) ≡ false
+    go true e = span-del-reads nonRef ref own f e
+    go false e = letters-read nonRef ref own f e h
+not-non-ref-reads false ref own f h = rw (spanning nonRef ref own f h) (go (ltb (length f) (length own)))
+  where
+    go : (b : Bool) → isAllele nonRef (onlyIf b spanDel) ≡ false
+    go true = refl
+    go false = refl
+
+-- ---- which alleles of the record an ALT reads as
+
+pub non-ref-as : (starts : Bool) (ref own g f : List ℕ) → sameBytes f (text "<NON_REF>") ≡ true → readsAs starts ref own g f ≡ false
+unfolding readsAs
+non-ref-as starts ref own g f h = rw h
+
+module _ (ref own f : List ℕ) (h : sameBytes f (text "<NON_REF>") ≡ false) (g : List ℕ) where
+  pub shorter-as : length f < length own → readsAs false ref own g f ≡ sameBytes g (text "*")
+  unfolding readsAs
+  shorter-as l = rw h (shorter-reads (alleleSpelled g) ref own f h l ∙ is-span-del g)
+
+  pub longer-as : length own ≤ length f → readsAs false ref own g f ≡ false
+  unfolding readsAs
+  longer-as l = rw h (longer-reads (alleleSpelled g) ref own f h l)
+
+  pub span-del-as : sameBytes f (text "*") ≡ true → readsAs true ref own g f ≡ sameBytes g (text "*")
+  unfolding readsAs
+  span-del-as k = rw h (span-del-reads (alleleSpelled g) ref own f k ∙ is-span-del g)
+
+  pub letters-as : sameBytes f (text "*") ≡ false → readsAs true ref own g f ≡ sameAllele (alleleSpelled g) (letters (f ++ drop (length own) ref))
+  unfolding readsAs extendedAllele
+  letters-as k = rw h (letters-read (alleleSpelled g) ref own f k h)
 
 -- ---- the alleles of a site of a table
 

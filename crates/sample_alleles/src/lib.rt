@@ -1,108 +1,80 @@
 // For each allele of a record, the number of a sample's own allele.
 // A site's alleles are lent as bytes: `own` is its REF, and `alternates` are its ALTs, with commas. `starts` says whether the
-// site starts at the record's position (else it starts earlier), and `reference` is REF of the record.
+// site starts at the record's position (else it starts earlier), and `reference` is REF of the record. `alts` are the record's
+// ALTs, with commas, and `fields` says where each of the first `count` of them stands there, by two numbers.
+// The site's own alleles are gone through once: what each reads as gets its number, the last of them first, so that the first stays.
 // Numbers are bytes: alleles past number 255 are not looked at. A site with at most 255 ALTs has none (`few-alleles`, proofs/Readings.antt).
+ghost use mathlib.Core.Bool.{_&&_, cond};
+ghost use mathlib.Core.List.{_++_};
 ghost use mathlib.Core.Path.{_≡_};
-ghost use mathlib.Core.Option.{Option·getD};
-ghost use Prim.Native.Nat.{_+_};
-ghost use lib.ListN.{length, set, take};
+ghost use Prim.Native.Nat.{_*_, _+_, _<_, _≤_};
+ghost use lib.Dec.{eqb, ltb};
+ghost use lib.ListN.{drop, length, set, take};
 ghost use lib.Seq.{sets};
 ghost use Rattle.definitions.specs.Alleles.{letters, sameAllele};
-ghost use Rattle.definitions.specs.Bytes.{comma, fieldsOf};
-ghost use Rattle.definitions.specs.Lists.{indexWhere};
-ghost use Rattle.definitions.specs.MergedAlleles.{extendedAllele, isAllele, perSampleMap, remappedAlleles};
-ghost use Rattle.tables.specs.Tables.{alleleSpelled, siteAt};
-ghost use Rattle.sample_alleles.specs.Readings.{allelesIn, altReading, readings, refReading};
+ghost use Rattle.definitions.specs.Bytes.{comma, fieldsOf, sameBytes, text};
+ghost use Rattle.definitions.specs.MergedAlleles.{isAllele, perSampleMap, remappedAlleles};
+ghost use Rattle.tables.specs.Tables.{alleleSpelled, nameAt, siteAt};
+ghost use Rattle.sample_alleles.specs.Readings.{allelesIn, altNumber, eachOf, putWhere, readings, readsAs, refReading};
+ghost use Rattle.sample_alleles.specs.Fields.{AltsAt};
 use bio_ids::AlleleIndex;
 use bio_ids::GenomePosition;
 
-// Whether an allele of the record is these letters of a site that starts there, extended by the end of REF that its own lacks.
-fn is_extended(allele: &[u8], bases: &[u8], own: &[u8], reference: &[u8]) -> bool
-    ensures { λ r. ⌜ r ≡ sameAllele (alleleSpelled (now (allele .entry)))
-        (extendedAllele (now (reference .entry)) (now (own .entry)) (letters (now (bases .entry)))) ⌝ }
+// ---- the record's ALTs
+
+// Stores where each of the record's ALTs stands; the answer is how many they are.
+fn split_alts(alts: &[u8], fields: &mut [usize]) -> usize
+    requires { ⌜ 2 * length (fieldsOf comma (now alts)) ≤ length (now fields) ⌝ }
+    ensures { λ r. ⌜ AltsAt (now (alts .entry)) (now (fields .exit)) r ⌝ }
 {
-    if kv_text::same_bytes(allele, b"*") {
-        return false;
+    let mut at = 0;
+    let mut count = 0;
+    loop {
+        let end = kv_text::field_end(alts, at, b',');
+        fields[2 * count] = at;
+        fields[2 * count + 1] = end;
+        count += 1;
+        if alts.len() <= end {
+            return count;
+        }
+        at = end + 1;
     }
-    if kv_text::same_bytes(allele, b"<NON_REF>") {
-        return false;
-    }
+}
+
+// The ALT with this number, from 0.
+fn alt_at<'a>(alts: &'a [u8], fields: &[usize], i: usize) -> &'a [u8]
+    requires { ⌜ 2 * i + 1 < length (now fields) ⌝ }
+    ensures { λ r. ⌜ now r ≡ nameAt (now (alts .entry)) (now (fields .entry)) i ⌝ }
+{
+    let from = fields[2 * i];
+    let to = fields[2 * i + 1];
+    tables::part(alts, from, to)
+}
+
+// Whether an allele is these letters, extended by a tail. Most are of another length.
+fn is_extended(allele: &[u8], bases: &[u8], tail: &[u8]) -> bool
+    ensures { λ r. ⌜ r ≡ sameAllele (alleleSpelled (now (allele .entry))) (letters (now (bases .entry) ++ now (tail .entry))) ⌝ }
+{
     let n = bases.len();
     if allele.len() < n {
+        return false;
+    }
+    if allele.len() - n != tail.len() {
         return false;
     }
     if !kv_text::same_bytes(&allele[..n], bases) {
         return false;
     }
-    let tail = tables::part(reference, own.len(), reference.len());
-    kv_text::same_bytes(&allele[n..], tail)
-}
-
-// Whether the site's REF reads as this allele.
-fn ref_reads_as(own: &[u8], starts: bool, reference: &[u8], allele: &[u8]) -> bool
-    ensures { λ r. ⌜ r ≡ isAllele (alleleSpelled (now (allele .entry))) (refReading starts (now (reference .entry)) (now (own .entry))) ⌝ }
-{
-    if !starts {
+    if !kv_text::same_bytes(&allele[n..], tail) {
         return false;
     }
-    is_extended(allele, own, own, reference)
-}
-
-// Whether one of the site's ALTs reads as this allele: `<NON_REF>` does as itself; of a site that starts earlier, an ALT of fewer
-// bytes than REF as `*`, and no other; of one that starts there, `*` as itself, and letters as they are extended.
-fn reads_as(alt: &[u8], own: &[u8], starts: bool, reference: &[u8], allele: &[u8]) -> bool
-    ensures { λ r. ⌜ r ≡ isAllele (alleleSpelled (now (allele .entry)))
-        (altReading starts (now (reference .entry)) (now (own .entry)) (now (alt .entry))) ⌝ }
-{
-    if kv_text::same_bytes(alt, b"<NON_REF>") {
-        return kv_text::same_bytes(allele, b"<NON_REF>");
-    }
-    if !starts {
-        if alt.len() < own.len() {
-            return kv_text::same_bytes(allele, b"*");
-        }
+    if kv_text::same_bytes(allele, b"*") {
         return false;
     }
-    if kv_text::same_bytes(alt, b"*") {
-        return kv_text::same_bytes(allele, b"*");
-    }
-    is_extended(allele, alt, own, reference)
+    !kv_text::same_bytes(allele, b"<NON_REF>")
 }
 
-// The number of the first of the site's alleles that reads as this one, else the number given for it.
-fn first_reading(
-    own: &[u8],
-    alternates: &[u8],
-    starts: bool,
-    reference: &[u8],
-    allele: &[u8],
-    otherwise: AlleleIndex,
-) -> AlleleIndex
-    ensures { λ r. ⌜ r .0 ≡ Option·getD
-        (indexWhere (isAllele (alleleSpelled (now (allele .entry))))
-        (take 256 (readings starts (now (reference .entry)) (now (own .entry)) (now (alternates .entry)))))
-        (otherwise .0) ⌝ }
-{
-    if ref_reads_as(own, starts, reference, allele) {
-        return AlleleIndex::reference();
-    }
-    let mut at = 0;
-    let mut number: u8 = 1;
-    loop {
-        let end = kv_text::field_end(alternates, at, b',');
-        if reads_as(&alternates[at..end], own, starts, reference, allele) {
-            return AlleleIndex::new(number);
-        }
-        if alternates.len() <= end {
-            return otherwise;
-        }
-        if number == 255 {
-            return otherwise;
-        }
-        number += 1;
-        at = end + 1;
-    }
-}
+// ---- numbers for them
 
 // Stores an allele's number, if there is room at the place.
 fn put_index(map: &mut [u8], place: usize, index: AlleleIndex)
@@ -114,39 +86,250 @@ fn put_index(map: &mut [u8], place: usize, index: AlleleIndex)
     }
 }
 
-// The numbers of the sample's alleles: 0 for REF, whatever its spelling, and then one for each of the record's ALTs, which are
-// lent with commas. They are stored as far as there is room; the answer is how many they are.
+// The same if it is wanted.
+fn put_index_if(wanted: bool, map: &mut [u8], place: usize, index: AlleleIndex)
+    ensures { λ _. ⌜ now (map .exit) ≡ cond wanted (set (now (map .entry)) place (index .0)) (now (map .entry)) ⌝ }
+{
+    if wanted {
+        put_index(map, place, index);
+    }
+}
+
+// A number for each ALT.
+fn put_absent(index: AlleleIndex, count: usize, map: &mut [u8])
+    ensures { λ _. ⌜ now (map .exit) ≡ sets (now (map .entry)) 1 (eachOf (λ _. index .0) count) ⌝ }
+{
+    for i in 0..count {
+        put_index(map, i + 1, index);
+    }
+}
+
+// A number for each ALT that is `*`.
+fn put_span_del(index: AlleleIndex, alts: &[u8], fields: &[usize], count: usize, map: &mut [u8])
+    requires { ⌜ 2 * count ≤ length (now fields) ⌝ }
+    ensures { λ _. ⌜ now (map .exit) ≡ putWhere
+        (λ i. sameBytes (nameAt (now (alts .entry)) (now (fields .entry)) i) (text "*"))
+        (index .0) 0 count (now (map .entry)) ⌝ }
+{
+    for i in 0..count {
+        let same = kv_text::same_bytes(alt_at(alts, fields, i), b"*");
+        put_index_if(same, map, i + 1, index);
+    }
+}
+
+// A number for each ALT that is these letters, extended by a tail.
+fn put_extended(
+    bases: &[u8],
+    tail: &[u8],
+    index: AlleleIndex,
+    alts: &[u8],
+    fields: &[usize],
+    count: usize,
+    map: &mut [u8],
+)
+    requires { ⌜ 2 * count ≤ length (now fields) ⌝ }
+    ensures { λ _. ⌜ now (map .exit) ≡ putWhere
+        (λ i. sameAllele (alleleSpelled (nameAt (now (alts .entry)) (now (fields .entry)) i)) (letters (now (bases .entry) ++ now (tail .entry))))
+        (index .0) 0 count (now (map .entry)) ⌝ }
+{
+    for i in 0..count {
+        let same = is_extended(alt_at(alts, fields, i), bases, tail);
+        put_index_if(same, map, i + 1, index);
+    }
+}
+
+// ---- the site's alleles
+
+// 0 for each of the record's ALTs that the site's REF reads as.
+fn put_ref(
+    own: &[u8],
+    starts: bool,
+    reference: &[u8],
+    alts: &[u8],
+    fields: &[usize],
+    count: usize,
+    map: &mut [u8],
+)
+    requires { ⌜ 2 * count ≤ length (now fields) ⌝ }
+    ensures { λ _. ⌜ now (map .exit) ≡ putWhere
+        (λ i. isAllele (alleleSpelled (nameAt (now (alts .entry)) (now (fields .entry)) i)) (refReading starts (now (reference .entry)) (now (own .entry))))
+        0 0 count (now (map .entry)) ⌝ }
+{
+    if starts {
+        let tail = tables::part(reference, own.len(), reference.len());
+        put_extended(
+            own,
+            tail,
+            AlleleIndex::reference(),
+            alts,
+            fields,
+            count,
+            map,
+        );
+    }
+}
+
+// A number for each of the record's ALTs that one of the site's reads as: of a site that starts earlier, an ALT of fewer bytes than
+// REF as `*`, and no other; of one that starts there, `*` as itself, and letters as they are extended. `<NON_REF>` gets none here.
+fn put_alt(
+    alt: &[u8],
+    nonref: bool,
+    own: &[u8],
+    starts: bool,
+    reference: &[u8],
+    index: AlleleIndex,
+    alts: &[u8],
+    fields: &[usize],
+    count: usize,
+    map: &mut [u8],
+)
+    requires { ⌜ (nonref ≡ sameBytes (now alt) (text "<NON_REF>")) × (2 * count ≤ length (now fields)) ⌝ }
+    ensures { λ _. ⌜ now (map .exit) ≡ putWhere
+        (λ i. readsAs starts (now (reference .entry)) (now (own .entry)) (nameAt (now (alts .entry)) (now (fields .entry)) i) (now (alt .entry)))
+        (index .0) 0 count (now (map .entry)) ⌝ }
+{
+    if nonref {
+        return;
+    }
+    if !starts {
+        if alt.len() < own.len() {
+            put_span_del(index, alts, fields, count, map);
+        }
+        return;
+    }
+    if kv_text::same_bytes(alt, b"*") {
+        put_span_del(index, alts, fields, count, map);
+        return;
+    }
+    let tail = tables::part(reference, own.len(), reference.len());
+    put_extended(alt, tail, index, alts, fields, count, map);
+}
+
+// The number of the first `<NON_REF>` so far, 0 for none.
+fn first_non_ref(found: AlleleIndex, nonref: bool, number: u8) -> AlleleIndex
+    ensures { λ r. ⌜ r .0 ≡ cond (eqb (found .0) 0) (cond nonref number 0) (found .0) ⌝ }
+{
+    if found.get() == 0 {
+        if nonref {
+            return AlleleIndex::new(number);
+        }
+    }
+    found
+}
+
+// Whether a field follows the one that ends here, and a number that of this one.
+fn has_next(end: usize, len: usize, number: u8) -> bool
+    ensures { λ r. ⌜ r ≡ ltb end len && ltb number 255 ⌝ }
+{
+    end < len && number < 255
+}
+
+// Numbers for the record's ALTs by the site's from an offset on, of which the first has this number: that of the first that reads as
+// the ALT, else that of `<NON_REF>`, which may have been found before the offset.
+fn put_alts(
+    own: &[u8],
+    alternates: &[u8],
+    at: usize,
+    number: u8,
+    found: AlleleIndex,
+    starts: bool,
+    reference: &[u8],
+    alts: &[u8],
+    fields: &[usize],
+    count: usize,
+    map: &mut [u8],
+)
+    requires { ⌜ (at ≤ length (now alternates)) × (0 < number) × (2 * count ≤ length (now fields)) ⌝ }
+    ensures { λ _. ⌜ now (map .exit) ≡ sets (now (map .entry)) 1 (eachOf
+        (λ i. altNumber starts (now (reference .entry)) (now (own .entry)) (found .0) number
+        (fieldsOf comma (drop at (now (alternates .entry)))) (nameAt (now (alts .entry)) (now (fields .entry)) i))
+        count) ⌝ }
+{
+    let end = kv_text::field_end(alternates, at, b',');
+    let alt = &alternates[at..end];
+    let nonref = kv_text::same_bytes(alt, b"<NON_REF>");
+    let absent = first_non_ref(found, nonref, number);
+    let index = AlleleIndex::new(number);
+    if has_next(end, alternates.len(), number) {
+        let next = number + 1;
+        put_alts(
+            own,
+            alternates,
+            end + 1,
+            next,
+            absent,
+            starts,
+            reference,
+            alts,
+            fields,
+            count,
+            map,
+        );
+        put_alt(
+            alt,
+            nonref,
+            own,
+            starts,
+            reference,
+            index,
+            alts,
+            fields,
+            count,
+            map,
+        );
+        return;
+    }
+    put_absent(absent, count, map);
+    put_alt(
+        alt,
+        nonref,
+        own,
+        starts,
+        reference,
+        index,
+        alts,
+        fields,
+        count,
+        map,
+    );
+}
+
+// The numbers of the sample's alleles: 0 for REF, whatever its spelling, and then one for each of the record's ALTs. They are stored
+// as far as there is room.
 fn put_indexes(
     own: &[u8],
     alternates: &[u8],
     starts: bool,
     reference: &[u8],
     alts: &[u8],
+    fields: &[usize],
+    count: usize,
     map: &mut [u8],
-) -> usize
-    ensures count { λ r. ⌜ r ≡ 1 + length (fieldsOf comma (now (alts .entry))) ⌝ }
-    ensures values { λ r. ⌜ now (map .exit) ≡ sets (now (map .entry)) 0 (perSampleMap
+)
+    requires { ⌜ AltsAt (now alts) (now fields) count ⌝ }
+    ensures { λ _. ⌜ now (map .exit) ≡ sets (now (map .entry)) 0 (perSampleMap
         (take 256 (readings starts (now (reference .entry)) (now (own .entry)) (now (alternates .entry))))
         (allelesIn (now (alts .entry)))) ⌝ }
 {
     let zero = AlleleIndex::reference();
-    let absent = first_reading(own, alternates, starts, reference, b"<NON_REF>", zero);
     put_index(map, 0, zero);
-    let mut at = 0;
-    let mut count = 1;
-    loop {
-        let end = kv_text::field_end(alts, at, b',');
-        let index = first_reading(own, alternates, starts, reference, &alts[at..end], absent);
-        put_index(map, count, index);
-        count += 1;
-        if alts.len() <= end {
-            return count;
-        }
-        at = end + 1;
-    }
+    put_alts(
+        own,
+        alternates,
+        0,
+        1,
+        zero,
+        starts,
+        reference,
+        alts,
+        fields,
+        count,
+        map,
+    );
+    put_ref(own, starts, reference, alts, fields, count, map);
 }
 
-// The same for a site of a table and a record at a position.
+// The same for a site of a table and a record of at most 15 ALTs at a position; the answer is how many numbers they are.
 pub fn indexes_of_relevant_alleles_for_gvcf(
     s: &[u8],
     rows: &[usize],
@@ -156,13 +339,26 @@ pub fn indexes_of_relevant_alleles_for_gvcf(
     alts: &[u8],
     map: &mut [u8],
 ) -> usize
+    requires { ⌜ length (fieldsOf comma (now alts)) ≤ 15 ⌝ }
     ensures count { λ r. ⌜ r ≡ 1 + length (fieldsOf comma (now (alts .entry))) ⌝ }
     ensures values { λ r. ⌜ now (map .exit) ≡ sets (now (map .entry)) 0 (perSampleMap
         (take 256 (remappedAlleles (now (reference .entry)) (position .0) (siteAt (now (s .entry)) (now (rows .entry)) site)))
         (allelesIn (now (alts .entry)))) ⌝ }
 {
+    let mut fields = [0usize; 32];
+    let count = split_alts(alts, &mut fields);
     let own = tables::reference_allele(s, rows, site);
     let alternates = tables::alternate_alleles(s, rows, site);
     let starts = tables::start_of(rows, site).get() == position.get();
-    put_indexes(own, alternates, starts, reference, alts, map)
+    put_indexes(
+        own,
+        alternates,
+        starts,
+        reference,
+        alts,
+        &fields,
+        count,
+        map,
+    );
+    count + 1
 }

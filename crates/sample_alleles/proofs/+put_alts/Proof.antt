@@ -1,0 +1,459 @@
+-- The site's ALTs from the next on are gone through first, and then this one's number is stored over theirs.
+use Prim.Native.Nat.{_-_}
+use borrow.Author.Needs.{needs}
+use lib.ListN.{length}
+use mathlib.Core.Path.{_∙_, sym}
+use native.Mathlib.Omega.{arith}
+use Rattle.definitions.specs.Bytes.{text}
+use Rattle.kv_text.proofs.Fields.{field-within}
+use Rattle.sample_alleles.proofs.Indexes.{follows, put-last, put-next}
+use Prim.Native.Nat.{ℕ, _<_}
+use borrow.Fn.Kinds.{In}
+use borrow.Fn.PlainCycle.{Measures, is, falls, and}
+use Rattle.sample_alleles.proofs.put_alts.Reads as put-alts
+use Rattle.sample_alleles.proofs.put_alts.Kinds as put-alts-kinds
+use Rattle.sample_alleles.proofs.+put_alts.Lts-put_alts as put-alts-lts
+use Rattle.bio_ids.proofs.AlleleIndex.new.Reads as new-reads
+use Rattle.kv_text.proofs.field_end.Reads as field-end-reads
+use Rattle.kv_text.proofs.same_bytes.Reads as same-bytes-reads
+use Rattle.sample_alleles.proofs.first_non_ref.Reads as first-non-ref-reads
+use Rattle.sample_alleles.proofs.has_next.Reads as has-next-reads
+use Rattle.sample_alleles.proofs.put_absent.Reads as put-absent-reads
+use Rattle.sample_alleles.proofs.put_alt.Reads as put-alt-reads
+use Rattle.sample_alleles.proofs.+put_alts.{statement}
+use Rattle.sample_alleles.proofs.+put_alts.Tie.{close}
+
+abbrev μ-put-alts : Measures 6 put-alts-kinds.ps ℕ
+μ-put-alts κs a = length (a .1 .0 .now) - a .1 .1 .0
+
+abbrev put-alts-at : ℕ → In 6 put-alts-kinds.ps
+put-alts-at t = and 6 put-alts-kinds.ps (is 6 put-alts-kinds.ps μ-put-alts t) put-alts.Pre
+
+abbrev put-alts-below : ℕ → In 6 put-alts-kinds.ps
+put-alts-below t =
+    and 6 put-alts-kinds.ps (falls 6 put-alts-kinds.ps _<_ μ-put-alts t) put-alts.Pre
+
+put-alts-field-end-requires : (t : ℕ) → put-alts-lts.Need-field-end-requires (
+  field-end-reads.Asked,
+  field-end-reads.Learnt,
+  same-bytes-reads.Asked,
+  same-bytes-reads.Learnt,
+  first-non-ref-reads.Asked,
+  first-non-ref-reads.Learnt,
+  new-reads.Asked,
+  new-reads.Learnt,
+  has-next-reads.Asked,
+  has-next-reads.Learnt,
+  put-alts-below t,
+  put-alts.Post,
+  put-alt-reads.Asked,
+  put-alt-reads.Learnt,
+  put-absent-reads.Asked,
+  put-absent-reads.Learnt,
+) (put-alts-at t) put-alts.Post
+put-alts-field-end-requires t c κs = search needs
+
+put-alts-sub-alt : (t : ℕ) → put-alts-lts.Need-sub-alt (
+  field-end-reads.Asked,
+  field-end-reads.Learnt,
+  same-bytes-reads.Asked,
+  same-bytes-reads.Learnt,
+  first-non-ref-reads.Asked,
+  first-non-ref-reads.Learnt,
+  new-reads.Asked,
+  new-reads.Learnt,
+  has-next-reads.Asked,
+  has-next-reads.Learnt,
+  put-alts-below t,
+  put-alts.Post,
+  put-alt-reads.Asked,
+  put-alt-reads.Learnt,
+  put-absent-reads.Asked,
+  put-absent-reads.Learnt,
+) (put-alts-at t) put-alts.Post
+put-alts-sub-alt t c = search needs
+
+put-alts-part-alt-start : (t : ℕ) → put-alts-lts.Need-part-alt-start (
+  field-end-reads.Asked,
+  field-end-reads.Learnt,
+  same-bytes-reads.Asked,
+  same-bytes-reads.Learnt,
+  first-non-ref-reads.Asked,
+  first-non-ref-reads.Learnt,
+  new-reads.Asked,
+  new-reads.Learnt,
+  has-next-reads.Asked,
+  has-next-reads.Learnt,
+  put-alts-below t,
+  put-alts.Post,
+  put-alt-reads.Asked,
+  put-alt-reads.Learnt,
+  put-absent-reads.Asked,
+  put-absent-reads.Learnt,
+) (put-alts-at t) put-alts.Post
+put-alts-part-alt-start t c = search needs
+
+put-alts-part-alt-end : (t : ℕ) → put-alts-lts.Need-part-alt-end (
+  field-end-reads.Asked,
+  field-end-reads.Learnt,
+  same-bytes-reads.Asked,
+  same-bytes-reads.Learnt,
+  first-non-ref-reads.Asked,
+  first-non-ref-reads.Learnt,
+  new-reads.Asked,
+  new-reads.Learnt,
+  has-next-reads.Asked,
+  has-next-reads.Learnt,
+  put-alts-below t,
+  put-alts.Post,
+  put-alt-reads.Asked,
+  put-alt-reads.Learnt,
+  put-absent-reads.Asked,
+  put-absent-reads.Learnt,
+) (put-alts-at t) put-alts.Post
+put-alts-part-alt-end t c = let h = field-within _ _ _ _ ((c .field-end .ensures)) ((c .before .before .before .before .before .before .before .pre .1 .0)) in search needs
+
+put-alts-slice-aggregate-same-bytes : (t : ℕ) → put-alts-lts.Need-slice-aggregate-same-bytes (
+  field-end-reads.Asked,
+  field-end-reads.Learnt,
+  same-bytes-reads.Asked,
+  same-bytes-reads.Learnt,
+  first-non-ref-reads.Asked,
+  first-non-ref-reads.Learnt,
+  new-reads.Asked,
+  new-reads.Learnt,
+  has-next-reads.Asked,
+  has-next-reads.Learnt,
+  put-alts-below t,
+  put-alts.Post,
+  put-alt-reads.Asked,
+  put-alt-reads.Learnt,
+  put-absent-reads.Asked,
+  put-absent-reads.Learnt,
+) (put-alts-at t) put-alts.Post
+put-alts-slice-aggregate-same-bytes t c = search needs
+
+put-alts-same-bytes-requires : (t : ℕ) → put-alts-lts.Need-same-bytes-requires (
+  field-end-reads.Asked,
+  field-end-reads.Learnt,
+  same-bytes-reads.Asked,
+  same-bytes-reads.Learnt,
+  first-non-ref-reads.Asked,
+  first-non-ref-reads.Learnt,
+  new-reads.Asked,
+  new-reads.Learnt,
+  has-next-reads.Asked,
+  has-next-reads.Learnt,
+  put-alts-below t,
+  put-alts.Post,
+  put-alt-reads.Asked,
+  put-alt-reads.Learnt,
+  put-absent-reads.Asked,
+  put-absent-reads.Learnt,
+) (put-alts-at t) put-alts.Post
+put-alts-same-bytes-requires t c κs = search needs
+
+put-alts-first-non-ref-requires : (t : ℕ) → put-alts-lts.Need-first-non-ref-requires (
+  field-end-reads.Asked,
+  field-end-reads.Learnt,
+  same-bytes-reads.Asked,
+  same-bytes-reads.Learnt,
+  first-non-ref-reads.Asked,
+  first-non-ref-reads.Learnt,
+  new-reads.Asked,
+  new-reads.Learnt,
+  has-next-reads.Asked,
+  has-next-reads.Learnt,
+  put-alts-below t,
+  put-alts.Post,
+  put-alt-reads.Asked,
+  put-alt-reads.Learnt,
+  put-absent-reads.Asked,
+  put-absent-reads.Learnt,
+) (put-alts-at t) put-alts.Post
+put-alts-first-non-ref-requires t c κs = search needs
+
+put-alts-new-requires : (t : ℕ) → put-alts-lts.Need-new-requires (
+  field-end-reads.Asked,
+  field-end-reads.Learnt,
+  same-bytes-reads.Asked,
+  same-bytes-reads.Learnt,
+  first-non-ref-reads.Asked,
+  first-non-ref-reads.Learnt,
+  new-reads.Asked,
+  new-reads.Learnt,
+  has-next-reads.Asked,
+  has-next-reads.Learnt,
+  put-alts-below t,
+  put-alts.Post,
+  put-alt-reads.Asked,
+  put-alt-reads.Learnt,
+  put-absent-reads.Asked,
+  put-absent-reads.Learnt,
+) (put-alts-at t) put-alts.Post
+put-alts-new-requires t c κs = search needs
+
+put-alts-has-next-requires : (t : ℕ) → put-alts-lts.Need-has-next-requires (
+  field-end-reads.Asked,
+  field-end-reads.Learnt,
+  same-bytes-reads.Asked,
+  same-bytes-reads.Learnt,
+  first-non-ref-reads.Asked,
+  first-non-ref-reads.Learnt,
+  new-reads.Asked,
+  new-reads.Learnt,
+  has-next-reads.Asked,
+  has-next-reads.Learnt,
+  put-alts-below t,
+  put-alts.Post,
+  put-alt-reads.Asked,
+  put-alt-reads.Learnt,
+  put-absent-reads.Asked,
+  put-absent-reads.Learnt,
+) (put-alts-at t) put-alts.Post
+put-alts-has-next-requires t c κs = search needs
+
+put-alts-add-next : (t : ℕ) → put-alts-lts.Need-add-next (
+  field-end-reads.Asked,
+  field-end-reads.Learnt,
+  same-bytes-reads.Asked,
+  same-bytes-reads.Learnt,
+  first-non-ref-reads.Asked,
+  first-non-ref-reads.Learnt,
+  new-reads.Asked,
+  new-reads.Learnt,
+  has-next-reads.Asked,
+  has-next-reads.Learnt,
+  put-alts-below t,
+  put-alts.Post,
+  put-alt-reads.Asked,
+  put-alt-reads.Learnt,
+  put-absent-reads.Asked,
+  put-absent-reads.Learnt,
+) (put-alts-at t) put-alts.Post
+put-alts-add-next t c = let (l, m) = follows ((c .before .before .before .before .before .before .before .field-end .result)) (length ((c .before .before .before .before .before .before .before .before .before .before .before .before .before .before .args .alternates .now))) ((c .before .before .before .before .before .before .before .before .before .before .before .before .before .before .args .number)) ((c .before .has-next .ensures)) ((c .if1 .taken)) in omega arith
+
+put-alts-add-put-alts : (t : ℕ) → put-alts-lts.Need-add-put-alts (
+  field-end-reads.Asked,
+  field-end-reads.Learnt,
+  same-bytes-reads.Asked,
+  same-bytes-reads.Learnt,
+  first-non-ref-reads.Asked,
+  first-non-ref-reads.Learnt,
+  new-reads.Asked,
+  new-reads.Learnt,
+  has-next-reads.Asked,
+  has-next-reads.Learnt,
+  put-alts-below t,
+  put-alts.Post,
+  put-alt-reads.Asked,
+  put-alt-reads.Learnt,
+  put-absent-reads.Asked,
+  put-absent-reads.Learnt,
+) (put-alts-at t) put-alts.Post
+put-alts-add-put-alts t c = let (l, m) = follows ((c .before .before .before .before .before .before .before .field-end .result)) (length ((c .before .before .before .before .before .before .before .before .before .before .before .before .before .before .args .alternates .now))) ((c .before .before .before .before .before .before .before .before .before .before .before .before .before .before .args .number)) ((c .before .has-next .ensures)) ((c .if1 .taken)) in omega arith
+
+put-alts-put-alts-requires : (t : ℕ) → put-alts-lts.Need-put-alts-requires (
+  field-end-reads.Asked,
+  field-end-reads.Learnt,
+  same-bytes-reads.Asked,
+  same-bytes-reads.Learnt,
+  first-non-ref-reads.Asked,
+  first-non-ref-reads.Learnt,
+  new-reads.Asked,
+  new-reads.Learnt,
+  has-next-reads.Asked,
+  has-next-reads.Learnt,
+  put-alts-below t,
+  put-alts.Post,
+  put-alt-reads.Asked,
+  put-alt-reads.Learnt,
+  put-absent-reads.Asked,
+  put-absent-reads.Learnt,
+) (put-alts-at t) put-alts.Post
+put-alts-put-alts-requires t c κs = let (l, m) = follows ((c .before .before .before .before .before .before .before .before .field-end .result)) (length ((c .before .before .before .before .before .before .before .before .before .before .before .before .before .before .before .args .alternates .now))) ((c .before .before .before .before .before .before .before .before .before .before .before .before .before .before .before .args .number)) ((c .before .before .has-next .ensures)) ((c .before .if1 .taken)) in (omega (arith, (c .before .before .before .before .before .before .before .before .before .before .before .before .before .before .before .pre .0), (c .before .before .before .before .before .before .before .before .field-end .ensures)), (omega arith, omega arith, (c .before .before .before .before .before .before .before .before .before .before .before .before .before .before .before .pre .1 .2)))
+
+put-alts-put-alt-requires : (t : ℕ) → put-alts-lts.Need-put-alt-requires (
+  field-end-reads.Asked,
+  field-end-reads.Learnt,
+  same-bytes-reads.Asked,
+  same-bytes-reads.Learnt,
+  first-non-ref-reads.Asked,
+  first-non-ref-reads.Learnt,
+  new-reads.Asked,
+  new-reads.Learnt,
+  has-next-reads.Asked,
+  has-next-reads.Learnt,
+  put-alts-below t,
+  put-alts.Post,
+  put-alt-reads.Asked,
+  put-alt-reads.Learnt,
+  put-absent-reads.Asked,
+  put-absent-reads.Learnt,
+) (put-alts-at t) put-alts.Post
+unfolding text
+put-alts-put-alt-requires t c κs = ((c .before .before .before .before .before .before .before .before .before .same-bytes .ensures), (c .before .before .before .before .before .before .before .before .before .before .before .before .before .before .before .before .before .before .before .pre .1 .2))
+
+put-alts-same-length : (t : ℕ) → put-alts-lts.Need-same-length (
+  field-end-reads.Asked,
+  field-end-reads.Learnt,
+  same-bytes-reads.Asked,
+  same-bytes-reads.Learnt,
+  first-non-ref-reads.Asked,
+  first-non-ref-reads.Learnt,
+  new-reads.Asked,
+  new-reads.Learnt,
+  has-next-reads.Asked,
+  has-next-reads.Learnt,
+  put-alts-below t,
+  put-alts.Post,
+  put-alt-reads.Asked,
+  put-alt-reads.Learnt,
+  put-absent-reads.Asked,
+  put-absent-reads.Learnt,
+) (put-alts-at t) put-alts.Post
+put-alts-same-length t c = (c .before .before .put-alt .kept .1 .1 .1 .1 .1 .1 .1 .1 .1 .0) ∙ (c .before .before .before .before .before .before .put-alts .kept .1 .1 .1 .1 .1 .1 .1 .1 .1 .1 .0)
+
+put-alts-returns : (t : ℕ) → put-alts-lts.Need-returns (
+  field-end-reads.Asked,
+  field-end-reads.Learnt,
+  same-bytes-reads.Asked,
+  same-bytes-reads.Learnt,
+  first-non-ref-reads.Asked,
+  first-non-ref-reads.Learnt,
+  new-reads.Asked,
+  new-reads.Learnt,
+  has-next-reads.Asked,
+  has-next-reads.Learnt,
+  put-alts-below t,
+  put-alts.Post,
+  put-alt-reads.Asked,
+  put-alt-reads.Learnt,
+  put-absent-reads.Asked,
+  put-absent-reads.Learnt,
+) (put-alts-at t) put-alts.Post
+unfolding text
+put-alts-returns t c = rw ((c .before .before .before .before .before .before .before .before .before .before .new .ensures), (c .before .before .before .before .before .before .put-alts .ensures)) at ((c .before .before .put-alt .ensures)) ∙ put-next _ _ _ _ _ ((c .before .before .before .before .before .before .before .before .before .before .before .before .before .before .before .before .before .before .before .before .before .before .args .alternates .now)) _ _ _ _ ((c .before .before .before .before .before .before .before .before .before .before .before .before .before .before .before .before .before .before .before .before .before .before .pre .1 .0)) ((c .before .before .before .before .before .before .before .before .before .before .before .before .before .before .before .before .before .before .before .before .before .before .pre .1 .1)) ((c .before .before .before .before .before .before .before .before .before .before .before .before .before .before .before .field-end .ensures)) ((c .before .before .before .before .before .before .before .before .before .before .before .before .same-bytes .ensures)) ((c .before .before .before .before .before .before .before .before .before .before .before .first-non-ref .ensures)) _ _ (sym ((c .before .before .before .before .before .before .before .before .before .has-next .ensures)) ∙ (c .before .before .before .before .before .before .before .before .if1 .taken))
+
+put-alts-put-absent-requires : (t : ℕ) → put-alts-lts.Need-put-absent-requires (
+  field-end-reads.Asked,
+  field-end-reads.Learnt,
+  same-bytes-reads.Asked,
+  same-bytes-reads.Learnt,
+  first-non-ref-reads.Asked,
+  first-non-ref-reads.Learnt,
+  new-reads.Asked,
+  new-reads.Learnt,
+  has-next-reads.Asked,
+  has-next-reads.Learnt,
+  put-alts-below t,
+  put-alts.Post,
+  put-alt-reads.Asked,
+  put-alt-reads.Learnt,
+  put-absent-reads.Asked,
+  put-absent-reads.Learnt,
+) (put-alts-at t) put-alts.Post
+put-alts-put-absent-requires t c κs = search needs
+
+put-alts-put-alt-requires-2 : (t : ℕ) → put-alts-lts.Need-put-alt-requires-2 (
+  field-end-reads.Asked,
+  field-end-reads.Learnt,
+  same-bytes-reads.Asked,
+  same-bytes-reads.Learnt,
+  first-non-ref-reads.Asked,
+  first-non-ref-reads.Learnt,
+  new-reads.Asked,
+  new-reads.Learnt,
+  has-next-reads.Asked,
+  has-next-reads.Learnt,
+  put-alts-below t,
+  put-alts.Post,
+  put-alt-reads.Asked,
+  put-alt-reads.Learnt,
+  put-absent-reads.Asked,
+  put-absent-reads.Learnt,
+) (put-alts-at t) put-alts.Post
+unfolding text
+put-alts-put-alt-requires-2 t c κs = ((c .before .before .before .before .before .before .before .before .before .same-bytes .ensures), (c .before .before .before .before .before .before .before .before .before .before .before .before .before .before .before .before .before .before .before .pre .1 .2))
+
+put-alts-same-length-2 : (t : ℕ) → put-alts-lts.Need-same-length-2 (
+  field-end-reads.Asked,
+  field-end-reads.Learnt,
+  same-bytes-reads.Asked,
+  same-bytes-reads.Learnt,
+  first-non-ref-reads.Asked,
+  first-non-ref-reads.Learnt,
+  new-reads.Asked,
+  new-reads.Learnt,
+  has-next-reads.Asked,
+  has-next-reads.Learnt,
+  put-alts-below t,
+  put-alts.Post,
+  put-alt-reads.Asked,
+  put-alt-reads.Learnt,
+  put-absent-reads.Asked,
+  put-absent-reads.Learnt,
+) (put-alts-at t) put-alts.Post
+put-alts-same-length-2 t c = (c .before .before .put-alt2 .kept .1 .1 .1 .1 .1 .1 .1 .1 .1 .0) ∙ (c .before .before .before .before .before .before .put-absent .kept .1 .1 .0)
+
+put-alts-returns-2 : (t : ℕ) → put-alts-lts.Need-returns-2 (
+  field-end-reads.Asked,
+  field-end-reads.Learnt,
+  same-bytes-reads.Asked,
+  same-bytes-reads.Learnt,
+  first-non-ref-reads.Asked,
+  first-non-ref-reads.Learnt,
+  new-reads.Asked,
+  new-reads.Learnt,
+  has-next-reads.Asked,
+  has-next-reads.Learnt,
+  put-alts-below t,
+  put-alts.Post,
+  put-alt-reads.Asked,
+  put-alt-reads.Learnt,
+  put-absent-reads.Asked,
+  put-absent-reads.Learnt,
+) (put-alts-at t) put-alts.Post
+unfolding text
+put-alts-returns-2 t c = rw ((c .before .before .before .before .before .before .before .before .before .before .new .ensures), (c .before .before .before .before .before .before .put-absent .ensures)) at ((c .before .before .put-alt2 .ensures)) ∙ put-last _ _ _ _ _ ((c .before .before .before .before .before .before .before .before .before .before .before .before .before .before .before .before .before .before .before .before .before .before .args .alternates .now)) _ _ _ _ ((c .before .before .before .before .before .before .before .before .before .before .before .before .before .before .before .before .before .before .before .before .before .before .pre .1 .0)) ((c .before .before .before .before .before .before .before .before .before .before .before .before .before .before .before .before .before .before .before .before .before .before .pre .1 .1)) ((c .before .before .before .before .before .before .before .before .before .before .before .before .before .before .before .field-end .ensures)) ((c .before .before .before .before .before .before .before .before .before .before .before .before .same-bytes .ensures)) ((c .before .before .before .before .before .before .before .before .before .before .before .first-non-ref .ensures)) _ _ (sym ((c .before .before .before .before .before .before .before .before .before .has-next .ensures)) ∙ (c .before .before .before .before .before .before .before .before .if1 .left))
+
+pub +put-alts-spec : {M : Type 1} → statement M
++put-alts-spec = close μ-put-alts λ t. put-alts-lts.spec (
+  field-end-reads.Asked,
+  field-end-reads.Learnt,
+  same-bytes-reads.Asked,
+  same-bytes-reads.Learnt,
+  first-non-ref-reads.Asked,
+  first-non-ref-reads.Learnt,
+  new-reads.Asked,
+  new-reads.Learnt,
+  has-next-reads.Asked,
+  has-next-reads.Learnt,
+  put-alts-below t,
+  put-alts.Post,
+  put-alt-reads.Asked,
+  put-alt-reads.Learnt,
+  put-absent-reads.Asked,
+  put-absent-reads.Learnt,
+)
+    (put-alts-at t)
+    put-alts.Post
+    (put-alts-field-end-requires t)
+    (put-alts-sub-alt t)
+    (put-alts-part-alt-start t)
+    (put-alts-part-alt-end t)
+    (put-alts-slice-aggregate-same-bytes t)
+    (put-alts-same-bytes-requires t)
+    (put-alts-first-non-ref-requires t)
+    (put-alts-new-requires t)
+    (put-alts-has-next-requires t)
+    (put-alts-add-next t)
+    (put-alts-add-put-alts t)
+    (put-alts-put-alts-requires t)
+    (put-alts-put-alt-requires t)
+    (put-alts-same-length t)
+    (put-alts-returns t)
+    (put-alts-put-absent-requires t)
+    (put-alts-put-alt-requires-2 t)
+    (put-alts-same-length-2 t)
+    (put-alts-returns-2 t)
