@@ -52,17 +52,17 @@ length-reached (suc k) n h = go (decLt n (10 ^ suc k)) (length-reached k n)
     go (no l) r = omega (arith, all-reached (suc k) n (omega arith), length-between (suc k) n (omega arith) h)
 
 -- below 10000, by three tests
-pub length-few : {n a b c : ℕ} → n < 10000 → a ≡ cond (leb 10 n) 1 0 → b ≡ cond (leb 100 n) 1 0 → c ≡ cond (leb 1000 n) 1 0
+pub length-few : (n : ℕ) {a b c : ℕ} → n < 10000 → a ≡ cond (leb 10 n) 1 0 → b ≡ cond (leb 100 n) 1 0 → c ≡ cond (leb 1000 n) 1 0
     → 1 + a + b + c ≡ length (decimal n)
 unfolding powersReached
-length-few {n} h ea eb ec = rw (ea, eb, ec) (omega (arith, length-reached 3 n h))
+length-few n h ea eb ec = rw (ea, eb, ec) (omega (arith, length-reached 3 n h))
 
 -- from there on, by five
-pub length-many : {n a b c d e : ℕ} → 10000 ≤ n → n < 2 ^ 32 → a ≡ cond (leb 100000 n) 1 0 → b ≡ cond (leb 1000000 n) 1 0
+pub length-many : (n : ℕ) {a b c d e : ℕ} → 10000 ≤ n → n < 2 ^ 32 → a ≡ cond (leb 100000 n) 1 0 → b ≡ cond (leb 1000000 n) 1 0
     → c ≡ cond (leb 10000000 n) 1 0 → d ≡ cond (leb 100000000 n) 1 0 → e ≡ cond (leb 1000000000 n) 1 0
     → 5 + a + b + c + d + e ≡ length (decimal n)
 unfolding powersReached
-length-many {n} l h ea eb ec ed ee =
+length-many n l h ea eb ec ed ee =
     rw (ea, eb, ec, ed, ee) (omega (arith, all-reached 4 n l, length-reached 9 n (omega arith)))
 
 -- a u32 has at most ten digits

@@ -72,7 +72,10 @@ fn number_end(at: usize, n: u32) -> usize
     ensures { λ r. ⌜ r ≡ at + length (decimal n) ⌝ }
 {
     if n < 10000 {
-        return at + (1 + at_least(n, 10) + at_least(n, 100) + at_least(n, 1000));
+        let two = at_least(n, 10);
+        let three = at_least(n, 100);
+        let four = at_least(n, 1000);
+        return at + 1 + two + three + four;
     }
     let six = at_least(n, 100000);
     let seven = at_least(n, 1000000);
