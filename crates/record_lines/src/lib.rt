@@ -1,12 +1,14 @@
 // The lines of a record of the combined list, laid over a lent buffer as `kv_write` lays lines.
 // Sites stand in a table, `rows`, over the cohort's text, `s`; `found` are the numbers of the sites that cover the record's
-// position. `reference` is REF of the record, and `alts` are its ALTs, with commas.
+// position. `reference` is REF of the record, and `alts` are its ALTs, with commas; `fields` says where each of the `alt_count` ALTs
+// stands there (`sample_alleles::split_alts`).
 ghost use mathlib.Core.Path.{_≡_};
 ghost use Prim.Native.Nat.{_≤_, min};
 ghost use Rattle.definitions.specs.Numbers.{maxNumber};
 ghost use Rattle.definitions.specs.Printed.{printedSampleData};
 ghost use Rattle.kv_write.specs.Laid.{Laid};
 ghost use Rattle.kv_write.specs.Optional.{optionOf};
+ghost use Rattle.sample_alleles.specs.Fields.{AltsAt};
 ghost use Rattle.record_lines.specs.Head.{HeadFits, endFrom, headOf};
 ghost use Rattle.record_lines.specs.Samples.{OwnPrintable, SamplePrintable, SamplesPrintable, SitePrintable, SomePrintable, dataOwn, printedOwn, printedSamples, printedSite, printedSome};
 use bio_ids::GenomePosition;
@@ -57,10 +59,12 @@ pub fn put_site_data(
     position: GenomePosition,
     reference: &[u8],
     alts: &[u8],
+    fields: &[usize],
+    alt_count: usize,
     out: &mut [u8],
     at: usize,
 ) -> usize
-    requires { ⌜ SitePrintable (now s) (now rows) site (position .0) (now reference) (now alts) at ⌝ }
+    requires { ⌜ SitePrintable (now s) (now rows) site (position .0) (now reference) (now alts) at × AltsAt (now alts) (now fields) «alt_count» ⌝ }
     ensures { λ r. ⌜ Laid (now (out .entry)) at
         (printedSite (now (s .entry)) (now (rows .entry)) site (position .0) (now (reference .entry)) (now (alts .entry)))
         (now (out .exit)) r ⌝ }
@@ -73,6 +77,8 @@ pub fn put_site_data(
         position,
         reference,
         alts,
+        fields,
+        alt_count,
         &mut map,
     );
     let mut ad = [0u32; 8];
@@ -98,16 +104,29 @@ fn put_sample(
     position: GenomePosition,
     reference: &[u8],
     alts: &[u8],
+    fields: &[usize],
+    alt_count: usize,
     out: &mut [u8],
     at: usize,
 ) -> usize
-    requires { ⌜ SamplePrintable (now s) (now rows) own (position .0) (now reference) (now alts) at ⌝ }
+    requires { ⌜ SamplePrintable (now s) (now rows) own (position .0) (now reference) (now alts) at × AltsAt (now alts) (now fields) «alt_count» ⌝ }
     ensures { λ r. ⌜ Laid (now (out .entry)) at
         (printedSampleData (dataOwn (now (s .entry)) (now (rows .entry)) (position .0) (now (reference .entry)) (now (alts .entry)) own))
         (now (out .exit)) r ⌝ }
 {
     if own < rows.len() {
-        return put_site_data(s, rows, own, position, reference, alts, out, at);
+        return put_site_data(
+            s,
+            rows,
+            own,
+            position,
+            reference,
+            alts,
+            fields,
+            alt_count,
+            out,
+            at,
+        );
     }
     genotype_values::put_missing_data(out, at)
 }
@@ -120,10 +139,12 @@ fn put_own_samples(
     position: GenomePosition,
     reference: &[u8],
     alts: &[u8],
+    fields: &[usize],
+    alt_count: usize,
     out: &mut [u8],
     at: usize,
 ) -> usize
-    requires { ⌜ OwnPrintable (now s) (now rows) (now own) (position .0) (now reference) (now alts) at ⌝ }
+    requires { ⌜ OwnPrintable (now s) (now rows) (now own) (position .0) (now reference) (now alts) at × AltsAt (now alts) (now fields) «alt_count» ⌝ }
     ensures { λ r. ⌜ Laid (now (out .entry)) at
         (printedOwn (now (s .entry)) (now (rows .entry)) (position .0) (now (reference .entry)) (now (alts .entry)) (now (own .entry)))
         (now (out .exit)) r ⌝ }
@@ -131,7 +152,18 @@ fn put_own_samples(
     let mut next = at;
     for i in 0..own.len() {
         let site = own[i];
-        next = put_sample(s, rows, site, position, reference, alts, out, next);
+        next = put_sample(
+            s,
+            rows,
+            site,
+            position,
+            reference,
+            alts,
+            fields,
+            alt_count,
+            out,
+            next,
+        );
     }
     next
 }
@@ -146,17 +178,30 @@ fn put_some_samples(
     position: GenomePosition,
     reference: &[u8],
     alts: &[u8],
+    fields: &[usize],
+    alt_count: usize,
     out: &mut [u8],
     at: usize,
 ) -> usize
-    requires { ⌜ SomePrintable (now s) (now rows) (first .0) count (now found) (position .0) (now reference) (now alts) at ⌝ }
+    requires { ⌜ SomePrintable (now s) (now rows) (first .0) count (now found) (position .0) (now reference) (now alts) at × AltsAt (now alts) (now fields) «alt_count» ⌝ }
     ensures { λ r. ⌜ Laid (now (out .entry)) at
         (printedSome (now (s .entry)) (now (rows .entry)) (first .0) count (now (found .entry)) (position .0) (now (reference .entry)) (now (alts .entry)))
         (now (out .exit)) r ⌝ }
 {
     let mut own = [rows.len(); 64];
     found_sites::own_sites(rows, found, first, &mut own);
-    put_own_samples(s, rows, &own[..count], position, reference, alts, out, at)
+    put_own_samples(
+        s,
+        rows,
+        &own[..count],
+        position,
+        reference,
+        alts,
+        fields,
+        alt_count,
+        out,
+        at,
+    )
 }
 
 // So many, but at most 64.
@@ -183,6 +228,8 @@ pub fn put_samples(
         (printedSamples (now (s .entry)) (now (rows .entry)) samples (now (found .entry)) (position .0) (now (reference .entry)) (now (alts .entry)))
         (now (out .exit)) r ⌝ }
 {
+    let mut fields = [0usize; 32];
+    let alt_count = sample_alleles::split_alts(alts, &mut fields);
     let mut next = at;
     let mut sample = 0;
     while sample < samples {
@@ -197,6 +244,8 @@ pub fn put_samples(
             position,
             reference,
             alts,
+            &fields,
+            alt_count,
             out,
             next,
         );

@@ -22,8 +22,8 @@ use bio_ids::GenomePosition;
 
 // ---- the record's ALTs
 
-// Stores where each of the record's ALTs stands; the answer is how many they are.
-fn split_alts(alts: &[u8], fields: &mut [usize]) -> usize
+// Stores where each of the record's ALTs stands, by two numbers; the answer is how many they are.
+pub fn split_alts(alts: &[u8], fields: &mut [usize]) -> usize
     requires { ⌜ 2 * length (fieldsOf comma (now alts)) ≤ length (now fields) ⌝ }
     ensures { λ r. ⌜ AltsAt (now (alts .entry)) (now (fields .exit)) r ⌝ }
 {
@@ -329,7 +329,7 @@ fn put_indexes(
     put_ref(own, starts, reference, alts, fields, count, map);
 }
 
-// The same for a site of a table and a record of at most 15 ALTs at a position; the answer is how many numbers they are.
+// The same for a site of a table and a record at a position; the answer is how many numbers they are.
 pub fn indexes_of_relevant_alleles_for_gvcf(
     s: &[u8],
     rows: &[usize],
@@ -337,28 +337,19 @@ pub fn indexes_of_relevant_alleles_for_gvcf(
     position: GenomePosition,
     reference: &[u8],
     alts: &[u8],
+    fields: &[usize],
+    count: usize,
     map: &mut [u8],
 ) -> usize
-    requires { ⌜ length (fieldsOf comma (now alts)) ≤ 15 ⌝ }
+    requires { ⌜ AltsAt (now alts) (now fields) count ⌝ }
     ensures count { λ r. ⌜ r ≡ 1 + length (fieldsOf comma (now (alts .entry))) ⌝ }
     ensures values { λ r. ⌜ now (map .exit) ≡ sets (now (map .entry)) 0 (perSampleMap
         (take 256 (remappedAlleles (now (reference .entry)) (position .0) (siteAt (now (s .entry)) (now (rows .entry)) site)))
         (allelesIn (now (alts .entry)))) ⌝ }
 {
-    let mut fields = [0usize; 32];
-    let count = split_alts(alts, &mut fields);
     let own = tables::reference_allele(s, rows, site);
     let alternates = tables::alternate_alleles(s, rows, site);
     let starts = tables::start_of(rows, site).get() == position.get();
-    put_indexes(
-        own,
-        alternates,
-        starts,
-        reference,
-        alts,
-        &fields,
-        count,
-        map,
-    );
+    put_indexes(own, alternates, starts, reference, alts, fields, count, map);
     count + 1
 }

@@ -5,10 +5,12 @@ use Rattle.record_lines.proofs.SiteValues.{ad-front, map-front, pl-fron
 use Rattle.record_lines.proofs.put_site_data.Statement.{statement}
 use Rattle.record_lines.proofs.put_site_data.Tie as tie
 
-slice-aggregate-indexes-of-relevant-alleles-for-gvcf : tie.Need-slice-aggregate-indexes-of-relevant-alleles-for-gvcf
+slice-aggregate-indexes-of-relevant-alleles-for-gvcf :
+    tie.Need-slice-aggregate-indexes-of-relevant-alleles-for-gvcf
 slice-aggregate-indexes-of-relevant-alleles-for-gvcf c = search needs
 
-indexes-of-relevant-alleles-for-gvcf-requires : tie.Need-indexes-of-relevant-alleles-for-gvcf-requires
+indexes-of-relevant-alleles-for-gvcf-requires :
+    tie.Need-indexes-of-relevant-alleles-for-gvcf-requires
 indexes-of-relevant-alleles-for-gvcf-requires c κs = search needs
 
 slice-aggregate-ad-of : tie.Need-slice-aggregate-ad-of
@@ -27,9 +29,7 @@ array-share-prefix-map : tie.Need-array-share-prefix-map
 array-share-prefix-map c = search needs
 
 slice-aggregate-put-sample-data : tie.Need-slice-aggregate-put-sample-data
-slice-aggregate-put-sample-data c = let args = (c .before .before .before .before .before .before .before .before .before .before .before .before .before .before .before .before .args) in
-    let m = map-front (args .s .now) (args .rows .now) (args .site) ((c .before .before .before .before .before .before .before .before .before .before .before .before .before .before .before .before .pre .sound)) _ (args .position .0) (args .reference .now) (args .alts .now) refl ((c .before .before .before .before .before .before .before .before .before .before .before .before .before .before .before .before .pre .few)) (c .before .before .before .before .before .before .before .before .before .indexes-of-relevant-alleles-for-gvcf .ensures .0) (c .before .before .before .before .before .before .before .before .before .indexes-of-relevant-alleles-for-gvcf .ensures .1) in
-    m .long
+slice-aggregate-put-sample-data c = let args = ((c .before .before .before .before .before .before .before .before .before .before .before .before .before .before .before .before .before .args)) in let m = map-front (args .s .now) (args .rows .now) (args .site) (((c .before .before .before .before .before .before .before .before .before .before .before .before .before .before .before .before .before .pre .0 .sound))) _ (args .position .0) (args .reference .now) (args .alts .now) refl (((c .before .before .before .before .before .before .before .before .before .before .before .before .before .before .before .before .before .pre .0 .few))) ((c .before .before .before .before .before .before .before .before .before .indexes-of-relevant-alleles-for-gvcf .ensures .0)) ((c .before .before .before .before .before .before .before .before .before .indexes-of-relevant-alleles-for-gvcf .ensures .1)) in m .long
 
 gq-of-requires : tie.Need-gq-of-requires
 gq-of-requires c κs = search needs
@@ -38,44 +38,25 @@ dp-of-requires : tie.Need-dp-of-requires
 dp-of-requires c κs = search needs
 
 array-share-prefix-ad : tie.Need-array-share-prefix-ad
-array-share-prefix-ad c = let args = (c .before .before .before .before .before .before .before .before .before .before .before .before .before .before .before .before .before .before .args) in
-    let a = ad-front (args .s .now) (args .rows .now) (args .site) ((c .before .before .before .before .before .before .before .before .before .before .before .before .before .before .before .before .before .before .pre .sound)) _ refl (c .before .before .before .before .before .before .before .before .ad-of .ensures .0) (c .before .before .before .before .before .before .before .before .ad-of .ensures .1) in
-    a .within
+array-share-prefix-ad c = let args = ((c .before .before .before .before .before .before .before .before .before .before .before .before .before .before .before .before .before .before .before .args)) in let a = ad-front (args .s .now) (args .rows .now) (args .site) (((c .before .before .before .before .before .before .before .before .before .before .before .before .before .before .before .before .before .before .before .pre .0 .sound))) _ refl ((c .before .before .before .before .before .before .before .before .ad-of .ensures .0)) ((c .before .before .before .before .before .before .before .before .ad-of .ensures .1)) in a .within
 
 slice-aggregate-put-sample-data-2 : tie.Need-slice-aggregate-put-sample-data-2
-slice-aggregate-put-sample-data-2 c = let args = (c .before .before .before .before .before .before .before .before .before .before .before .before .before .before .before .before .before .before .before .args) in
-    let a = ad-front (args .s .now) (args .rows .now) (args .site) ((c .before .before .before .before .before .before .before .before .before .before .before .before .before .before .before .before .before .before .before .pre .sound)) _ refl (c .before .before .before .before .before .before .before .before .before .ad-of .ensures .0) (c .before .before .before .before .before .before .before .before .before .ad-of .ensures .1) in
-    a .long
+slice-aggregate-put-sample-data-2 c = let args = ((c .before .before .before .before .before .before .before .before .before .before .before .before .before .before .before .before .before .before .before .before .args)) in let a = ad-front (args .s .now) (args .rows .now) (args .site) (((c .before .before .before .before .before .before .before .before .before .before .before .before .before .before .before .before .before .before .before .before .pre .0 .sound))) _ refl ((c .before .before .before .before .before .before .before .before .before .ad-of .ensures .0)) ((c .before .before .before .before .before .before .before .before .before .ad-of .ensures .1)) in a .long
 
 array-share-prefix-pl : tie.Need-array-share-prefix-pl
-array-share-prefix-pl c = let args = (c .before .before .before .before .before .before .before .before .before .before .before .before .before .before .before .before .before .before .before .args) in
-    let p = pl-front (args .s .now) (args .rows .now) (args .site) ((c .before .before .before .before .before .before .before .before .before .before .before .before .before .before .before .before .before .before .before .pre .sound)) _ refl (c .before .before .before .before .before .before .pl-of .ensures .0) (c .before .before .before .before .before .before .pl-of .ensures .1) in
-    p .within
+array-share-prefix-pl c = let args = ((c .before .before .before .before .before .before .before .before .before .before .before .before .before .before .before .before .before .before .before .before .args)) in let p = pl-front (args .s .now) (args .rows .now) (args .site) (((c .before .before .before .before .before .before .before .before .before .before .before .before .before .before .before .before .before .before .before .before .pre .0 .sound))) _ refl ((c .before .before .before .before .before .before .pl-of .ensures .0)) ((c .before .before .before .before .before .before .pl-of .ensures .1)) in p .within
 
 slice-aggregate-put-sample-data-3 : tie.Need-slice-aggregate-put-sample-data-3
-slice-aggregate-put-sample-data-3 c = let args = (c .before .before .before .before .before .before .before .before .before .before .before .before .before .before .before .before .before .before .before .before .args) in
-    let p = pl-front (args .s .now) (args .rows .now) (args .site) ((c .before .before .before .before .before .before .before .before .before .before .before .before .before .before .before .before .before .before .before .before .pre .sound)) _ refl (c .before .before .before .before .before .before .before .pl-of .ensures .0) (c .before .before .before .before .before .before .before .pl-of .ensures .1) in
-    p .long
+slice-aggregate-put-sample-data-3 c = let args = ((c .before .before .before .before .before .before .before .before .before .before .before .before .before .before .before .before .before .before .before .before .before .args)) in let p = pl-front (args .s .now) (args .rows .now) (args .site) (((c .before .before .before .before .before .before .before .before .before .before .before .before .before .before .before .before .before .before .before .before .before .pre .0 .sound))) _ refl ((c .before .before .before .before .before .before .before .pl-of .ensures .0)) ((c .before .before .before .before .before .before .before .pl-of .ensures .1)) in p .long
 
 put-sample-data-requires : tie.Need-put-sample-data-requires
-put-sample-data-requires c κs = let args = (c .before .before .before .before .before .before .before .before .before .before .before .before .before .before .before .before .before .before .before .before .args) in
-    let m = map-front (args .s .now) (args .rows .now) (args .site) ((c .before .before .before .before .before .before .before .before .before .before .before .before .before .before .before .before .before .before .before .before .pre .sound)) _ (args .position .0) (args .reference .now) (args .alts .now) refl ((c .before .before .before .before .before .before .before .before .before .before .before .before .before .before .before .before .before .before .before .before .pre .few)) (c .before .before .before .before .before .before .before .before .before .before .before .before .before .indexes-of-relevant-alleles-for-gvcf .ensures .0) (c .before .before .before .before .before .before .before .before .before .before .before .before .before .indexes-of-relevant-alleles-for-gvcf .ensures .1) in
-    let a = ad-front (args .s .now) (args .rows .now) (args .site) ((c .before .before .before .before .before .before .before .before .before .before .before .before .before .before .before .before .before .before .before .before .pre .sound)) _ refl (c .before .before .before .before .before .before .before .before .before .before .ad-of .ensures .0) (c .before .before .before .before .before .before .before .before .before .before .ad-of .ensures .1) in
-    let p = pl-front (args .s .now) (args .rows .now) (args .site) ((c .before .before .before .before .before .before .before .before .before .before .before .before .before .before .before .before .before .before .before .before .pre .sound)) _ refl (c .before .before .before .before .before .before .before .pl-of .ensures .0) (c .before .before .before .before .before .before .before .pl-of .ensures .1) in
-    printable (args .s .now) (args .rows .now) (args .site) (args .position .0) (args .reference .now) (args .alts .now) (c .before .before .before .before .before .before .before .before .before .before .before .before .before .before .before .before .before .before .before .before .pre)
-    (c .before .before .before .gq-of .ensures) (c .before .before .dp-of .ensures) (m .front) (a .front) (p .front)
+put-sample-data-requires c κs = let args = ((c .before .before .before .before .before .before .before .before .before .before .before .before .before .before .before .before .before .before .before .before .before .args)) in let m = map-front (args .s .now) (args .rows .now) (args .site) (((c .before .before .before .before .before .before .before .before .before .before .before .before .before .before .before .before .before .before .before .before .before .pre .0 .sound))) _ (args .position .0) (args .reference .now) (args .alts .now) refl (((c .before .before .before .before .before .before .before .before .before .before .before .before .before .before .before .before .before .before .before .before .before .pre .0 .few))) ((c .before .before .before .before .before .before .before .before .before .before .before .before .before .indexes-of-relevant-alleles-for-gvcf .ensures .0)) ((c .before .before .before .before .before .before .before .before .before .before .before .before .before .indexes-of-relevant-alleles-for-gvcf .ensures .1)) in let a = ad-front (args .s .now) (args .rows .now) (args .site) (((c .before .before .before .before .before .before .before .before .before .before .before .before .before .before .before .before .before .before .before .before .before .pre .0 .sound))) _ refl ((c .before .before .before .before .before .before .before .before .before .before .ad-of .ensures .0)) ((c .before .before .before .before .before .before .before .before .before .before .ad-of .ensures .1)) in let p = pl-front (args .s .now) (args .rows .now) (args .site) (((c .before .before .before .before .before .before .before .before .before .before .before .before .before .before .before .before .before .before .before .before .before .pre .0 .sound))) _ refl ((c .before .before .before .before .before .before .before .pl-of .ensures .0)) ((c .before .before .before .before .before .before .before .pl-of .ensures .1)) in printable (args .s .now) (args .rows .now) (args .site) (args .position .0) (args .reference .now) (args .alts .now) ((c .before .before .before .before .before .before .before .before .before .before .before .before .before .before .before .before .before .before .before .before .before .pre .0)) ((c .before .before .before .gq-of .ensures)) ((c .before .before .dp-of .ensures)) (m .front) (a .front) (p .front)
 
 same-length : tie.Need-same-length
 same-length c = search needs
 
 returns : tie.Need-returns
-returns c = let args = (c .before .before .before .before .before .before .before .before .before .before .before .before .before .before .before .before .before .before .before .before .before .before .before .args) in
-    let m = map-front (args .s .now) (args .rows .now) (args .site) ((c .before .before .before .before .before .before .before .before .before .before .before .before .before .before .before .before .before .before .before .before .before .before .before .pre .sound)) _ (args .position .0) (args .reference .now) (args .alts .now) refl ((c .before .before .before .before .before .before .before .before .before .before .before .before .before .before .before .before .before .before .before .before .before .before .before .pre .few)) (c .before .before .before .before .before .before .before .before .before .before .before .before .before .before .before .before .indexes-of-relevant-alleles-for-gvcf .ensures .0) (c .before .before .before .before .before .before .before .before .before .before .before .before .before .before .before .before .indexes-of-relevant-alleles-for-gvcf .ensures .1) in
-    let a = ad-front (args .s .now) (args .rows .now) (args .site) ((c .before .before .before .before .before .before .before .before .before .before .before .before .before .before .before .before .before .before .before .before .before .before .before .pre .sound)) _ refl (c .before .before .before .before .before .before .before .before .before .before .before .before .before .ad-of .ensures .0) (c .before .before .before .before .before .before .before .before .before .before .before .before .before .ad-of .ensures .1) in
-    let p = pl-front (args .s .now) (args .rows .now) (args .site) ((c .before .before .before .before .before .before .before .before .before .before .before .before .before .before .before .before .before .before .before .before .before .before .before .pre .sound)) _ refl (c .before .before .before .before .before .before .before .before .before .before .pl-of .ensures .0) (c .before .before .before .before .before .before .before .before .before .before .pl-of .ensures .1) in
-    rw (values-said (args .s .now) (args .rows .now) (args .site) (args .position .0) (args .reference .now) (args .alts .now)
-    (c .before .before .before .before .before .before .gq-of .ensures) (c .before .before .before .before .before .dp-of .ensures) (m .front) (a .front) (p .front)) at
-    (c .before .before .put-sample-data .ensures)
+returns c = let args = ((c .before .before .before .before .before .before .before .before .before .before .before .before .before .before .before .before .before .before .before .before .before .before .before .before .args)) in let m = map-front (args .s .now) (args .rows .now) (args .site) (((c .before .before .before .before .before .before .before .before .before .before .before .before .before .before .before .before .before .before .before .before .before .before .before .before .pre .0 .sound))) _ (args .position .0) (args .reference .now) (args .alts .now) refl (((c .before .before .before .before .before .before .before .before .before .before .before .before .before .before .before .before .before .before .before .before .before .before .before .before .pre .0 .few))) ((c .before .before .before .before .before .before .before .before .before .before .before .before .before .before .before .before .indexes-of-relevant-alleles-for-gvcf .ensures .0)) ((c .before .before .before .before .before .before .before .before .before .before .before .before .before .before .before .before .indexes-of-relevant-alleles-for-gvcf .ensures .1)) in let a = ad-front (args .s .now) (args .rows .now) (args .site) (((c .before .before .before .before .before .before .before .before .before .before .before .before .before .before .before .before .before .before .before .before .before .before .before .before .pre .0 .sound))) _ refl ((c .before .before .before .before .before .before .before .before .before .before .before .before .before .ad-of .ensures .0)) ((c .before .before .before .before .before .before .before .before .before .before .before .before .before .ad-of .ensures .1)) in let p = pl-front (args .s .now) (args .rows .now) (args .site) (((c .before .before .before .before .before .before .before .before .before .before .before .before .before .before .before .before .before .before .before .before .before .before .before .before .pre .0 .sound))) _ refl ((c .before .before .before .before .before .before .before .before .before .before .pl-of .ensures .0)) ((c .before .before .before .before .before .before .before .before .before .before .pl-of .ensures .1)) in rw (values-said (args .s .now) (args .rows .now) (args .site) (args .position .0) (args .reference .now) (args .alts .now) ((c .before .before .before .before .before .before .gq-of .ensures)) ((c .before .before .before .before .before .dp-of .ensures)) (m .front) (a .front) (p .front)) at ((c .before .before .put-sample-data .ensures))
 
 pub put-site-data-spec : {M : Type 1} → statement M
 put-site-data-spec =

@@ -14,16 +14,16 @@ array-share-prefix-own : tie.Need-array-share-prefix-own
 array-share-prefix-own c = search needs
 
 slice-aggregate-put-own-samples : tie.Need-slice-aggregate-put-own-samples
-slice-aggregate-put-own-samples c = some-count (c .before .before .before .before .before .before .before .before .before .before .pre) ((c .before .before .own-sites .ensures))
+slice-aggregate-put-own-samples c = some-count ((c .before .before .before .before .before .before .before .before .before .before .before .pre .0)) (((c .before .before .own-sites .ensures)))
 
 put-own-samples-requires : tie.Need-put-own-samples-requires
-put-own-samples-requires c κs = some-printable (c .before .before .before .before .before .before .before .before .before .before .before .pre) ((c .before .before .before .own-sites .ensures))
+put-own-samples-requires c κs = (some-printable ((c .before .before .before .before .before .before .before .before .before .before .before .before .pre .0)) (((c .before .before .before .own-sites .ensures))), (c .before .before .before .before .before .before .before .before .before .before .before .before .pre .1))
 
 same-length : tie.Need-same-length
 same-length c = search needs
 
 returns : tie.Need-returns
-returns c = rw (some-lines (c .before .before .before .before .before .before .before .before .before .before .before .before .before .before .pre) ((c .before .before .before .before .before .before .own-sites .ensures))) at ((c .before .before .put-own-samples .ensures))
+returns c = rw (some-lines ((c .before .before .before .before .before .before .before .before .before .before .before .before .before .before .before .pre .0)) (((c .before .before .before .before .before .before .own-sites .ensures)))) at (((c .before .before .put-own-samples .ensures)))
 
 pub put-some-samples-spec : {M : Type 1} → statement M
 put-some-samples-spec =
