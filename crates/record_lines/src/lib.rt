@@ -64,7 +64,8 @@ pub fn put_site_data(
     out: &mut [u8],
     at: usize,
 ) -> usize
-    requires { ⌜ SitePrintable (now s) (now rows) site (position .0) (now reference) (now alts) at × AltsAt (now alts) (now fields) «alt_count» ⌝ }
+    requires { ⌜ SitePrintable (now s) (now rows) site (position .0) (now reference) (now alts) at
+        × AltsAt (now alts) (now fields) «alt_count» ⌝ }
     ensures { λ r. ⌜ Laid (now (out .entry)) at
         (printedSite (now (s .entry)) (now (rows .entry)) site (position .0) (now (reference .entry)) (now (alts .entry)))
         (now (out .exit)) r ⌝ }
@@ -109,7 +110,8 @@ fn put_sample(
     out: &mut [u8],
     at: usize,
 ) -> usize
-    requires { ⌜ SamplePrintable (now s) (now rows) own (position .0) (now reference) (now alts) at × AltsAt (now alts) (now fields) «alt_count» ⌝ }
+    requires { ⌜ SamplePrintable (now s) (now rows) own (position .0) (now reference) (now alts) at
+        × AltsAt (now alts) (now fields) «alt_count» ⌝ }
     ensures { λ r. ⌜ Laid (now (out .entry)) at
         (printedSampleData (dataOwn (now (s .entry)) (now (rows .entry)) (position .0) (now (reference .entry)) (now (alts .entry)) own))
         (now (out .exit)) r ⌝ }
@@ -144,7 +146,8 @@ fn put_own_samples(
     out: &mut [u8],
     at: usize,
 ) -> usize
-    requires { ⌜ OwnPrintable (now s) (now rows) (now own) (position .0) (now reference) (now alts) at × AltsAt (now alts) (now fields) «alt_count» ⌝ }
+    requires { ⌜ OwnPrintable (now s) (now rows) (now own) (position .0) (now reference) (now alts) at
+        × AltsAt (now alts) (now fields) «alt_count» ⌝ }
     ensures { λ r. ⌜ Laid (now (out .entry)) at
         (printedOwn (now (s .entry)) (now (rows .entry)) (position .0) (now (reference .entry)) (now (alts .entry)) (now (own .entry)))
         (now (out .exit)) r ⌝ }
@@ -183,7 +186,8 @@ fn put_some_samples(
     out: &mut [u8],
     at: usize,
 ) -> usize
-    requires { ⌜ SomePrintable (now s) (now rows) (first .0) count (now found) (position .0) (now reference) (now alts) at × AltsAt (now alts) (now fields) «alt_count» ⌝ }
+    requires { ⌜ SomePrintable (now s) (now rows) (first .0) count (now found) (position .0) (now reference) (now alts) at
+        × AltsAt (now alts) (now fields) «alt_count» ⌝ }
     ensures { λ r. ⌜ Laid (now (out .entry)) at
         (printedSome (now (s .entry)) (now (rows .entry)) (first .0) count (now (found .entry)) (position .0) (now (reference .entry)) (now (alts .entry)))
         (now (out .exit)) r ⌝ }

@@ -17,10 +17,10 @@ use Rattle.kv_text.specs.Fields.{between, fieldLength}
 use Rattle.laws.proofs.Members.{map-composed}
 use Rattle.laws.proofs.Tests.{both-of}
 use Rattle.tables.specs.Tables.{alleleSpelled, nameAt, namesIn}
-use Rattle.sample_alleles.proofs.Numbers.{Last, no-field, no-number, number-last, number-next, sample-number}
+use Rattle.sample_alleles.proofs.Numbers.{no-field, no-number, number-last, number-next, sample-number}
 use Rattle.sample_alleles.proofs.Places.{put-over}
 use Rattle.sample_alleles.specs.Fields.{AltsAt}
-use Rattle.sample_alleles.specs.Readings.{allelesIn, altNumber, altReading, eachOf, putWhere, readings, readsAs, refReading}
+use Rattle.sample_alleles.specs.Readings.{allelesIn, altNumber, eachOf, putWhere, readings, readsAs, refReading}
 
 -- numbers stored over others, each that which is wanted
 over : (p : ℕ → Bool) (number : ℕ) (old new : ℕ → ℕ) (count : ℕ) (values : List ℕ) → ((i : ℕ) → cond (p i) number (old i) ≡ new i)

@@ -15,7 +15,7 @@ use Rattle.definitions.specs.Lists.{onlyIf}
 use Rattle.definitions.specs.MergedAlleles.{extendedAllele, isAllele, remappedAlleles, spanningReading}
 use Rattle.definitions.specs.MergedRef.{siteRef, startsAt}
 use Rattle.laws.proofs.Bytes.{is-same, not-same, same-is}
-use Rattle.laws.proofs.Tests.{bool-ext, clash}
+use Rattle.laws.proofs.Tests.{clash}
 use Rattle.tables.specs.Tables.{alleleSpelled, column, partAt, refAltsSpelled, siteAt}
 use Rattle.alleles.proofs.Spelled.{same-by-bytes}
 use Rattle.sample_alleles.specs.Readings.{altReading, readings, readsAs, refReading}

@@ -265,21 +265,9 @@ fn put_alts(
             count,
             map,
         );
-        put_alt(
-            alt,
-            nonref,
-            own,
-            starts,
-            reference,
-            index,
-            alts,
-            fields,
-            count,
-            map,
-        );
-        return;
+    } else {
+        put_absent(absent, count, map);
     }
-    put_absent(absent, count, map);
     put_alt(
         alt,
         nonref,

@@ -1,13 +1,13 @@
 -- The site's ALTs from the next on are gone through first, and then this one's number is stored over theirs.
-use Prim.Native.Nat.{_-_}
+use Prim.Native.Nat.{_-_, _<_, ℕ}
 use borrow.Author.Needs.{needs}
 use lib.ListN.{length}
-use mathlib.Core.Path.{_∙_, sym}
+use mathlib.Core.Logic.{⊎-elim}
+use mathlib.Core.Path.{_∙_, ap, sym}
 use native.Mathlib.Omega.{arith}
 use Rattle.definitions.specs.Bytes.{text}
 use Rattle.kv_text.proofs.Fields.{field-within}
 use Rattle.sample_alleles.proofs.Indexes.{follows, put-last, put-next}
-use Prim.Native.Nat.{ℕ, _<_}
 use borrow.Fn.Kinds.{In}
 use borrow.Fn.PlainCycle.{Measures, is, falls, and}
 use Rattle.sample_alleles.proofs.put_alts.Reads as put-alts
@@ -46,10 +46,10 @@ put-alts-field-end-requires : (t : ℕ) → put-alts-lts.Need-field-end-requires
   has-next-reads.Learnt,
   put-alts-below t,
   put-alts.Post,
-  put-alt-reads.Asked,
-  put-alt-reads.Learnt,
   put-absent-reads.Asked,
   put-absent-reads.Learnt,
+  put-alt-reads.Asked,
+  put-alt-reads.Learnt,
 ) (put-alts-at t) put-alts.Post
 put-alts-field-end-requires t c κs = search needs
 
@@ -66,10 +66,10 @@ put-alts-sub-alt : (t : ℕ) → put-alts-lts.Need-sub-alt (
   has-next-reads.Learnt,
   put-alts-below t,
   put-alts.Post,
-  put-alt-reads.Asked,
-  put-alt-reads.Learnt,
   put-absent-reads.Asked,
   put-absent-reads.Learnt,
+  put-alt-reads.Asked,
+  put-alt-reads.Learnt,
 ) (put-alts-at t) put-alts.Post
 put-alts-sub-alt t c = search needs
 
@@ -86,10 +86,10 @@ put-alts-part-alt-start : (t : ℕ) → put-alts-lts.Need-part-alt-start (
   has-next-reads.Learnt,
   put-alts-below t,
   put-alts.Post,
-  put-alt-reads.Asked,
-  put-alt-reads.Learnt,
   put-absent-reads.Asked,
   put-absent-reads.Learnt,
+  put-alt-reads.Asked,
+  put-alt-reads.Learnt,
 ) (put-alts-at t) put-alts.Post
 put-alts-part-alt-start t c = search needs
 
@@ -106,10 +106,10 @@ put-alts-part-alt-end : (t : ℕ) → put-alts-lts.Need-part-alt-end (
   has-next-reads.Learnt,
   put-alts-below t,
   put-alts.Post,
-  put-alt-reads.Asked,
-  put-alt-reads.Learnt,
   put-absent-reads.Asked,
   put-absent-reads.Learnt,
+  put-alt-reads.Asked,
+  put-alt-reads.Learnt,
 ) (put-alts-at t) put-alts.Post
 put-alts-part-alt-end t c = let h = field-within _ _ _ _ ((c .field-end .ensures)) ((c .before .before .before .before .before .before .before .pre .1 .0)) in search needs
 
@@ -126,10 +126,10 @@ put-alts-slice-aggregate-same-bytes : (t : ℕ) → put-alts-lts.Need-slice-aggr
   has-next-reads.Learnt,
   put-alts-below t,
   put-alts.Post,
-  put-alt-reads.Asked,
-  put-alt-reads.Learnt,
   put-absent-reads.Asked,
   put-absent-reads.Learnt,
+  put-alt-reads.Asked,
+  put-alt-reads.Learnt,
 ) (put-alts-at t) put-alts.Post
 put-alts-slice-aggregate-same-bytes t c = search needs
 
@@ -146,10 +146,10 @@ put-alts-same-bytes-requires : (t : ℕ) → put-alts-lts.Need-same-bytes-requir
   has-next-reads.Learnt,
   put-alts-below t,
   put-alts.Post,
-  put-alt-reads.Asked,
-  put-alt-reads.Learnt,
   put-absent-reads.Asked,
   put-absent-reads.Learnt,
+  put-alt-reads.Asked,
+  put-alt-reads.Learnt,
 ) (put-alts-at t) put-alts.Post
 put-alts-same-bytes-requires t c κs = search needs
 
@@ -166,10 +166,10 @@ put-alts-first-non-ref-requires : (t : ℕ) → put-alts-lts.Need-first-non-ref-
   has-next-reads.Learnt,
   put-alts-below t,
   put-alts.Post,
-  put-alt-reads.Asked,
-  put-alt-reads.Learnt,
   put-absent-reads.Asked,
   put-absent-reads.Learnt,
+  put-alt-reads.Asked,
+  put-alt-reads.Learnt,
 ) (put-alts-at t) put-alts.Post
 put-alts-first-non-ref-requires t c κs = search needs
 
@@ -186,10 +186,10 @@ put-alts-new-requires : (t : ℕ) → put-alts-lts.Need-new-requires (
   has-next-reads.Learnt,
   put-alts-below t,
   put-alts.Post,
-  put-alt-reads.Asked,
-  put-alt-reads.Learnt,
   put-absent-reads.Asked,
   put-absent-reads.Learnt,
+  put-alt-reads.Asked,
+  put-alt-reads.Learnt,
 ) (put-alts-at t) put-alts.Post
 put-alts-new-requires t c κs = search needs
 
@@ -206,10 +206,10 @@ put-alts-has-next-requires : (t : ℕ) → put-alts-lts.Need-has-next-requires (
   has-next-reads.Learnt,
   put-alts-below t,
   put-alts.Post,
-  put-alt-reads.Asked,
-  put-alt-reads.Learnt,
   put-absent-reads.Asked,
   put-absent-reads.Learnt,
+  put-alt-reads.Asked,
+  put-alt-reads.Learnt,
 ) (put-alts-at t) put-alts.Post
 put-alts-has-next-requires t c κs = search needs
 
@@ -226,10 +226,10 @@ put-alts-add-next : (t : ℕ) → put-alts-lts.Need-add-next (
   has-next-reads.Learnt,
   put-alts-below t,
   put-alts.Post,
-  put-alt-reads.Asked,
-  put-alt-reads.Learnt,
   put-absent-reads.Asked,
   put-absent-reads.Learnt,
+  put-alt-reads.Asked,
+  put-alt-reads.Learnt,
 ) (put-alts-at t) put-alts.Post
 put-alts-add-next t c = let (l, m) = follows ((c .before .before .before .before .before .before .before .field-end .result)) (length ((c .before .before .before .before .before .before .before .before .before .before .before .before .before .before .args .alternates .now))) ((c .before .before .before .before .before .before .before .before .before .before .before .before .before .before .args .number)) ((c .before .has-next .ensures)) ((c .if1 .taken)) in omega arith
 
@@ -246,10 +246,10 @@ put-alts-add-put-alts : (t : ℕ) → put-alts-lts.Need-add-put-alts (
   has-next-reads.Learnt,
   put-alts-below t,
   put-alts.Post,
-  put-alt-reads.Asked,
-  put-alt-reads.Learnt,
   put-absent-reads.Asked,
   put-absent-reads.Learnt,
+  put-alt-reads.Asked,
+  put-alt-reads.Learnt,
 ) (put-alts-at t) put-alts.Post
 put-alts-add-put-alts t c = let (l, m) = follows ((c .before .before .before .before .before .before .before .field-end .result)) (length ((c .before .before .before .before .before .before .before .before .before .before .before .before .before .before .args .alternates .now))) ((c .before .before .before .before .before .before .before .before .before .before .before .before .before .before .args .number)) ((c .before .has-next .ensures)) ((c .if1 .taken)) in omega arith
 
@@ -266,74 +266,12 @@ put-alts-put-alts-requires : (t : ℕ) → put-alts-lts.Need-put-alts-requires (
   has-next-reads.Learnt,
   put-alts-below t,
   put-alts.Post,
-  put-alt-reads.Asked,
-  put-alt-reads.Learnt,
   put-absent-reads.Asked,
   put-absent-reads.Learnt,
+  put-alt-reads.Asked,
+  put-alt-reads.Learnt,
 ) (put-alts-at t) put-alts.Post
 put-alts-put-alts-requires t c κs = let (l, m) = follows ((c .before .before .before .before .before .before .before .before .field-end .result)) (length ((c .before .before .before .before .before .before .before .before .before .before .before .before .before .before .before .args .alternates .now))) ((c .before .before .before .before .before .before .before .before .before .before .before .before .before .before .before .args .number)) ((c .before .before .has-next .ensures)) ((c .before .if1 .taken)) in (omega (arith, (c .before .before .before .before .before .before .before .before .before .before .before .before .before .before .before .pre .0), (c .before .before .before .before .before .before .before .before .field-end .ensures)), (omega arith, omega arith, (c .before .before .before .before .before .before .before .before .before .before .before .before .before .before .before .pre .1 .2)))
-
-put-alts-put-alt-requires : (t : ℕ) → put-alts-lts.Need-put-alt-requires (
-  field-end-reads.Asked,
-  field-end-reads.Learnt,
-  same-bytes-reads.Asked,
-  same-bytes-reads.Learnt,
-  first-non-ref-reads.Asked,
-  first-non-ref-reads.Learnt,
-  new-reads.Asked,
-  new-reads.Learnt,
-  has-next-reads.Asked,
-  has-next-reads.Learnt,
-  put-alts-below t,
-  put-alts.Post,
-  put-alt-reads.Asked,
-  put-alt-reads.Learnt,
-  put-absent-reads.Asked,
-  put-absent-reads.Learnt,
-) (put-alts-at t) put-alts.Post
-unfolding text
-put-alts-put-alt-requires t c κs = ((c .before .before .before .before .before .before .before .before .before .same-bytes .ensures), (c .before .before .before .before .before .before .before .before .before .before .before .before .before .before .before .before .before .before .before .pre .1 .2))
-
-put-alts-same-length : (t : ℕ) → put-alts-lts.Need-same-length (
-  field-end-reads.Asked,
-  field-end-reads.Learnt,
-  same-bytes-reads.Asked,
-  same-bytes-reads.Learnt,
-  first-non-ref-reads.Asked,
-  first-non-ref-reads.Learnt,
-  new-reads.Asked,
-  new-reads.Learnt,
-  has-next-reads.Asked,
-  has-next-reads.Learnt,
-  put-alts-below t,
-  put-alts.Post,
-  put-alt-reads.Asked,
-  put-alt-reads.Learnt,
-  put-absent-reads.Asked,
-  put-absent-reads.Learnt,
-) (put-alts-at t) put-alts.Post
-put-alts-same-length t c = (c .before .before .put-alt .kept .1 .1 .1 .1 .1 .1 .1 .1 .1 .0) ∙ (c .before .before .before .before .before .before .put-alts .kept .1 .1 .1 .1 .1 .1 .1 .1 .1 .1 .0)
-
-put-alts-returns : (t : ℕ) → put-alts-lts.Need-returns (
-  field-end-reads.Asked,
-  field-end-reads.Learnt,
-  same-bytes-reads.Asked,
-  same-bytes-reads.Learnt,
-  first-non-ref-reads.Asked,
-  first-non-ref-reads.Learnt,
-  new-reads.Asked,
-  new-reads.Learnt,
-  has-next-reads.Asked,
-  has-next-reads.Learnt,
-  put-alts-below t,
-  put-alts.Post,
-  put-alt-reads.Asked,
-  put-alt-reads.Learnt,
-  put-absent-reads.Asked,
-  put-absent-reads.Learnt,
-) (put-alts-at t) put-alts.Post
-unfolding text
-put-alts-returns t c = rw ((c .before .before .before .before .before .before .before .before .before .before .new .ensures), (c .before .before .before .before .before .before .put-alts .ensures)) at ((c .before .before .put-alt .ensures)) ∙ put-next _ _ _ _ _ ((c .before .before .before .before .before .before .before .before .before .before .before .before .before .before .before .before .before .before .before .before .before .before .args .alternates .now)) _ _ _ _ ((c .before .before .before .before .before .before .before .before .before .before .before .before .before .before .before .before .before .before .before .before .before .before .pre .1 .0)) ((c .before .before .before .before .before .before .before .before .before .before .before .before .before .before .before .before .before .before .before .before .before .before .pre .1 .1)) ((c .before .before .before .before .before .before .before .before .before .before .before .before .before .before .before .field-end .ensures)) ((c .before .before .before .before .before .before .before .before .before .before .before .before .same-bytes .ensures)) ((c .before .before .before .before .before .before .before .before .before .before .before .first-non-ref .ensures)) _ _ (sym ((c .before .before .before .before .before .before .before .before .before .has-next .ensures)) ∙ (c .before .before .before .before .before .before .before .before .if1 .taken))
 
 put-alts-put-absent-requires : (t : ℕ) → put-alts-lts.Need-put-absent-requires (
   field-end-reads.Asked,
@@ -348,14 +286,14 @@ put-alts-put-absent-requires : (t : ℕ) → put-alts-lts.Need-put-absent-requir
   has-next-reads.Learnt,
   put-alts-below t,
   put-alts.Post,
-  put-alt-reads.Asked,
-  put-alt-reads.Learnt,
   put-absent-reads.Asked,
   put-absent-reads.Learnt,
+  put-alt-reads.Asked,
+  put-alt-reads.Learnt,
 ) (put-alts-at t) put-alts.Post
 put-alts-put-absent-requires t c κs = search needs
 
-put-alts-put-alt-requires-2 : (t : ℕ) → put-alts-lts.Need-put-alt-requires-2 (
+put-alts-put-alt-requires : (t : ℕ) → put-alts-lts.Need-put-alt-requires (
   field-end-reads.Asked,
   field-end-reads.Learnt,
   same-bytes-reads.Asked,
@@ -368,15 +306,15 @@ put-alts-put-alt-requires-2 : (t : ℕ) → put-alts-lts.Need-put-alt-requires-2
   has-next-reads.Learnt,
   put-alts-below t,
   put-alts.Post,
-  put-alt-reads.Asked,
-  put-alt-reads.Learnt,
   put-absent-reads.Asked,
   put-absent-reads.Learnt,
+  put-alt-reads.Asked,
+  put-alt-reads.Learnt,
 ) (put-alts-at t) put-alts.Post
 unfolding text
-put-alts-put-alt-requires-2 t c κs = ((c .before .before .before .before .before .before .before .before .before .same-bytes .ensures), (c .before .before .before .before .before .before .before .before .before .before .before .before .before .before .before .before .before .before .before .pre .1 .2))
+put-alts-put-alt-requires t c κs = ((c .before .before .before .before .before .same-bytes .ensures), (c .before .before .before .before .before .before .before .before .before .before .before .before .before .before .before .pre .1 .2))
 
-put-alts-same-length-2 : (t : ℕ) → put-alts-lts.Need-same-length-2 (
+put-alts-same-length : (t : ℕ) → put-alts-lts.Need-same-length (
   field-end-reads.Asked,
   field-end-reads.Learnt,
   same-bytes-reads.Asked,
@@ -389,14 +327,14 @@ put-alts-same-length-2 : (t : ℕ) → put-alts-lts.Need-same-length-2 (
   has-next-reads.Learnt,
   put-alts-below t,
   put-alts.Post,
-  put-alt-reads.Asked,
-  put-alt-reads.Learnt,
   put-absent-reads.Asked,
   put-absent-reads.Learnt,
+  put-alt-reads.Asked,
+  put-alt-reads.Learnt,
 ) (put-alts-at t) put-alts.Post
-put-alts-same-length-2 t c = (c .before .before .put-alt2 .kept .1 .1 .1 .1 .1 .1 .1 .1 .1 .0) ∙ (c .before .before .before .before .before .before .put-absent .kept .1 .1 .0)
+put-alts-same-length t c = (c .before .before .put-alt .kept .1 .1 .1 .1 .1 .1 .1 .1 .1 .0) ∙ ⊎-elim (λ w. ap length (w .5) ∙ w .2 .kept .1 .1 .1 .1 .1 .1 .1 .1 .1 .1 .0) (λ w. ap length (w .5) ∙ w .2 .kept .1 .1 .0) (c .before .before .before .before .if1 .came)
 
-put-alts-returns-2 : (t : ℕ) → put-alts-lts.Need-returns-2 (
+put-alts-returns : (t : ℕ) → put-alts-lts.Need-returns (
   field-end-reads.Asked,
   field-end-reads.Learnt,
   same-bytes-reads.Asked,
@@ -409,13 +347,13 @@ put-alts-returns-2 : (t : ℕ) → put-alts-lts.Need-returns-2 (
   has-next-reads.Learnt,
   put-alts-below t,
   put-alts.Post,
-  put-alt-reads.Asked,
-  put-alt-reads.Learnt,
   put-absent-reads.Asked,
   put-absent-reads.Learnt,
+  put-alt-reads.Asked,
+  put-alt-reads.Learnt,
 ) (put-alts-at t) put-alts.Post
 unfolding text
-put-alts-returns-2 t c = rw ((c .before .before .before .before .before .before .before .before .before .before .new .ensures), (c .before .before .before .before .before .before .put-absent .ensures)) at ((c .before .before .put-alt2 .ensures)) ∙ put-last _ _ _ _ _ ((c .before .before .before .before .before .before .before .before .before .before .before .before .before .before .before .before .before .before .before .before .before .before .args .alternates .now)) _ _ _ _ ((c .before .before .before .before .before .before .before .before .before .before .before .before .before .before .before .before .before .before .before .before .before .before .pre .1 .0)) ((c .before .before .before .before .before .before .before .before .before .before .before .before .before .before .before .before .before .before .before .before .before .before .pre .1 .1)) ((c .before .before .before .before .before .before .before .before .before .before .before .before .before .before .before .field-end .ensures)) ((c .before .before .before .before .before .before .before .before .before .before .before .before .same-bytes .ensures)) ((c .before .before .before .before .before .before .before .before .before .before .before .first-non-ref .ensures)) _ _ (sym ((c .before .before .before .before .before .before .before .before .before .has-next .ensures)) ∙ (c .before .before .before .before .before .before .before .before .if1 .left))
+put-alts-returns t c = ⊎-elim (λ w. rw ((c .before .before .before .before .before .before .new .ensures), w .5 ∙ w .2 .ensures) at ((c .before .before .put-alt .ensures)) ∙ put-next _ _ _ _ _ ((c .before .before .before .before .before .before .before .before .before .before .before .before .before .before .before .before .before .before .args .alternates .now)) _ _ _ _ ((c .before .before .before .before .before .before .before .before .before .before .before .before .before .before .before .before .before .before .pre .1 .0)) ((c .before .before .before .before .before .before .before .before .before .before .before .before .before .before .before .before .before .before .pre .1 .1)) ((c .before .before .before .before .before .before .before .before .before .before .before .field-end .ensures)) ((c .before .before .before .before .before .before .before .before .same-bytes .ensures)) ((c .before .before .before .before .before .before .before .first-non-ref .ensures)) _ _ (sym ((c .before .before .before .before .before .has-next .ensures)) ∙ w .0 .taken)) (λ w. rw ((c .before .before .before .before .before .before .new .ensures), w .5 ∙ w .2 .ensures) at ((c .before .before .put-alt .ensures)) ∙ put-last _ _ _ _ _ ((c .before .before .before .before .before .before .before .before .before .before .before .before .before .before .before .before .before .before .args .alternates .now)) _ _ _ _ ((c .before .before .before .before .before .before .before .before .before .before .before .before .before .before .before .before .before .before .pre .1 .0)) ((c .before .before .before .before .before .before .before .before .before .before .before .before .before .before .before .before .before .before .pre .1 .1)) ((c .before .before .before .before .before .before .before .before .before .before .before .field-end .ensures)) ((c .before .before .before .before .before .before .before .before .same-bytes .ensures)) ((c .before .before .before .before .before .before .before .first-non-ref .ensures)) _ _ (sym ((c .before .before .before .before .before .has-next .ensures)) ∙ w .0 .left)) (c .before .before .before .before .if1 .came)
 
 pub +put-alts-spec : {M : Type 1} → statement M
 +put-alts-spec = close μ-put-alts λ t. put-alts-lts.spec (
@@ -431,10 +369,10 @@ pub +put-alts-spec : {M : Type 1} → statement M
   has-next-reads.Learnt,
   put-alts-below t,
   put-alts.Post,
-  put-alt-reads.Asked,
-  put-alt-reads.Learnt,
   put-absent-reads.Asked,
   put-absent-reads.Learnt,
+  put-alt-reads.Asked,
+  put-alt-reads.Learnt,
 )
     (put-alts-at t)
     put-alts.Post
@@ -450,10 +388,7 @@ pub +put-alts-spec : {M : Type 1} → statement M
     (put-alts-add-next t)
     (put-alts-add-put-alts t)
     (put-alts-put-alts-requires t)
+    (put-alts-put-absent-requires t)
     (put-alts-put-alt-requires t)
     (put-alts-same-length t)
     (put-alts-returns t)
-    (put-alts-put-absent-requires t)
-    (put-alts-put-alt-requires-2 t)
-    (put-alts-same-length-2 t)
-    (put-alts-returns-2 t)

@@ -1,5 +1,4 @@
 -- The site's alleles as a row of the table has them.
-use mathlib.Core.Path.{_∙_}
 use native.Mathlib.Omega.{arith}
 use Rattle.sample_alleles.proofs.Readings.{site-readings}
 use borrow.Author.Needs.{needs}

@@ -2,7 +2,6 @@
 use Prim.Native.Nat.{_-_}
 use borrow.Author.Needs.{needs}
 use mathlib.Core.List.{_++_}
-use mathlib.Core.Path.{_∙_}
 use native.Mathlib.Omega.{arith}
 use Rattle.definitions.specs.Alleles.{letters, sameAllele}
 use Rattle.sample_alleles.proofs.Places.{Unput, all-put, all-unput, next-unput}

@@ -1,6 +1,5 @@
 -- REF, the ALTs, and what REF reads as.
 use mathlib.Core.Path.{_∙_}
-use native.Mathlib.Omega.{arith}
 use Rattle.sample_alleles.proofs.Indexes.{all-numbers}
 use borrow.Author.Needs.{needs}
 use Rattle.sample_alleles.proofs.put_indexes.Statement.{statement}

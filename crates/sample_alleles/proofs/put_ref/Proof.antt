@@ -1,7 +1,5 @@
 -- By whether the site starts at the position.
-use mathlib.Core.Path.{_∙_, sym}
-use mathlib.Core.Bool.{Bool}
-use lib.ListN.{drop}
+use mathlib.Core.Path.{sym}
 use Rattle.definitions.specs.Lists.{onlyIf}
 use Rattle.definitions.specs.MergedAlleles.{extendedAllele, isAllele}
 use Rattle.sample_alleles.proofs.Places.{put-none}

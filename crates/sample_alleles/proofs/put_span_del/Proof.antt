@@ -1,7 +1,6 @@
 -- Index by index.
 use Prim.Native.Nat.{_-_}
 use borrow.Author.Needs.{needs}
-use mathlib.Core.Path.{_∙_}
 use native.Mathlib.Omega.{arith}
 use Rattle.definitions.specs.Bytes.{sameBytes, text}
 use Rattle.sample_alleles.proofs.Places.{Unput, all-put, all-unput, next-unput}

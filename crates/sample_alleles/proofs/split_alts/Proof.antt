@@ -4,7 +4,6 @@ use borrow.Author.Needs.{needs}
 use lib.ListN.{length, length-set}
 use native.Mathlib.Omega.{arith}
 use mathlib.Core.Path.{refl}
-use Rattle.kv_text.proofs.Fields.{field-within}
 use Rattle.sample_alleles.proofs.Fields.{Unsplit, all-split, all-unsplit, next-unsplit, room-here}
 use Rattle.sample_alleles.proofs.split_alts.Statement.{statement}
 use Rattle.sample_alleles.proofs.split_alts.Tie as tie
