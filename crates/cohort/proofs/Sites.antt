@@ -38,6 +38,7 @@ module _ (samples : ℕ) (s : List ℕ) (at₀ : ℕ) (rows₀ : List ℕ) where
     pub long : length rows ≡ length rows₀
     pub numbered : Numbered s rows count
     pub few : count ≤ 4096
+    pub room : count * 17 ≤ length rows₀
     pub rest : drop (count * 17) rows ≡ drop (count * 17) rows₀
     pub whole : (names : List (List ℕ)) → samples ≡ length names → left names s (sitesIn s rows count) next ≡ sitesFrom names s at₀
 
@@ -47,6 +48,7 @@ module _ (samples : ℕ) (s : List ℕ) (at₀ : ℕ) (rows₀ : List ℕ) where
     long = refl;
     numbered = numbered-none s rows₀;
     few = omega arith;
+    room = omega arith;
     rest = refl;
     whole = λ names e. sym (continued-start _);
   }
@@ -66,12 +68,14 @@ module _ (samples : ℕ) (s : List ℕ) (at₀ : ℕ) (rows₀ : List ℕ) where
         (group-refused 10 (omega arith) (siteOf names) (reverse (sitesIn s rows count)) s next row more (same-group rows next count names n ∙ e))
         ∙ continued-refused (reverse (sitesIn s rows count)) row
 
+    pub no-row : {x : Site} → siteGroupOf s next samples count ≡ accepted x → length rows < count * 17 + 17
+        → SitesRead samples s at₀ rows₀ rows sites.NoRoom
+    unfolding SitesRead
+    no-row e short = omega (arith, few-before s next samples count e, inv .long)
+
     module _ (p : SitePlace) (a : SiteAlleles) (v : SiteValues) (block : Bool) (to : SiteTo s next samples count p a v block)
         (contig : ℕ) (first : contig ≡ firstOn s rows count (between s (p .contig .at) (p .contig .end)))
-        (room : 69632 ≤ length rows₀) where
-      fits : count * 17 + 17 ≤ length rows
-      fits = omega (arith, few-before s next samples count (to .value), inv .long)
-
+        (fits : count * 17 + 17 ≤ length rows) where
       pub site-read : (after : List ℕ) → length after ≡ length rows → after ≡ sets rows (count * 17) (rowOf p contig a v block)
           → Reading after (v .next) (count + 1)
       unfolding siteLines
@@ -79,6 +83,7 @@ module _ (samples : ℕ) (s : List ℕ) (at₀ : ℕ) (rows₀ : List ℕ) where
         long = same ∙ inv .long;
         numbered = rw e (numbered-more s rows count p contig a v block fits (inv .numbered) first (to .is-block));
         few = omega (arith, few-before s next samples count (to .value));
+        room = omega (arith, inv .long);
         rest = rw e (rest-more rows (rowOf p contig a v block) count refl fits rows₀ (inv .rest));
         whole = λ names n. rw (e, sites-more s rows count p contig a v block fits) (turned names n);
       }
@@ -105,5 +110,6 @@ module _ (samples : ℕ) (s : List ℕ) (at₀ : ℕ) (rows₀ : List ℕ) where
         ∙ ap {B = Checked (List Site)} accepted (reverse-reverse (sitesIn s rows count));
     table = numbered-rows s rows count (inv .numbered);
     few = inv .few;
+    room = inv .room;
     rest = inv .rest;
   }

@@ -57,16 +57,18 @@ sitesIn s rows count = map (siteAt s rows) (numbersFrom 0 count)
 unfoldable pub sitesFrom : List (List ℕ) → List ℕ → ℕ → Checked (List Site)
 sitesFrom names s at = readEach (siteOf names) [] (groupsOf siteLines (linesOf (drop at s)))
 
--- the table has the sites, whatever the names of so many samples, and behind their rows it is as it was
+-- the table has the sites, whatever the names of so many samples, there is room for their rows, and behind them it is as it was
 pub record SitesTo (samples : ℕ) (s : List ℕ) (at : ℕ) (rows₀ rows : List ℕ) (count : ℕ) : Type 0 where
   pub value : (names : List (List ℕ)) → samples ≡ length names → sitesFrom names s at ≡ accepted (sitesIn s rows count)
   pub table : SiteRows s rows (sitesIn s rows count)
   pub few : count ≤ maxSites
+  pub room : count * rowLength ≤ length rows₀
   pub rest : drop (count * rowLength) rows ≡ drop (count * rowLength) rows₀
 
 unfoldable pub SitesRead : ℕ → List ℕ → ℕ → List ℕ → List ℕ → SitesAt → Type 0
 SitesRead samples s at rows₀ rows (sites.Sites count) = SitesTo samples s at rows₀ rows count
 SitesRead samples s at rows₀ rows (sites.Refused row) = (names : List (List ℕ)) → samples ≡ length names → sitesFrom names s at ≡ refused row
+SitesRead samples s at rows₀ rows sites.NoRoom = length rows₀ < maxSites * rowLength
 
 -- ---- the cohort
 
@@ -74,14 +76,14 @@ SitesRead samples s at rows₀ rows (sites.Refused row) = (names : List (List �
 unfoldable pub fittingCohort : List ℕ → Checked Cohort
 fittingCohort s = require 2 (fits s) >> cohortOf s
 
--- both tables have room
-pub record Room (names rows : List ℕ) : Type 0 where
+-- there is room for the names and for the rows of so many sites
+pub record Room (names rows : List ℕ) (count : ℕ) : Type 0 where
   pub for-names : 2 * maxSamples ≤ length names
-  pub for-rows : maxSites * rowLength ≤ length rows
+  pub for-rows : count * rowLength ≤ length rows
 
 -- the tables have the cohort, and behind it they are as they were
 pub record CohortTo (s names₀ names rows₀ rows : List ℕ) (samples count : ℕ) : Type 0 where
-  pub room : Room names₀ rows₀
+  pub room : Room names₀ rows₀ count
   pub value : fittingCohort s ≡ accepted (record { names = namesIn s names samples; sites = sitesIn s rows count })
   pub table : SiteRows s rows (sitesIn s rows count)
   pub some-sample : 0 < samples
@@ -92,24 +94,24 @@ pub record CohortTo (s names₀ names rows₀ rows : List ℕ) (samples count : 
 
 -- the row refuses the text, and both tables are zero
 pub record CohortRefused (s names₀ names rows₀ rows : List ℕ) (row : ℕ) : Type 0 where
-  pub room : Room names₀ rows₀
+  pub room : 2 * maxSamples ≤ length names₀
   pub value : fittingCohort s ≡ refused row
   pub names-cleared : names ≡ scratchAfter names₀
   pub rows-cleared : rows ≡ scratchAfter rows₀
 
--- a table is too short, and both are as they were
+-- a table is too short, and both are zero
 pub record CohortUnread (names₀ names rows₀ rows : List ℕ) : Type 0 where
   pub no-room : (length names₀ < 2 * maxSamples) ⊎ (length rows₀ < maxSites * rowLength)
-  pub names-same : names ≡ names₀
-  pub rows-same : rows ≡ rows₀
+  pub names-cleared : names ≡ scratchAfter names₀
+  pub rows-cleared : rows ≡ scratchAfter rows₀
 
 unfoldable pub CohortAt : List ℕ → List ℕ → List ℕ → List ℕ → List ℕ → CohortRead → Type 0
 CohortAt s names₀ names rows₀ rows (cohort.Cohort samples count) = CohortTo s names₀ names rows₀ rows samples count
 CohortAt s names₀ names rows₀ rows (cohort.Refused row) = CohortRefused s names₀ names rows₀ rows row
 CohortAt s names₀ names rows₀ rows cohort.NoRoom = CohortUnread names₀ names rows₀ rows
 
--- the same where there is room, with the tables left open after a refusal
+-- the same where there is room for the names, with the tables left open where the cohort is not read
 unfoldable pub CohortFitting : List ℕ → List ℕ → List ℕ → List ℕ → List ℕ → CohortRead → Type 0
 CohortFitting s names₀ names rows₀ rows (cohort.Cohort samples count) = CohortTo s names₀ names rows₀ rows samples count
 CohortFitting s names₀ names rows₀ rows (cohort.Refused row) = fittingCohort s ≡ refused row
-CohortFitting s names₀ names rows₀ rows cohort.NoRoom = ⊥
+CohortFitting s names₀ names rows₀ rows cohort.NoRoom = length rows₀ < maxSites * rowLength

@@ -5,10 +5,11 @@ ghost use Prim.Native.Nat.{_*_, _+_, _≤_};
 ghost use lib.Dec.{eqb};
 ghost use lib.ListN.{length};
 ghost use lib.Seq.{sets};
+ghost use Rattle.definitions.specs.Answers.{scratchAfter};
 ghost use Rattle.definitions.specs.Bytes.{sameBytes};
-ghost use Rattle.definitions.specs.Limits.{maxSites};
-ghost use Rattle.tables.specs.Tables.{column, partAt, rowLength};
-ghost use Rattle.cohort.specs.Cohort.{CohortAt, CohortFitting, ContigsNumbered, Room, SitesRead, firstOn, rowOf};
+ghost use Rattle.definitions.specs.Limits.{maxSamples};
+ghost use Rattle.tables.specs.Tables.{column, partAt};
+ghost use Rattle.cohort.specs.Cohort.{CohortAt, CohortFitting, ContigsNumbered, SitesRead, firstOn, rowOf};
 use sample_names::HeaderRead;
 use site_groups::SiteAlleles;
 use site_groups::SiteAt;
@@ -80,15 +81,15 @@ fn contig_number(s: &[u8], rows: &[usize], count: usize, contig: &[u8]) -> usize
     count
 }
 
-// How many sites there are, or the row that refuses the first faulty group.
+// How many sites there are; or the row that refuses the first faulty group; or the table has no row for a site.
 pub enum SitesAt {
     Sites(usize),
     Refused(usize),
+    NoRoom,
 }
 
 // The site groups from an offset on, of a cohort with so many samples: a row for each, from the first row on.
 fn read_sites(s: &[u8], at: usize, samples: usize, rows: &mut [usize]) -> SitesAt
-    requires { ⌜ maxSites * rowLength ≤ length (now rows) ⌝ }
     ensures { λ r. ⌜ SitesRead samples (now (s .entry)) at (now (rows .entry)) (now (rows .exit)) r ⌝ }
 {
     let mut next = at;
@@ -100,6 +101,9 @@ fn read_sites(s: &[u8], at: usize, samples: usize, rows: &mut [usize]) -> SitesA
                 return SitesAt::Refused(row);
             }
             SiteAt::Site(place, alleles, values, block) => {
+                if rows.len() < count * 17 + 17 {
+                    return SitesAt::NoRoom;
+                }
                 let name = tables::part(s, place.contig.at, place.contig.end);
                 let contig = contig_number(s, rows, count, name);
                 put_site(rows, count, place, contig, alleles, values, block);
@@ -118,9 +122,9 @@ pub enum CohortRead {
     NoRoom,
 }
 
-// The same where there is room; what stands in the tables after a refusal is open.
+// The same where there is room for the names; what stands in the tables after a refusal, or where the sites have no room, is open.
 fn read_fitting(s: &[u8], names: &mut [usize], rows: &mut [usize]) -> CohortRead
-    requires { ⌜ Room (now names) (now rows) ⌝ }
+    requires { ⌜ 2 * maxSamples ≤ length (now names) ⌝ }
     ensures { λ r. ⌜ CohortFitting (now (s .entry)) (now (names .entry)) (now (names .exit)) (now (rows .entry)) (now (rows .exit)) r ⌝ }
 {
     if 16777216 < s.len() {
@@ -133,6 +137,7 @@ fn read_fitting(s: &[u8], names: &mut [usize], rows: &mut [usize]) -> CohortRead
         HeaderRead::Samples(samples, at) => {
             let sites = read_sites(s, at, samples, rows);
             match sites {
+                SitesAt::NoRoom => CohortRead::NoRoom,
                 SitesAt::Refused(row) => CohortRead::Refused(row),
                 SitesAt::Sites(count) => CohortRead::Cohort(samples, count),
             }
@@ -140,23 +145,32 @@ fn read_fitting(s: &[u8], names: &mut [usize], rows: &mut [usize]) -> CohortRead
     }
 }
 
-// Reads cohort.kv, rows 1 to 8, into the two tables: 128 numbers for names, two each, and 17 numbers for each of 4,096 sites.
+// Clears both tables.
+fn clear_tables(names: &mut [usize], rows: &mut [usize])
+    ensures { λ _. ⌜ (now (rows .exit) ≡ scratchAfter (now (rows .entry))) × (now (names .exit) ≡ scratchAfter (now (names .entry))) ⌝ }
+{
+    tables::clear(names);
+    tables::clear(rows);
+}
+
+// Reads cohort.kv, rows 1 to 8, into the two tables: 128 numbers for names, two each, and 17 numbers for each site, 4,096 at most. If a
+// table is too short, or a row refuses the text, both are cleared.
 pub fn read_cohort(s: &[u8], names: &mut [usize], rows: &mut [usize]) -> CohortRead
     ensures { λ r. ⌜ CohortAt (now (s .entry)) (now (names .entry)) (now (names .exit)) (now (rows .entry)) (now (rows .exit)) r ⌝ }
 {
     if names.len() < 128 {
-        return CohortRead::NoRoom;
-    }
-    if rows.len() < 69632 {
+        clear_tables(names, rows);
         return CohortRead::NoRoom;
     }
     let read = read_fitting(s, names, rows);
     match read {
-        CohortRead::NoRoom => CohortRead::NoRoom,
         CohortRead::Cohort(samples, sites) => CohortRead::Cohort(samples, sites),
+        CohortRead::NoRoom => {
+            clear_tables(names, rows);
+            CohortRead::NoRoom
+        }
         CohortRead::Refused(row) => {
-            tables::clear(names);
-            tables::clear(rows);
+            clear_tables(names, rows);
             CohortRead::Refused(row)
         }
     }

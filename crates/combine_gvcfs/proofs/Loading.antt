@@ -4,7 +4,7 @@ use lib.ListN.{drop, getD, length, length-append, length-map, take}
 use lib.Seq.{take-append-seam}
 use mathlib.Core.Bool.{Bool, _&&_, false, true}
 use mathlib.Core.List.{List, [], _++_, _∷_, map}
-use mathlib.Core.Logic.{⊎-elim}
+use mathlib.Core.Logic.{inl, inr, ⊎-elim}
 use mathlib.Core.Option.{Option, none, some}
 use mathlib.Core.Path.{_∙_, _≡_, ap, refl, subst, sym}
 use native.Mathlib.Omega.{arith}
@@ -27,6 +27,7 @@ use Rattle.definitions.specs.Intervals.{contigsOf}
 use Rattle.definitions.specs.Limits.{maxSamples, maxSites}
 use Rattle.definitions.specs.Lines.{Line}
 use Rattle.definitions.specs.Lists.{missingOr, numbersFrom, onlyIf}
+use Rattle.indexed_groups.proofs.ShortTables.{no-segment-rows, no-span-rows}
 use Rattle.indexed_groups.proofs.Storing.{segments-still}
 use Rattle.indexed_groups.specs.Indexed.{SegmentsIndexed, SegmentsOnly, SpansIndexed, SpansOnly}
 use Rattle.kv_write.proofs.Laying.{sets-front}
@@ -40,24 +41,20 @@ use Rattle.laws.proofs.SoundRecords.{NameAfter}
 use Rattle.laws.proofs.Tests.{all-three, clash}
 use Rattle.tables.proofs.SameSites.{same-rows, same-sites}
 use Rattle.tables.specs.Tables.{nameAt, namesIn, siteAt, tableLength}
-use Rattle.combine_gvcfs.specs.Combined.{CallLoaded, CohortHeld, Combined, ListReady, TextsAnswered, TextsFit, listWithin, textsOf}
+use Rattle.combine_gvcfs.specs.Combined.{CallLoaded, CohortHeld, Combined, ListReady, TableWhole, TablesFit, TextsAnswered, TextsFit, listWithin, textsOf}
 
 -- ---- the sites by sample, and the contigs in order
 
 module _ {s names rows : List ℕ} {samples sites : ℕ} {clipped : Bool} {clip : List ℕ} {referenced : Bool} {reference : List ℕ}
     (call : CallLoaded s names rows samples sites clipped clip referenced reference) where
-  -- sites are few
-  pub sites-few : sites ≤ maxSites
-  sites-few = omega (arith, call .all-sites, call .loaded .sound .cohort .few-sites)
-
-  module _ {zeros firsts : List ℕ} {n : ℕ} (long : length zeros ≡ maxSites)
+  module _ {zeros firsts : List ℕ} {n : ℕ} (long : sites ≤ length zeros)
       (o : ContigOrder s rows (call .loaded .input .cohort .sites) zeros firsts n) where
     contigs-few : length (o .firsts) ≤ length zeros
     unfolding contigsOf
     contigs-few =
         let many : length (o .firsts) ≡ length (contigsOf (call .loaded .input .cohort .sites)) = sym (length-map (o .firsts) _) ∙ ap length (o .names) in
         let few = ascending-few compareBytes (map (λ (x : Site). x .contig) (call .loaded .input .cohort .sites)) in
-        omega (arith, many, few, length-map (call .loaded .input .cohort .sites) (λ (x : Site). x .contig), call .loaded .sound .cohort .few-sites)
+        omega (arith, many, few, length-map (call .loaded .input .cohort .sites) (λ (x : Site). x .contig), call .all-sites)
 
     all-stored : firsts ≡ o .firsts ++ drop (length (o .firsts)) zeros
     all-stored = o .stored ∙ sets-front zeros (o .firsts) contigs-few
@@ -161,7 +158,7 @@ module _ (cohort : List ℕ) (clipped : Bool) (clip : List ℕ) (referenced : Bo
         let (short, _, _) = all-three (fits cohort) (missingOr fits (onlyIf clipped clip)) (missingOr fits (onlyIf referenced reference)) fit in
         required 2 _ _ fit (then-refused _ _ (sym (required 2 _ (cohortOf cohort) short refl) ∙ e))
 
-    pub cohort-held : {names₀ names rows₀ rows : List ℕ} {samples sites : ℕ} → 2 * maxSamples ≤ length names → tableLength ≤ length rows
+    pub cohort-held : {names₀ names rows₀ rows : List ℕ} {samples sites : ℕ} → 2 * maxSamples ≤ length names → TableWhole rows
         → CohortTo cohort names₀ names rows₀ rows samples sites → CohortHeld cohort names rows samples sites clipped clip referenced reference
     unfolding fittingCohort
     cohort-held room whole c = after-required _ _ _ (c .value) λ short e.
@@ -176,6 +173,9 @@ module _ (cohort : List ℕ) (clipped : Bool) (clip : List ℕ) (referenced : Bo
         }
 
 -- ---- rows of segments and spans
+
+pub still-whole : (rows rows′ : List ℕ) → length rows′ ≡ length rows → TableWhole rows → TableWhole rows′
+still-whole rows rows′ e w = ⊎-elim (λ h. inl (omega arith)) (λ h. inr (omega arith)) w
 
 module _ {s names rows : List ℕ} {samples sites : ℕ} {clipped : Bool} {clip : List ℕ} {referenced : Bool} {reference : List ℕ}
     (held : CohortHeld s names rows samples sites clipped clip referenced reference) {rows₁ rows₂ : List ℕ}
@@ -197,14 +197,16 @@ module _ {s names rows : List ℕ} {samples sites : ℕ} {clipped : Bool} {clip 
         few = held .few;
         few-sites = held .few-sites;
         in-table = held .in-table;
-        whole = omega (arith, held .whole, first .long, second .long);
+        whole = still-whole rows rows₂ (second .long ∙ first .long) (held .whole);
       }
 
   pub segments-there : (referenced ≡ true → tableLength ≤ length rows → SegmentsIndexed reference rows₁) → referenced ≡ true → SegmentsIndexed reference rows₂
-  segments-there x e = segments-still reference rows₁ rows₂ second (x e (held .whole))
+  segments-there x e = ⊎-elim (λ h. segments-still reference rows₁ rows₂ second (x e h))
+      (λ h. no-segment-rows reference rows₂ (omega (arith, first .long, second .long))) (held .whole)
 
   pub spans-there : (clipped ≡ true → tableLength ≤ length rows₁ → SpansIndexed clip rows₂) → clipped ≡ true → SpansIndexed clip rows₂
-  spans-there x e = x e (omega (arith, held .whole, first .long))
+  spans-there x e = ⊎-elim (λ h. x e (omega (arith, first .long)))
+      (λ h. no-span-rows clip rows₂ (omega (arith, first .long, second .long))) (held .whole)
 
 -- ---- texts in order
 
@@ -291,11 +293,40 @@ module _ {s names rows : List ℕ} {samples sites : ℕ} {clipped : Bool} {clip 
         answered = subst (λ (list : Checked (List ℕ)). Answered list out out′ o) (sym (then _ _ input-read refl)) (says call-loaded);
       }
 
--- ---- tables that are long enough
+-- ---- the tables of a call
 
-pub no-room-never : {R : Type 0} {names₀ names rows₀ rows : List ℕ} → length names₀ ≡ 2 * maxSamples → length rows₀ ≡ tableLength
-    → CohortUnread names₀ names rows₀ rows → R
-no-room-never e f u = ⊎-elim (λ h. absurd (omega arith)) (λ h. absurd (omega arith)) (u .no-room)
+-- lists for so many sites, and a table that has no more rows
+pub tables-fit : {names rows order firsts chosen : List ℕ} (places : ℕ) → length names ≡ 2 * maxSamples → length order ≡ places → length firsts ≡ places
+    → length chosen ≡ places → TableWhole rows → ((sites : ℕ) → sites ≤ maxSites → sites * 17 ≤ length rows → sites ≤ places)
+    → TablesFit names rows order firsts chosen
+tables-fit places n o f c whole few = record {
+  for-names = omega arith;
+  whole = whole;
+  for-sites = λ sites h k. let fit = few sites h k in record { for-order = omega arith; for-firsts = omega arith; for-chosen = omega arith };
+}
+
+-- a table for 256 sites
+pub short-fit : {names rows order firsts chosen : List ℕ} → length names ≡ 2 * maxSamples → length rows ≡ 4352 → length order ≡ 256 → length firsts ≡ 256
+    → length chosen ≡ 256 → TablesFit names rows order firsts chosen
+short-fit n r o f c = tables-fit 256 n o f c (inr (omega arith)) (λ sites h k. omega arith)
+
+-- a table for all
+pub long-fit : {names rows order firsts chosen : List ℕ} → length names ≡ 2 * maxSamples → length rows ≡ tableLength → length order ≡ maxSites
+    → length firsts ≡ maxSites → length chosen ≡ maxSites → TablesFit names rows order firsts chosen
+long-fit n r o f c = tables-fit 4096 n o f c (inl (omega arith)) (λ sites h k. h)
+
+-- a table with room for the names has none for the rows
+pub rows-short : {names₀ names rows₀ rows : List ℕ} → 2 * maxSamples ≤ length names₀ → CohortUnread names₀ names rows₀ rows → length rows₀ < maxSites * 17
+rows-short e u = ⊎-elim (λ h. absurd (omega arith)) (λ h. h) (u .no-room)
+
+-- the table for all has rows for all sites
+pub full-table : {R : Type 0} (places : ℕ) → places ≡ tableLength → places < maxSites * 17 → R
+full-table places e h = absurd (omega arith)
+
+-- the other tables are tried with the same output
+pub tried-again : {t : Texts} {scratch scratch₁ : ℕ} {out out₁ out′ : List ℕ} {r : Outcome} → scratch₁ ≡ scratch → out₁ ≡ out
+    → TextsAnswered t scratch₁ out₁ out′ r → TextsAnswered t scratch out out′ r
+tried-again e f a = rw (← e, ← f) a
 
 -- ---- scratch
 

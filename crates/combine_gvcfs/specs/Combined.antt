@@ -1,8 +1,9 @@
 -- What a call answers, and what its buffers hold at the end.
-use Prim.Native.Nat.{_*_, _≤_, ℕ}
+use Prim.Native.Nat.{_*_, _<_, _≤_, ℕ}
 use lib.ListN.{length}
 use mathlib.Core.Bool.{Bool, _&&_, true}
 use mathlib.Core.List.{List, flatMap, map}
+use mathlib.Core.Logic.{_⊎_}
 use mathlib.Core.Path.{_≡_}
 use Rattle.answers.specs.Answered.{Answered, outcomeAnswer}
 use Rattle.answers.specs.declared.Outcome.{Outcome}
@@ -20,9 +21,11 @@ use Rattle.definitions.specs.Records.{Record}
 use Rattle.laws.proofs.Every.{Every}
 use Rattle.list_header.specs.HeaderNames.{HeaderNames}
 use Rattle.merged_records.specs.Loaded.{Loaded, chosenLetters}
-use Rattle.tables.specs.Tables.{SiteRows, namesIn, partAt, tableLength}
+use Rattle.tables.specs.Tables.{SiteRows, countsAt, namesIn, partAt, rowLength, tableLength}
 use Rattle.combine_gvcfs.specs.Contigs.{Grouped, IsFirst, allRecords}
 use Rattle.contig_walk.specs.Walk.{ClipGiven}
+use Rattle.combine_gvcfs.specs.declared.Tried.the-variants as tried
+use Rattle.combine_gvcfs.specs.declared.Tried.{Tried}
 
 -- ---- the answer
 
@@ -52,7 +55,28 @@ abbrev pub TextsFit : List ℕ → Bool → List ℕ → Bool → List ℕ → T
 TextsFit cohort clipped clip referenced reference =
     (fits cohort && missingOr fits (onlyIf clipped clip) && missingOr fits (onlyIf referenced reference)) ≡ true
 
--- and the tables hold the cohort, with room for the groups of the other texts
+-- lists that are filled have room for so many sites: their numbers by sample, those of first sites on a contig, and those on a contig
+pub record ListsFit (sites : ℕ) (order firsts chosen : List ℕ) : Type 0 where
+  pub for-order : sites ≤ length order
+  pub for-firsts : sites ≤ length firsts
+  pub for-chosen : length order ≤ length chosen
+
+-- a table has room for the groups of the other texts, or ends before their counts
+abbrev pub TableWhole : List ℕ → Type 0
+TableWhole rows = (tableLength ≤ length rows) ⊎ (length rows ≤ countsAt)
+
+-- tables and lists of a call: sites that have rows fit the lists
+pub record TablesFit (names rows order firsts chosen : List ℕ) : Type 0 where
+  pub for-names : 2 * maxSamples ≤ length names
+  pub whole : TableWhole rows
+  pub for-sites : (sites : ℕ) → sites ≤ maxSites → sites * rowLength ≤ length rows → ListsFit sites order firsts chosen
+
+-- what tables of so many places gave: the answer, or they have no room for the cohort, and then nothing was written
+unfoldable pub TriedWith : Texts → ℕ → List ℕ → List ℕ → ℕ → Tried → Type 0
+TriedWith texts scratch out out′ places (tried.Done outcome) = TextsAnswered texts scratch out out′ outcome
+TriedWith texts scratch out out′ places tried.NoRoom = (out′ ≡ out) × (places < maxSites * rowLength)
+
+-- no text is too long, and the tables hold the cohort
 pub record CohortHeld (s names rows : List ℕ) (samples sites : ℕ) (clipped : Bool) (clip : List ℕ) (referenced : Bool) (reference : List ℕ) : Type 0 where
   pub all-fit : TextsFit s clipped clip referenced reference
   pub value : cohortOf s ≡ accepted (record { names = namesIn s names samples; sites = sitesIn s rows sites })
@@ -60,7 +84,7 @@ pub record CohortHeld (s names rows : List ℕ) (samples sites : ℕ) (clipped :
   pub few : samples ≤ maxSamples
   pub few-sites : sites ≤ maxSites
   pub in-table : 2 * samples ≤ length names
-  pub whole : tableLength ≤ length rows
+  pub whole : TableWhole rows
 
 -- ---- texts in order
 

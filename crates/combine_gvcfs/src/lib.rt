@@ -13,7 +13,7 @@ ghost use Rattle.indexed_groups.specs.Indexed.{SegmentsIndexed, SegmentsOnly, S
 ghost use Rattle.list_header.specs.Measured.{limit};
 ghost use Rattle.merged_records.specs.Loaded.{chosenLetters};
 ghost use Rattle.tables.specs.Tables.{tableLength};
-ghost use Rattle.combine_gvcfs.specs.Combined.{CallLoaded, Combined, CohortHeld, ListReady, Measurement, TextsAnswered, TextsFit, listTo, listWithin, textsOf};
+ghost use Rattle.combine_gvcfs.specs.Combined.{CallLoaded, Combined, CohortHeld, ListReady, ListsFit, Measurement, TablesFit, TextsAnswered, TextsFit, TriedWith, listTo, listWithin, textsOf};
 ghost use Rattle.combine_gvcfs.specs.Contigs.{AllReady, OneReady, allRecords, givenClip, recordsOn};
 ghost use Rattle.contig_walk.specs.Walk.{RecordsWalked, WalkRoom};
 use answers::Outcome;
@@ -299,7 +299,7 @@ fn combine_contigs<'a>(
     }
 }
 
-// Writes the list of an input in order, from its tables: rows 10 to 14.
+// Writes the list of an input in order, from its tables: rows 10 to 14. The lists take the sites by sample, the contigs, and a contig's sites.
 fn combine_loaded<'a>(
     s: &'a [u8],
     names: &[usize],
@@ -310,19 +310,19 @@ fn combine_loaded<'a>(
     clip: &[u8],
     referenced: bool,
     reference: &'a [u8],
+    order: &mut [usize],
+    firsts: &mut [usize],
+    chosen: &mut [usize],
     scratch: &mut [u64],
     out: &mut [u8],
 ) -> Outcome
-    requires { ⌜ CallLoaded (now s) (now names) (now rows) samples sites clipped (now clip) referenced (now reference) ⌝ }
+    requires { ⌜ CallLoaded (now s) (now names) (now rows) samples sites clipped (now clip) referenced (now reference) × ListsFit sites (now order) (now firsts) (now chosen) ⌝ }
     ensures { λ r. ⌜ ((call : CallLoaded (now (s .entry)) (now (names .entry)) (now (rows .entry)) samples sites clipped (now (clip .entry)) referenced (now (reference .entry)))
         → Answered (listWithin (call .loaded) (length (now (scratch .entry))) (length (now (out .entry)))) (now (out .entry)) (now (out .exit)) r) ⌝ }
 {
-    let mut order = [0usize; 4096];
     let mut runs = [0usize; 65];
-    covering_sites::group_by_sample(rows, sites, samples, &mut order, &mut runs);
-    let mut firsts = [0usize; 4096];
-    let mut chosen = [0usize; 4096];
-    let count = contigs::order_contigs(s, rows, sites, &mut firsts);
+    covering_sites::group_by_sample(rows, sites, samples, order, &mut runs);
+    let count = contigs::order_contigs(s, rows, sites, firsts);
     combine_contigs(
         s,
         names,
@@ -333,9 +333,9 @@ fn combine_loaded<'a>(
         referenced,
         reference,
         &firsts[..count],
-        &order,
+        order,
         &runs,
-        &mut chosen,
+        chosen,
         scratch,
         out,
     )
@@ -404,10 +404,13 @@ fn combine_cohort<'a>(
     clip: &[u8],
     referenced: bool,
     reference: &'a [u8],
+    order: &mut [usize],
+    firsts: &mut [usize],
+    chosen: &mut [usize],
     scratch: &mut [u64],
     out: &mut [u8],
 ) -> Outcome
-    requires { ⌜ CohortHeld (now s) (now names) (now rows) samples sites clipped (now clip) referenced (now reference) ⌝ }
+    requires { ⌜ CohortHeld (now s) (now names) (now rows) samples sites clipped (now clip) referenced (now reference) × ListsFit sites (now order) (now firsts) (now chosen) ⌝ }
     ensures { λ r. ⌜ TextsAnswered (textsOf (now (s .entry)) clipped (now (clip .entry)) referenced (now (reference .entry))) (length (now (scratch .entry))) (now (out .entry)) (now (out .exit)) r ⌝ }
 {
     if !clip_in_order(clipped, clip) {
@@ -428,13 +431,97 @@ fn combine_cohort<'a>(
         clip,
         referenced,
         reference,
+        order,
+        firsts,
+        chosen,
         scratch,
         out,
     )
 }
 
-// Writes the list of texts that are short enough: rows 1 to 14.
-fn combine_fitting<'a>(
+// What tables gave: the outcome, or they have no room for the cohort.
+enum Tried {
+    Done(Outcome),
+    NoRoom,
+}
+
+// Writes the list of texts that are short enough, by way of these tables: rows 1 to 14.
+fn combine_with<'a>(
+    cohort: &'a [u8],
+    clipped: bool,
+    clip: &[u8],
+    referenced: bool,
+    reference: &'a [u8],
+    names: &mut [usize],
+    rows: &mut [usize],
+    order: &mut [usize],
+    firsts: &mut [usize],
+    chosen: &mut [usize],
+    scratch: &mut [u64],
+    out: &mut [u8],
+) -> Tried
+    requires { ⌜ TextsFit (now cohort) clipped (now clip) referenced (now reference) × TablesFit (now names) (now rows) (now order) (now firsts) (now chosen) ⌝ }
+    ensures { λ r. ⌜ TriedWith (textsOf (now (cohort .entry)) clipped (now (clip .entry)) referenced (now (reference .entry))) (length (now (scratch .entry))) (now (out .entry)) (now (out .exit)) (length (now (rows .entry))) r ⌝ }
+{
+    let read = cohort::read_cohort(cohort, names, rows);
+    match read {
+        CohortRead::NoRoom => Tried::NoRoom,
+        CohortRead::Refused(row) => Tried::Done(Outcome::Refused(row)),
+        CohortRead::Cohort(samples, sites) => Tried::Done(combine_cohort(
+            cohort,
+            names,
+            rows,
+            samples,
+            sites,
+            clipped,
+            clip,
+            referenced,
+            reference,
+            order,
+            firsts,
+            chosen,
+            scratch,
+            out,
+        )),
+    }
+}
+
+// The same with tables for 256 sites, which cost less to clear.
+fn combine_short<'a>(
+    cohort: &'a [u8],
+    clipped: bool,
+    clip: &[u8],
+    referenced: bool,
+    reference: &'a [u8],
+    scratch: &mut [u64],
+    out: &mut [u8],
+) -> Tried
+    requires { ⌜ TextsFit (now cohort) clipped (now clip) referenced (now reference) ⌝ }
+    ensures { λ r. ⌜ TriedWith (textsOf (now (cohort .entry)) clipped (now (clip .entry)) referenced (now (reference .entry))) (length (now (scratch .entry))) (now (out .entry)) (now (out .exit)) 4352 r ⌝ }
+{
+    let mut names = [0usize; 128];
+    let mut rows = [0usize; 4352];
+    let mut order = [0usize; 256];
+    let mut firsts = [0usize; 256];
+    let mut chosen = [0usize; 256];
+    combine_with(
+        cohort,
+        clipped,
+        clip,
+        referenced,
+        reference,
+        &mut names,
+        &mut rows,
+        &mut order,
+        &mut firsts,
+        &mut chosen,
+        scratch,
+        out,
+    )
+}
+
+// Writes the list of texts that are short enough, with tables for 4,096 sites and for segments and spans: rows 1 to 14.
+fn combine_long<'a>(
     cohort: &'a [u8],
     clipped: bool,
     clip: &[u8],
@@ -448,23 +535,69 @@ fn combine_fitting<'a>(
 {
     let mut names = [0usize; 128];
     let mut rows = [0usize; 78852];
-    let read = cohort::read_cohort(cohort, &mut names, &mut rows);
-    match read {
-        CohortRead::NoRoom => Outcome::Refused(2),
-        CohortRead::Refused(row) => Outcome::Refused(row),
-        CohortRead::Cohort(samples, sites) => combine_cohort(
-            cohort,
-            &names,
-            &mut rows,
-            samples,
-            sites,
-            clipped,
-            clip,
-            referenced,
-            reference,
-            scratch,
-            out,
-        ),
+    let mut order = [0usize; 4096];
+    let mut firsts = [0usize; 4096];
+    let mut chosen = [0usize; 4096];
+    let tried = combine_with(
+        cohort,
+        clipped,
+        clip,
+        referenced,
+        reference,
+        &mut names,
+        &mut rows,
+        &mut order,
+        &mut firsts,
+        &mut chosen,
+        scratch,
+        out,
+    );
+    match tried {
+        Tried::Done(outcome) => outcome,
+        Tried::NoRoom => Outcome::Refused(2),
+    }
+}
+
+// How many bytes a text has that may be left out.
+fn given_length(given: bool, text: &[u8]) -> usize {
+    if given {
+        return text.len();
+    }
+    0
+}
+
+// Whether the texts are so short that tables for 256 sites are tried first. A site group has at least 70 bytes.
+fn is_small(cohort: &[u8], clipped: bool, clip: &[u8], referenced: bool, reference: &[u8]) -> bool {
+    if 16384 < cohort.len() {
+        return false;
+    }
+    let of_clip = given_length(clipped, clip);
+    if 2048 < of_clip {
+        return false;
+    }
+    given_length(referenced, reference) <= 2048 - of_clip
+}
+
+// Writes the list of texts that are short enough: rows 1 to 14. If the tables for 256 sites have no room the others are taken.
+fn combine_fitting<'a>(
+    cohort: &'a [u8],
+    clipped: bool,
+    clip: &[u8],
+    referenced: bool,
+    reference: &'a [u8],
+    scratch: &mut [u64],
+    out: &mut [u8],
+) -> Outcome
+    requires { ⌜ TextsFit (now cohort) clipped (now clip) referenced (now reference) ⌝ }
+    ensures { λ r. ⌜ TextsAnswered (textsOf (now (cohort .entry)) clipped (now (clip .entry)) referenced (now (reference .entry))) (length (now (scratch .entry))) (now (out .entry)) (now (out .exit)) r ⌝ }
+{
+    if !is_small(cohort, clipped, clip, referenced, reference) {
+        return combine_long(cohort, clipped, clip, referenced, reference, scratch, out);
+    }
+    let tried = combine_short(cohort, clipped, clip, referenced, reference, scratch, out);
+    match tried {
+        Tried::Done(outcome) => outcome,
+        Tried::NoRoom => combine_long(cohort, clipped, clip, referenced, reference, scratch, out),
     }
 }
 

@@ -24,7 +24,10 @@ enum-known-header-2 : tie.Need-enum-known-header-2
 enum-known-header-2 c = search needs
 
 read-sites-requires : tie.Need-read-sites-requires
-read-sites-requires c κs = (c .before .before .before .before .before .before .before .before .before .before .before .before .pre .for-rows)
+read-sites-requires c κs = search needs
+
+enum-told-2 : tie.Need-enum-told-2
+enum-told-2 c = search needs
 
 enum-known-sites : tie.Need-enum-known-sites
 enum-known-sites c = search needs
@@ -37,7 +40,7 @@ same-length c = search needs
 
 returns-2 : tie.Need-returns-2
 unfolding CohortFitting Header
-returns-2 c = let h = rw ((c .enum-told .given .1)) at ((c .before .before .before .before .read-samples .ensures)) in absurd (omega (arith, h .no-room, (c .before .before .before .before .before .before .before .before .before .before .pre .for-names)))
+returns-2 c = let h = rw ((c .enum-told .given .1)) at ((c .before .before .before .before .read-samples .ensures)) in absurd (omega (arith, h .no-room, (c .before .before .before .before .before .before .before .before .before .before .pre)))
 
 same-length-2 : tie.Need-same-length-2
 same-length-2 c = search needs
@@ -54,10 +57,8 @@ same-length-4 : tie.Need-same-length-4
 same-length-4 c = search needs
 
 returns-4 : tie.Need-returns-4
-unfolding CohortFitting Header SitesRead
-returns-4 c = let h = rw ((c .before .before .before .before .before .before .before .before .header2 .given .1)) at ((c .before .before .before .before .before .before .before .before .before .before .before .before .read-samples .ensures)) in
-    let r = rw ((c .before .sites .given .1)) at ((c .before .before .before .before .before .read-sites .ensures)) in
-    sites-refused _ (c .before .before .before .before .before .before .before .before .before .before .before .before .before .before .if1 .left) _ _ _ (h .value) (h .behind) _ (r _ (names-count _ _ _))
+unfolding CohortFitting SitesRead
+returns-4 c = rw ((c .enum-told2 .given .1)) at ((c .before .before .before .before .read-sites .ensures))
 
 same-length-5 : tie.Need-same-length-5
 same-length-5 c = search needs
@@ -68,9 +69,21 @@ same-length-6 c = search needs
 returns-5 : tie.Need-returns-5
 unfolding CohortFitting Header SitesRead
 returns-5 c = let h = rw ((c .before .before .before .before .before .before .before .before .header2 .given .1)) at ((c .before .before .before .before .before .before .before .before .before .before .before .before .read-samples .ensures)) in
+    let r = rw ((c .before .sites .given .1)) at ((c .before .before .before .before .before .read-sites .ensures)) in
+    sites-refused _ (c .before .before .before .before .before .before .before .before .before .before .before .before .before .before .if1 .left) _ _ _ (h .value) (h .behind) _ (r _ (names-count _ _ _))
+
+same-length-7 : tie.Need-same-length-7
+same-length-7 c = search needs
+
+same-length-8 : tie.Need-same-length-8
+same-length-8 c = search needs
+
+returns-6 : tie.Need-returns-6
+unfolding CohortFitting Header SitesRead
+returns-6 c = let h = rw ((c .before .before .before .before .before .before .before .before .header2 .given .1)) at ((c .before .before .before .before .before .before .before .before .before .before .before .before .read-samples .ensures)) in
     let r = rw ((c .before .sites2 .given .1)) at ((c .before .before .before .before .before .read-sites .ensures)) in
     record {
-      room = (c .before .before .before .before .before .before .before .before .before .before .before .before .before .before .before .before .before .before .pre);
+      room = record { for-names = (c .before .before .before .before .before .before .before .before .before .before .before .before .before .before .before .before .before .before .pre); for-rows = r .room };
       value = all-read _ (c .before .before .before .before .before .before .before .before .before .before .before .before .before .before .if1 .left) _ _ _ (h .value) (h .behind) _ (r .value _ (names-count _ _ _));
       table = r .table;
       some-sample = h .not-none;
@@ -90,6 +103,7 @@ read-fitting-spec =
     enum-known-header
     enum-known-header-2
     read-sites-requires
+    enum-told-2
     enum-known-sites
     enum-known-sites-2
     same-length
@@ -101,4 +115,7 @@ read-fitting-spec =
     returns-4
     same-length-5
     same-length-6
-    returns-5)
+    returns-5
+    same-length-7
+    same-length-8
+    returns-6)

@@ -1,11 +1,9 @@
--- Group by group, each behind the sites in the table.
+-- Group by group, each behind the sites in the table, as long as there is a row.
 use Prim.Native.Nat.{_-_}
 use borrow.Author.Needs.{needs}
 use lib.ListN.{length}
-use mathlib.Core.Path.{_∙_}
 use native.Mathlib.Omega.{arith}
-use Rattle.cohort.proofs.Sites.{Reading, few-before, reading-start, site-read, site-refused, sites-end}
-use Rattle.definitions.specs.Limits.{maxSites}
+use Rattle.cohort.proofs.Sites.{Reading, few-before, no-row, reading-start, site-read, site-refused, sites-end}
 use Rattle.site_groups.specs.SiteGroups.{SiteRead}
 use Rattle.cohort.proofs.read_sites.Statement.{statement}
 use Rattle.cohort.proofs.read_sites.Tie as tie
@@ -35,38 +33,46 @@ returns c = site-refused _ _ _ _ _ _ _ (c .before .before .before .before .befor
 enum-known-group-2 : tie.Need-enum-known-group-2 Inv-loop μ-loop
 enum-known-group-2 c = search needs
 
+mul-if1 : tie.Need-mul-if1 Inv-loop μ-loop
+mul-if1 c = omega (arith, (c .before .before .before .before .before .loop .inv .few))
+
+add-if1 : tie.Need-add-if1 Inv-loop μ-loop
+add-if1 c = omega (arith, (c .before .before .before .before .before .loop .inv .few))
+
+same-length-2 : tie.Need-same-length-2 Inv-loop μ-loop
+same-length-2 c = (c .before .before .before .before .before .before .loop .inv .long)
+
+returns-2 : tie.Need-returns-2 Inv-loop μ-loop
+unfolding SiteRead
+returns-2 c = let to = rw ((c .before .before .group2 .given .1)) at ((c .before .before .before .before .site-at .ensures)) in
+    no-row _ _ _ _ _ _ _ (c .before .before .before .before .before .before .loop .inv) (c .before .before .before .before .before .loop-test .taken) (to .value) (omega (arith, (c .if1 .taken)))
+
 part-requires : tie.Need-part-requires Inv-loop μ-loop
 part-requires c κs = search needs
 
 contig-number-requires : tie.Need-contig-number-requires Inv-loop μ-loop
-contig-number-requires c κs = (c .before .before .before .before .before .before .before .loop .inv .numbered .contigs)
+contig-number-requires c κs = (c .before .before .before .before .before .before .before .before .loop .inv .numbered .contigs)
 
 put-site-requires : tie.Need-put-site-requires Inv-loop μ-loop
-unfolding SiteRead
-put-site-requires c κs = let to = rw ((c .before .before .before .before .before .group2 .given .1)) at ((c .before .before .before .before .before .before .before .site-at .ensures)) in
-    let few = few-before _ _ _ _ (to .value) in
-    omega (arith, few, (c .before .before .before .before .before .before .before .before .before .loop .inv .long), (c .before .before .before .before .before .before .before .before .before .before .before .before .pre))
+put-site-requires c κs = omega (arith, (c .before .before .before .before .if1 .left))
 
 add-count : tie.Need-add-count Inv-loop μ-loop
-unfolding SiteRead
-add-count c = let to = rw ((c .before .before .before .before .before .before .before .before .group2 .given .1)) at ((c .before .before .before .before .before .before .before .before .before .before .site-at .ensures)) in
-    let few = few-before _ _ _ _ (to .value) in
-    omega (arith, few)
+add-count c = omega (arith, (c .before .before .before .before .before .before .before .before .before .before .before .before .before .loop .inv .few))
 
 loop-less : tie.Need-loop-less Inv-loop μ-loop
 unfolding SiteRead
-loop-less c = let to = rw ((c .before .before .before .before .before .before .before .before .group2 .given .1)) at ((c .before .before .before .before .before .before .before .before .before .before .site-at .ensures)) in omega (arith, to .forward, to .within)
+loop-less c = let to = rw ((c .before .before .before .before .before .before .before .before .before .group2 .given .1)) at ((c .before .before .before .before .before .before .before .before .before .before .before .site-at .ensures)) in omega (arith, to .forward, to .within)
 
 loop-again : tie.Need-loop-again Inv-loop μ-loop
 unfolding SiteRead
-loop-again c = let to = rw ((c .before .before .before .before .before .before .before .before .group2 .given .1)) at ((c .before .before .before .before .before .before .before .before .before .before .site-at .ensures)) in
-    site-read _ _ _ _ _ _ _ (c .before .before .before .before .before .before .before .before .before .before .before .before .loop .inv) (c .before .before .before .before .before .before .before .before .before .before .before .loop-test .taken) _ _ _ _ to _ (rw ((c .before .before .before .before .before .before .part .ensures)) at ((c .before .before .before .before .contig-number .ensures))) (c .before .before .before .before .before .before .before .before .before .before .before .before .before .before .before .pre) _ ((c .before .before .put-site .kept .0)) ((c .before .before .put-site .ensures))
+loop-again c = let to = rw ((c .before .before .before .before .before .before .before .before .before .group2 .given .1)) at ((c .before .before .before .before .before .before .before .before .before .before .before .site-at .ensures)) in
+    site-read _ _ _ _ _ _ _ (c .before .before .before .before .before .before .before .before .before .before .before .before .before .loop .inv) (c .before .before .before .before .before .before .before .before .before .before .before .before .loop-test .taken) _ _ _ _ to _ (rw ((c .before .before .before .before .before .before .part .ensures)) at ((c .before .before .before .before .contig-number .ensures))) (omega (arith, (c .before .before .before .before .before .before .before .if1 .left))) _ ((c .before .before .put-site .kept .0)) ((c .before .before .put-site .ensures))
 
-same-length-2 : tie.Need-same-length-2 Inv-loop μ-loop
-same-length-2 c = (c .before .loop .inv .long)
+same-length-3 : tie.Need-same-length-3 Inv-loop μ-loop
+same-length-3 c = (c .before .loop .inv .long)
 
-returns-2 : tie.Need-returns-2 Inv-loop μ-loop
-returns-2 c = sites-end _ _ _ _ _ _ _ (c .before .loop .inv) (c .loop-test .left)
+returns-3 : tie.Need-returns-3 Inv-loop μ-loop
+returns-3 c = sites-end _ _ _ _ _ _ _ (c .before .loop .inv) (c .loop-test .left)
 
 pub read-sites-spec : {M : Type 1} → statement M
 read-sites-spec =
@@ -80,11 +86,15 @@ read-sites-spec =
     same-length
     returns
     enum-known-group-2
+    mul-if1
+    add-if1
+    same-length-2
+    returns-2
     part-requires
     contig-number-requires
     put-site-requires
     add-count
     loop-less
     loop-again
-    same-length-2
-    returns-2)
+    same-length-3
+    returns-3)

@@ -11,14 +11,14 @@ clip-in-order-requires : tie.Need-clip-in-order-requires
 clip-in-order-requires c κs = search needs
 
 returns : tie.Need-returns
-returns c = texts-refused (clip-refused (c .before .before .before .before .before .before .before .before .before .pre) (sym ((c .before .clip-in-order .ensures)) ∙ not-true _ ((c .if1 .taken)))) refl
+returns c = texts-refused (clip-refused (c .before .before .before .before .before .before .before .before .before .before .before .before .pre .0) (sym ((c .before .clip-in-order .ensures)) ∙ not-true _ ((c .if1 .taken)))) refl
 
 reference-in-order-requires : tie.Need-reference-in-order-requires
 reference-in-order-requires c κs = search needs
 
 returns-2 : tie.Need-returns-2
 returns-2 c = let spans = optional-in-order spanOf _ _ (sym ((c .before .before .before .clip-in-order .ensures)) ∙ not-false _ ((c .before .before .if1 .left))) in
-    texts-refused (reference-refused (c .before .before .before .before .before .before .before .before .before .before .before .pre) spans (sym ((c .before .reference-in-order .ensures)) ∙ not-true _ ((c .if2 .taken)))) refl
+    texts-refused (reference-refused (c .before .before .before .before .before .before .before .before .before .before .before .before .before .before .pre .0) spans (sym ((c .before .reference-in-order .ensures)) ∙ not-true _ ((c .if2 .taken)))) refl
 
 index-reference-requires : tie.Need-index-reference-requires
 index-reference-requires c κs = search needs
@@ -27,12 +27,14 @@ index-clip-requires : tie.Need-index-clip-requires
 index-clip-requires c κs = search needs
 
 combine-loaded-requires : tie.Need-combine-loaded-requires
-combine-loaded-requires c κs = let spans = optional-in-order spanOf _ _ (sym ((c .before .before .before .before .before .before .before .before .before .before .before .before .before .before .clip-in-order .ensures)) ∙ not-false _ ((c .before .before .before .before .before .before .before .before .before .before .before .before .before .if1 .left))) in
-    let segments = optional-in-order segmentOf _ _ (sym ((c .before .before .before .before .before .before .before .before .before .before .before .before .reference-in-order .ensures)) ∙ not-false _ ((c .before .before .before .before .before .before .before .before .before .before .before .if2 .left))) in
-    let first = (c .before .before .before .before .before .before .before .before .before .index-reference .ensures) in
-    let second = (c .before .before .before .before .before .index-clip .ensures) in
-    call-loaded (still-held (c .before .before .before .before .before .before .before .before .before .before .before .before .before .before .before .before .before .before .before .before .before .before .pre) (first .0) (second .0)) spans segments
-    (segments-there (c .before .before .before .before .before .before .before .before .before .before .before .before .before .before .before .before .before .before .before .before .before .before .pre) (first .0) (second .0) (first .1)) (spans-there (c .before .before .before .before .before .before .before .before .before .before .before .before .before .before .before .before .before .before .before .before .before .before .pre) (first .0) (second .0) (second .1))
+combine-loaded-requires c κs = let spans = optional-in-order spanOf _ _ (sym ((c .before .before .before .before .before .before .before .before .before .before .before .before .before .before .before .before .before .clip-in-order .ensures)) ∙ not-false _ ((c .before .before .before .before .before .before .before .before .before .before .before .before .before .before .before .before .if1 .left))) in
+    let segments = optional-in-order segmentOf _ _ (sym ((c .before .before .before .before .before .before .before .before .before .before .before .before .before .before .before .reference-in-order .ensures)) ∙ not-false _ ((c .before .before .before .before .before .before .before .before .before .before .before .before .before .before .if2 .left))) in
+    let first = (c .before .before .before .before .before .before .before .before .before .before .before .before .index-reference .ensures) in
+    let second = (c .before .before .before .before .before .before .before .before .index-clip .ensures) in (
+      call-loaded (still-held (c .before .before .before .before .before .before .before .before .before .before .before .before .before .before .before .before .before .before .before .before .before .before .before .before .before .before .before .before .pre .0) (first .0) (second .0)) spans segments
+          (segments-there (c .before .before .before .before .before .before .before .before .before .before .before .before .before .before .before .before .before .before .before .before .before .before .before .before .before .before .before .before .pre .0) (first .0) (second .0) (first .1)) (spans-there (c .before .before .before .before .before .before .before .before .before .before .before .before .before .before .before .before .before .before .before .before .before .before .before .before .before .before .before .before .pre .0) (first .0) (second .0) (second .1)),
+      (c .before .before .before .before .before .before .before .before .before .before .before .before .before .before .before .before .before .before .before .before .before .before .before .before .before .before .before .before .pre .1),
+    )
 
 same-length : tie.Need-same-length
 same-length c = search needs
@@ -43,13 +45,22 @@ same-length-2 c = search needs
 same-length-3 : tie.Need-same-length-3
 same-length-3 c = search needs
 
+same-length-4 : tie.Need-same-length-4
+same-length-4 c = search needs
+
+same-length-5 : tie.Need-same-length-5
+same-length-5 c = search needs
+
+same-length-6 : tie.Need-same-length-6
+same-length-6 c = search needs
+
 returns-3 : tie.Need-returns-3
-returns-3 c = let spans = optional-in-order spanOf _ _ (sym ((c .before .before .before .before .before .before .before .before .before .before .before .before .before .before .before .before .before .before .before .clip-in-order .ensures)) ∙ not-false _ ((c .before .before .before .before .before .before .before .before .before .before .before .before .before .before .before .before .before .before .if1 .left))) in
-    let segments = optional-in-order segmentOf _ _ (sym ((c .before .before .before .before .before .before .before .before .before .before .before .before .before .before .before .before .before .reference-in-order .ensures)) ∙ not-false _ ((c .before .before .before .before .before .before .before .before .before .before .before .before .before .before .before .before .if2 .left))) in
-    let first = (c .before .before .before .before .before .before .before .before .before .before .before .before .before .before .index-reference .ensures) in
-    let second = (c .before .before .before .before .before .before .before .before .before .before .index-clip .ensures) in
-    texts-answered (still-held (c .before .before .before .before .before .before .before .before .before .before .before .before .before .before .before .before .before .before .before .before .before .before .before .before .before .before .before .pre) (first .0) (second .0)) spans segments
-    (segments-there (c .before .before .before .before .before .before .before .before .before .before .before .before .before .before .before .before .before .before .before .before .before .before .before .before .before .before .before .pre) (first .0) (second .0) (first .1)) (spans-there (c .before .before .before .before .before .before .before .before .before .before .before .before .before .before .before .before .before .before .before .before .before .before .before .before .before .before .before .pre) (first .0) (second .0) (second .1)) _ ((c .before .before .before .before .combine-loaded .ensures))
+returns-3 c = let spans = optional-in-order spanOf _ _ (sym ((c .before .before .before .before .before .before .before .before .before .before .before .before .before .before .before .before .before .before .before .before .before .before .before .before .before .before .before .before .clip-in-order .ensures)) ∙ not-false _ ((c .before .before .before .before .before .before .before .before .before .before .before .before .before .before .before .before .before .before .before .before .before .before .before .before .before .before .before .if1 .left))) in
+    let segments = optional-in-order segmentOf _ _ (sym ((c .before .before .before .before .before .before .before .before .before .before .before .before .before .before .before .before .before .before .before .before .before .before .before .before .before .before .reference-in-order .ensures)) ∙ not-false _ ((c .before .before .before .before .before .before .before .before .before .before .before .before .before .before .before .before .before .before .before .before .before .before .before .before .before .if2 .left))) in
+    let first = (c .before .before .before .before .before .before .before .before .before .before .before .before .before .before .before .before .before .before .before .before .before .before .before .index-reference .ensures) in
+    let second = (c .before .before .before .before .before .before .before .before .before .before .before .before .before .before .before .before .before .before .before .index-clip .ensures) in
+    texts-answered (still-held (c .before .before .before .before .before .before .before .before .before .before .before .before .before .before .before .before .before .before .before .before .before .before .before .before .before .before .before .before .before .before .before .before .before .before .before .before .before .before .before .pre .0) (first .0) (second .0)) spans segments
+    (segments-there (c .before .before .before .before .before .before .before .before .before .before .before .before .before .before .before .before .before .before .before .before .before .before .before .before .before .before .before .before .before .before .before .before .before .before .before .before .before .before .before .pre .0) (first .0) (second .0) (first .1)) (spans-there (c .before .before .before .before .before .before .before .before .before .before .before .before .before .before .before .before .before .before .before .before .before .before .before .before .before .before .before .before .before .before .before .before .before .before .before .before .before .before .before .pre .0) (first .0) (second .0) (second .1)) _ ((c .before .before .before .before .before .before .before .before .before .before .combine-loaded .ensures))
 
 pub combine-cohort-spec : {M : Type 1} → statement M
 combine-cohort-spec =
@@ -65,4 +76,7 @@ combine-cohort-spec =
     same-length
     same-length-2
     same-length-3
+    same-length-4
+    same-length-5
+    same-length-6
     returns-3)

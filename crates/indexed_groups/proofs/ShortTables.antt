@@ -1,0 +1,23 @@
+-- A table that ends before its counts has no rows of segments and spans: all groups are those from offset 0 of the text on.
+use Prim.Native.Nat.{_≤_, ℕ}
+use lib.ListN.{length}
+use mathlib.Core.List.{List}
+use mathlib.Core.Path.{refl}
+use native.Mathlib.Omega.{arith}
+use Rattle.definitions.specs.Checked.{Checked}
+use Rattle.definitions.specs.Lines.{Line}
+use Rattle.definitions.specs.Lists.{numbersFrom}
+use Rattle.tables.proofs.Parts.{getD-past}
+use Rattle.tables.specs.Tables.{countsAt}
+use Rattle.indexed_groups.specs.Indexed.{GroupsIndexed, SegmentsIndexed, SpansIndexed}
+
+none-indexed : {A : Type 0} (read : List Line → Checked A) (s : List ℕ) (rowAt : ℕ → A) → GroupsIndexed read s rowAt 0 0
+unfolding numbersFrom
+none-indexed read s rowAt = record { few = omega arith; split = λ groups from. (groups, from, refl) }
+
+module _ (s rows : List ℕ) (short : length rows ≤ countsAt) where
+  pub no-segment-rows : SegmentsIndexed s rows
+  no-segment-rows = rw (getD-past rows 78848 (omega arith), getD-past rows 78850 (omega arith)) (none-indexed _ s _)
+
+  pub no-span-rows : SpansIndexed s rows
+  no-span-rows = rw (getD-past rows 78849 (omega arith), getD-past rows 78851 (omega arith)) (none-indexed _ s _)
