@@ -39,6 +39,7 @@ use Rattle.laws.proofs.ReferenceLetter.{first-letter, firstLetter}
 use Rattle.laws.proofs.SoundInput.{input-sound}
 use Rattle.laws.proofs.SoundRecords.{NameAfter}
 use Rattle.laws.proofs.Tests.{all-three, clash}
+use Rattle.tables.proofs.Cleared.{scratch-same}
 use Rattle.tables.proofs.SameSites.{same-rows, same-sites}
 use Rattle.tables.specs.Tables.{nameAt, namesIn, siteAt, tableLength}
 use Rattle.combine_gvcfs.specs.Combined.{CallLoaded, CohortHeld, Combined, ListReady, TableWhole, TablesFit, TextsAnswered, TextsFit, listWithin, textsOf}
@@ -330,13 +331,6 @@ tried-again e f a = rw (← e, ← f) a
 
 -- ---- scratch
 
-pub cleared-same : (a b : List ℕ) → length a ≡ length b → scratchAfter a ≡ scratchAfter b
-unfolding scratchAfter
-cleared-same [] [] e = refl
-cleared-same [] (y ∷ b) e = absurd (omega arith)
-cleared-same (x ∷ a) [] e = absurd (omega arith)
-cleared-same (x ∷ a) (y ∷ b) e = ap (λ (l : List ℕ). 0 ∷ l) (cleared-same a b (omega arith))
-
 pub combined : {t : Texts} {scratch : List ℕ} (scratch₁ : List ℕ) {scratch′ out out′ : List ℕ} {r : Outcome} → TextsAnswered t (length scratch) out out′ r
     → length scratch₁ ≡ length scratch → scratch′ ≡ scratchAfter scratch₁ → Combined t scratch scratch′ out out′ r
 combined {scratch = scratch} scratch₁ a same cleared = record {
@@ -344,5 +338,5 @@ combined {scratch = scratch} scratch₁ a same cleared = record {
   choice = a .choice;
   answer = a .answered .answer;
   output = a .answered .output;
-  cleared = cleared ∙ cleared-same scratch₁ scratch same;
+  cleared = cleared ∙ scratch-same scratch₁ scratch same;
 }

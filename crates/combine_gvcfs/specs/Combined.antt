@@ -1,9 +1,11 @@
 -- What a call answers, and what its buffers hold at the end.
 use Prim.Native.Nat.{_*_, _<_, _≤_, ℕ}
+use lib.Dec.{leb}
 use lib.ListN.{length}
 use mathlib.Core.Bool.{Bool, _&&_, true}
 use mathlib.Core.List.{List, flatMap, map}
 use mathlib.Core.Logic.{_⊎_}
+use mathlib.Core.Option.{Option}
 use mathlib.Core.Path.{_≡_}
 use Rattle.answers.specs.Answered.{Answered, outcomeAnswer}
 use Rattle.answers.specs.declared.Outcome.{Outcome}
@@ -49,6 +51,10 @@ pub record Combined (texts : Texts) (scratch scratch′ out out′ : List ℕ) (
   pub cleared : scratch′ ≡ scratchAfter scratch
 
 -- ---- texts
+
+-- a text that may be left out has at most so many bytes
+unfoldable pub atMost : ℕ → Option (List ℕ) → Bool
+atMost most t = missingOr (λ (s : List ℕ). leb (length s) most) t
 
 -- no text is too long
 abbrev pub TextsFit : List ℕ → Bool → List ℕ → Bool → List ℕ → Type 0

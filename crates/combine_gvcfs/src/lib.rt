@@ -1,7 +1,8 @@
 // The combined list: breakpoint by breakpoint, contig by contig, and the library's entry.
 ghost use Prim.Native.Nat.{_≤_, ℕ};
+ghost use lib.Dec.{leb};
 ghost use lib.ListN.{length};
-ghost use mathlib.Core.Bool.{true};
+ghost use mathlib.Core.Bool.{_&&_, true};
 ghost use mathlib.Core.List.{List};
 ghost use mathlib.Core.Path.{_≡_};
 ghost use Rattle.answers.specs.Answered.{Answered};
@@ -13,7 +14,7 @@ ghost use Rattle.indexed_groups.specs.Indexed.{SegmentsIndexed, SegmentsOnly, S
 ghost use Rattle.list_header.specs.Measured.{limit};
 ghost use Rattle.merged_records.specs.Loaded.{chosenLetters};
 ghost use Rattle.tables.specs.Tables.{tableLength};
-ghost use Rattle.combine_gvcfs.specs.Combined.{CallLoaded, Combined, CohortHeld, ListReady, ListsFit, Measurement, TablesFit, TextsAnswered, TextsFit, TriedWith, listTo, listWithin, textsOf};
+ghost use Rattle.combine_gvcfs.specs.Combined.{CallLoaded, Combined, CohortHeld, ListReady, ListsFit, Measurement, TablesFit, TextsAnswered, TextsFit, TriedWith, atMost, listTo, listWithin, textsOf};
 ghost use Rattle.combine_gvcfs.specs.Contigs.{AllReady, OneReady, allRecords, givenClip, recordsOn};
 ghost use Rattle.contig_walk.specs.Walk.{RecordsWalked, WalkRoom};
 use answers::Outcome;
@@ -341,14 +342,21 @@ fn combine_loaded<'a>(
     )
 }
 
-// Whether a text, if it is lent, is short enough.
+// Whether a text, if it is given, has at most so many bytes.
+fn has_at_most(given: bool, text: &[u8], most: usize) -> bool
+    ensures { λ r. ⌜ r ≡ atMost most (onlyIf given (now (text .entry))) ⌝ }
+{
+    if given {
+        return text.len() <= most;
+    }
+    true
+}
+
+// Whether a text, if it is given, is short enough.
 fn is_short(given: bool, text: &[u8]) -> bool
     ensures { λ r. ⌜ r ≡ missingOr fits (onlyIf given (now (text .entry))) ⌝ }
 {
-    if given {
-        return text.len() <= 16777216;
-    }
-    true
+    has_at_most(given, text, 16777216)
 }
 
 // Whether the clip, if it is lent, is in order.
@@ -558,24 +566,20 @@ fn combine_long<'a>(
     }
 }
 
-// How many bytes a text has that may be left out.
-fn given_length(given: bool, text: &[u8]) -> usize {
-    if given {
-        return text.len();
-    }
-    0
-}
-
-// Whether the texts are so short that tables for 256 sites are tried first. A site group has at least 70 bytes.
-fn is_small(cohort: &[u8], clipped: bool, clip: &[u8], referenced: bool, reference: &[u8]) -> bool {
+// Whether the texts are so short that tables for 256 sites are tried first; a site group has at least 70 bytes. What is answered here
+// changes no list.
+fn is_small(cohort: &[u8], clipped: bool, clip: &[u8], referenced: bool, reference: &[u8]) -> bool
+    ensures { λ r. ⌜ r ≡ leb (length (now (cohort .entry))) 16384
+        && atMost 1024 (onlyIf clipped (now (clip .entry)))
+        && atMost 1024 (onlyIf referenced (now (reference .entry))) ⌝ }
+{
     if 16384 < cohort.len() {
         return false;
     }
-    let of_clip = given_length(clipped, clip);
-    if 2048 < of_clip {
+    if !has_at_most(clipped, clip, 1024) {
         return false;
     }
-    given_length(referenced, reference) <= 2048 - of_clip
+    has_at_most(referenced, reference, 1024)
 }
 
 // Writes the list of texts that are short enough: rows 1 to 14. If the tables for 256 sites have no room the others are taken.

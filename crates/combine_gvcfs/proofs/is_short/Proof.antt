@@ -1,16 +1,16 @@
--- A text that is not lent is not looked at.
+-- That is how short a text has to be.
+use borrow.Author.Needs.{needs}
+use Rattle.combine_gvcfs.specs.Combined.{atMost}
 use Rattle.definitions.specs.CombinedList.{fits}
-use Rattle.definitions.specs.Lists.{missingOr, onlyIf}
 use Rattle.combine_gvcfs.proofs.is_short.Statement.{statement}
 use Rattle.combine_gvcfs.proofs.is_short.Tie as tie
 
-returns : tie.Need-returns
-unfolding fits missingOr onlyIf
-returns c = rw ((c .if1 .taken))
+has-at-most-requires : tie.Need-has-at-most-requires
+has-at-most-requires c κs = search needs
 
-returns-2 : tie.Need-returns-2
-unfolding missingOr onlyIf
-returns-2 c = rw ((c .if1 .left))
+returns : tie.Need-returns
+unfolding atMost fits
+returns c = (c .has-at-most .ensures)
 
 pub is-short-spec : {M : Type 1} → statement M
-is-short-spec = tie.close (tie.spec returns returns-2)
+is-short-spec = tie.close (tie.spec has-at-most-requires returns)
