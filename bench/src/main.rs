@@ -1,5 +1,6 @@
 //! The Rust's `combine_loaded_gvcfs`, its inputs loaded, and Wintabol's `combine`, bytes in and bytes out, on the same cohorts, by turns:
-//! bench TURNS [SHAPE SAMPLES SITES]. Small cohorts take more turns. Scratch is what the program lends.
+//! bench TURNS [SHAPE SAMPLES SITES]. Small cohorts take more turns. Scratch has as many places as the sites
+//! can need; each 1,000 places more cost the zeroing of 8,000 bytes.
 
 mod shapes;
 
@@ -18,8 +19,8 @@ fn time(mut f: impl FnMut()) -> Duration {
 fn measure(turns: usize, shape: &str, samples: usize, sites: usize, out: &mut [u8]) {
     let cohort = shapes::cohort(shape, samples, sites, 20261115);
     let (text, loaded) = (write_cohort(&cohort), loaded_gvcfs(&cohort));
-    let mut scratch = vec![0u64; 8192];
-    let list = wintabol::combine(text.as_bytes(), None, None, &mut scratch, out);
+    let mut scratch = vec![0u64; shapes::places(&cohort)];
+    let list = wintabol::combine(text.as_bytes(), None, None, &mut scratch, out).expect("a list");
     let (mut rust, mut ours) = (Vec::new(), Vec::new());
     let turns = turns * (4096 / sites).clamp(1, 50);
     for _ in 0..turns {
@@ -36,7 +37,7 @@ fn measure(turns: usize, shape: &str, samples: usize, sites: usize, out: &mut [u
     println!(
         "{shape} {samples} {sites} {} {} {} {} {:.2}",
         text.len(),
-        list.unwrap_or(0),
+        list,
         rust.as_micros(),
         ours.as_micros(),
         rust.as_secs_f64() / ours.as_secs_f64()

@@ -47,7 +47,14 @@ pub fn cohort(shape: &str, samples: usize, sites: usize, seed: u64) -> Cohort {
     }
 }
 
+/// As many places as the sites can have breakpoints: two for a block, and for any other site one for each position and one behind it.
+#[allow(dead_code)]
+pub fn places(cohort: &Cohort) -> usize {
+    cohort.sites.iter().map(|s| if s.is_block() { 2 } else { s.ref_allele.len() + 1 }).sum()
+}
+
 /// The letter of the reference at a position.
+#[allow(dead_code)]
 pub fn letter(position: u64) -> char {
     b"ACGT"[((position.wrapping_mul(0x9E37_79B9_7F4A_7C15)) >> 40) as usize % 4] as char
 }

@@ -64,10 +64,10 @@ fn stack(f: impl FnOnce()) -> usize {
 fn measure(shape: &str, samples: usize, sites: usize) {
     let cohort = shapes::cohort(shape, samples, sites, 20261115);
     let (text, loaded) = (write_cohort(&cohort), loaded_gvcfs(&cohort));
-    let (mut scratch, mut out) = (vec![0u64; 8192], vec![0u8; 1 << 24]);
+    let (mut scratch, mut out) = (vec![0u64; shapes::places(&cohort)], vec![0u8; 1 << 24]);
     let rust = heap(|| drop(black_box(combine_loaded_gvcfs(black_box(&loaded), None, None))));
     let mut call = || {
-        let _ = black_box(wintabol::combine(black_box(text.as_bytes()), None, None, &mut scratch, &mut out));
+        black_box(wintabol::combine(black_box(text.as_bytes()), None, None, &mut scratch, &mut out)).expect("a list");
     };
     let ours = heap(&mut call);
     println!("{shape} {samples} {sites} {rust} {ours} {}", stack(call));

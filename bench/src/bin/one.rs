@@ -13,13 +13,13 @@ fn main() {
     let number = |i: usize| words[i].parse::<usize>().expect("a number");
     let cohort = shapes::cohort(&words[2], number(3), number(4), 20261115);
     let (text, loaded) = (write_cohort(&cohort), loaded_gvcfs(&cohort));
-    let mut scratch = vec![0u64; 8192];
+    let mut scratch = vec![0u64; shapes::places(&cohort)];
     let mut out = vec![0u8; 1 << 24];
     for _ in 0..number(5) {
         if words[1] == "rust" {
             let _ = black_box(combine_loaded_gvcfs(black_box(&loaded), None, None));
         } else {
-            let _ = black_box(wintabol::combine(black_box(text.as_bytes()), None, None, &mut scratch, &mut out));
+            black_box(wintabol::combine(black_box(text.as_bytes()), None, None, &mut scratch, &mut out)).expect("a list");
         }
     }
 }
