@@ -225,7 +225,7 @@ pub enum NumbersRead {
 }
 
 // Stores a number at a place, if there is one.
-fn store(out: &mut [u32], place: usize, n: u32)
+pub fn store(out: &mut [u32], place: usize, n: u32)
     ensures { λ _. ⌜ now (out .exit) ≡ set (now (out .entry)) place n ⌝ }
 {
     if place < out.len() {

@@ -24,6 +24,6 @@ getD-past [] i h = refl
 getD-past (x ∷ l) zero h = absurd (omega arith)
 getD-past (x ∷ l) (suc i) h = getD-past l i (omega arith)
 
-pub column-past : (k : ℕ) (rows : List ℕ) (site : ℕ) → length rows ≤ site * 17 + k → 0 ≡ column k rows site
+pub column-past : (k : ℕ) (rows : List ℕ) (site : ℕ) → length rows ≤ site * 22 + k → 0 ≡ column k rows site
 unfolding column
 column-past k rows site h = sym (getD-past rows _ h)

@@ -1,41 +1,85 @@
--- The rows of sites do not see what stands behind those of 4,096 sites.
-use Prim.Native.Nat.{_<_, _≤_, ℕ}
-use lib.Dec.{eqb}
+-- The site of a row is the same where its columns are, or where they say the same numbers; the rows of sites do not see what stands
+-- behind those of 4,096 sites.
+use Prim.Native.Nat.{_*_, _+_, _/_, _<_, _≤_, ℕ}
+use borrow.Author.Tests.{leb-true}
+use lib.Dec.{eqb, ltb}
 use lib.ListN.{getD, length}
+use mathlib.Core.Bool.{Bool, false, true}
 use mathlib.Core.List.{List, map}
-use mathlib.Core.Option.{some}
-use mathlib.Core.Path.{_∙_, _≡_, sym}
+use mathlib.Core.Option.{Option, some}
+use mathlib.Core.Path.{_∙_, _≡_, ap, refl, sym}
 use native.Mathlib.Omega.{arith}
 use Rattle.definitions.specs.Alleles.{isBlock}
 use Rattle.definitions.specs.Bytes.{sameBytes}
 use Rattle.definitions.specs.Cohort.{Site}
 use Rattle.definitions.specs.Lists.{indexWhere, numbersFrom}
+use Rattle.laws.proofs.Tests.{both-of}
+use Rattle.tables.proofs.NumberLists.{in-row, in-text}
 use Rattle.tables.proofs.Stored.{map-same}
-use Rattle.tables.specs.Tables.{SiteRows, column, partAt, siteAt}
+use Rattle.tables.specs.Tables.{SiteRows, adAt, column, isStored, numbersAt, partAt, plAt, siteAt, storedNumber, storedNumbers}
 
-module _ (s rows after : List ℕ) (same : (j : ℕ) → j < 69632 → getD after j 0 ≡ getD rows j 0) where
-  pub same-column : (k site : ℕ) → k < 17 → site < 4096 → column k after site ≡ column k rows site
+-- ---- one row
+
+-- a site is what its first 13 columns and its two lists say
+pub same-site-by : (s rows after : List ℕ) (site site′ : ℕ) → ((k : ℕ) → k < 13 → column k after site′ ≡ column k rows site)
+    → adAt s after site′ ≡ adAt s rows site → plAt s after site′ ≡ plAt s rows site → siteAt s after site′ ≡ siteAt s rows site
+unfolding siteAt partAt
+same-site-by s rows after site site′ same ad pl = rw (
+  same 0 (omega arith),
+  same 2 (omega arith),
+  same 3 (omega arith),
+  same 5 (omega arith),
+  same 6 (omega arith),
+  same 7 (omega arith),
+  same 8 (omega arith),
+  same 9 (omega arith),
+  same 10 (omega arith),
+  same 11 (omega arith),
+  same 12 (omega arith),
+  ad,
+  pl,
+)
+
+module _ (s rows after : List ℕ) (site : ℕ) (same : (k : ℕ) → k < 22 → column k after site ≡ column k rows site) where
+  -- a list is what its columns say
+  pub same-numbers : (k most : ℕ) → k < 19 → 2 * (k + 1) + most ≤ 44 → numbersAt k most s after site ≡ numbersAt k most s rows site
+  unfolding partAt storedNumber storedNumbers isStored
+  same-numbers k most h few = go (isStored most (column k rows site)) refl
+    where
+      here : column k after site ≡ column k rows site
+      here = same k (omega arith)
+
+      one : column k rows site ≤ most → (i : ℕ) → i < 0 + column k rows site → storedNumber k after site i ≡ storedNumber k rows site i
+      one fit i b = rw (same (k + 1 + i / 2) (omega arith))
+
+      listed : column k rows site ≤ most → storedNumbers k after site ≡ storedNumbers k rows site
+      listed fit = rw here (map-same (storedNumber k after site) (storedNumber k rows site) 0 (column k rows site) (one fit))
+
+      go : (b : Bool) → isStored most (column k rows site) ≡ b → numbersAt k most s after site ≡ numbersAt k most s rows site
+      go true e =
+          in-row k most s after site (rw here e)
+          ∙ ap {B = Option (List ℕ)} some (listed (leb-true (column k rows site) most (both-of (ltb 0 (column k rows site)) _ e .1)))
+          ∙ sym (in-row k most s rows site e)
+      go false e =
+          in-text k most s after site (rw here e)
+          ∙ rw (same (k + 1) (omega arith), same (k + 2) (omega arith)) (sym (in-text k most s rows site e))
+
+  pub same-columns : siteAt s after site ≡ siteAt s rows site
+  same-columns = same-site-by s rows after site site (λ k h. same k (omega arith)) (same-numbers 13 4 (omega arith) (omega arith)) (same-numbers 16 10 (omega arith) (omega arith))
+
+-- ---- all rows
+
+module _ (s rows after : List ℕ) (same : (j : ℕ) → j < 90112 → getD after j 0 ≡ getD rows j 0) where
+  pub same-column : (k site : ℕ) → k < 22 → site < 4096 → column k after site ≡ column k rows site
   unfolding column
   same-column k site h b = same _ (omega arith)
 
-  pub same-part : (from to site : ℕ) → from < 17 → to < 17 → site < 4096 → partAt from to s after site ≡ partAt from to s rows site
+  pub same-part : (from to site : ℕ) → from < 22 → to < 22 → site < 4096 → partAt from to s after site ≡ partAt from to s rows site
   unfolding partAt
   same-part from to site f t b = rw (same-column from site f b, same-column to site t b)
 
   pub same-site : (site : ℕ) → site < 4096 → siteAt s after site ≡ siteAt s rows site
-  unfolding siteAt
-  same-site site b = rw (
-    same-column 0 site (omega arith) b,
-    same-column 2 site (omega arith) b,
-    same-column 3 site (omega arith) b,
-    same-column 5 site (omega arith) b,
-    same-column 6 site (omega arith) b,
-    same-part 7 8 site (omega arith) (omega arith) b,
-    same-part 9 10 site (omega arith) (omega arith) b,
-    same-part 11 12 site (omega arith) (omega arith) b,
-    same-part 13 14 site (omega arith) (omega arith) b,
-    same-part 15 16 site (omega arith) (omega arith) b,
-  )
+  same-site site b = same-columns s rows after site (λ k h. same-column k site h b)
 
   pub same-sites : (count : ℕ) → count ≤ 4096 → map (siteAt s after) (numbersFrom 0 count) ≡ map (siteAt s rows) (numbersFrom 0 count)
   same-sites count few = map-same (siteAt s after) (siteAt s rows) 0 count (λ i h. same-site i (omega arith))

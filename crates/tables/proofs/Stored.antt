@@ -1,10 +1,10 @@
 -- Numbers stored in a table from an offset on, and what stands in the rows with the first numbers.
 use Prim.Native.Nat.{_+_, _-_, _<_, _≤_, suc, zero, ℕ}
-use lib.ListN.{drop, getD, length, set}
+use lib.ListN.{drop, getD, length, length-set, set}
 use lib.Seq.{drop-set-lt, getD-set-other, getD-set-same, length-sets, sets}
 use mathlib.Core.List.{List, [], _++_, _∷_, map, map-append}
 use mathlib.Core.Path.{_∙_, _≡_, ap, refl}
-use native.Mathlib.Nat.{add-zero, zero-add}
+use native.Mathlib.Nat.{add-zero, sub-zero, zero-add}
 use native.Mathlib.Numerals.{add-one}
 use native.Mathlib.Omega.{arith}
 use Rattle.definitions.specs.Lists.{numbersFrom}
@@ -54,3 +54,24 @@ module _ {A : Type 0} (f : ℕ → A) (n i : ℕ) where
   pub rows-end : n ≤ i → map f (numbersFrom i (n - i)) ≡ []
   unfolding numbersFrom
   rows-end h = let e : n - i ≡ 0 = omega arith in rw e
+
+-- ---- a loop that stores a number at each place from one on
+
+module _ (l₀ : List ℕ) (base : ℕ) (f : ℕ → ℕ) (n : ℕ) where
+  -- storing those from here on comes to storing all
+  pub record Storing (l : List ℕ) (i : ℕ) : Type 0 where
+    pub long : length l ≡ length l₀
+    pub same : sets l (base + i) (map f (numbersFrom i (n - i))) ≡ sets l₀ base (map f (numbersFrom 0 n))
+
+  pub storing-start : Storing l₀ 0
+  storing-start = record { long = refl; same = rw (add-zero base, sub-zero n) }
+
+  pub storing-turn : (l after : List ℕ) (i : ℕ) {place v : ℕ} → Storing l i → i < n → place ≡ base + i → v ≡ f i → after ≡ set l place v
+      → Storing after (i + 1)
+  storing-turn l after i {place} {v} inv h p e stored = rw (stored, p, e) (record {
+    long = length-set l (base + i) (f i) ∙ inv .long;
+    same = let there : suc (base + i) ≡ base + (i + 1) = omega arith in rw (← there) (rw (rows-next f n i h) at (inv .same));
+  })
+
+  pub storing-end : (l : List ℕ) (i : ℕ) → Storing l i → n ≤ i → l ≡ sets l₀ base (map f (numbersFrom 0 n))
+  storing-end l i inv h = rw (rows-end f n i h) at (inv .same)

@@ -1,10 +1,10 @@
 -- The tables that a call reads its texts into: the names by where they stand in the text, a row of numbers for each site, and behind
 -- those of 4,096 sites a row for each of the first 1,024 reference segments and clip spans.
-use Prim.Native.Nat.{_*_, _+_, _<_, ℕ}
-use lib.Dec.{eqb, leb}
+use Prim.Native.Nat.{_%_, _*_, _+_, _/_, _<_, ℕ}
+use lib.Dec.{eqb, leb, ltb}
 use lib.ListN.{getD, length}
-use mathlib.Core.Bool.{cond}
-use mathlib.Core.List.{List, map}
+use mathlib.Core.Bool.{Bool, _&&_, cond}
+use mathlib.Core.List.{List, _∷_, map}
 use mathlib.Core.Option.{Option, some}
 use mathlib.Core.Path.{_≡_}
 use Rattle.definitions.specs.Alleles.{Allele, RefAlts, isBlock, letters, nonRef, spanDel, spelled}
@@ -13,7 +13,7 @@ use Rattle.definitions.specs.ClipAndReference.{ReferenceSegment, Span}
 use Rattle.definitions.specs.Cohort.{Site}
 use Rattle.definitions.specs.Lists.{indexWhere, numbersFrom, onlyIf}
 use Rattle.definitions.specs.Numbers.{maxNumber, numberList}
-use Rattle.kv_text.specs.Fields.{between}
+use Rattle.kv_text.specs.Fields.{between, firstNumbers}
 
 -- ---- names
 
@@ -27,9 +27,9 @@ namesIn s names count = map (nameAt s names) (numbersFrom 0 count)
 -- ---- sites
 
 -- a row has so many numbers: 0 sample, 1 contig, by the number of the first site with that name, 2 start, 3 end, 4 whether the
--- site is a block, 5 GQ, 6 DP, and where the text has (7, 8) the contig, (9, 10) REF, (11, 12) the ALTs, (13, 14) AD, (15, 16) PL
+-- site is a block, 5 GQ, 6 DP, where the text has (7, 8) the contig, (9, 10) REF, (11, 12) the ALTs, and from 13 on AD and from 16 on PL
 abbrev pub rowLength : ℕ
-rowLength = 17
+rowLength = 22
 
 unfoldable pub column : ℕ → List ℕ → ℕ → ℕ
 column k rows site = getD rows (site * rowLength + k) 0
@@ -42,6 +42,49 @@ partAt from to s rows site = between s (column from rows site) (column to rows s
 unfoldable pub codeOption : ℕ → Option ℕ
 codeOption c = onlyIf (leb c maxNumber) c
 
+-- ---- a list of numbers in a row, from a column on
+
+-- One number of a table holds two of a list, each below 2^32: the one at an even place of the list and the one behind it.
+unfoldable pub halfAt : ℕ → ℕ → ℕ
+halfAt i n = cond (eqb (i % 2) 0) (n % 4294967296) (n / 4294967296)
+
+-- the numbers that stand in the row: the column has how many they are, and those behind it hold two each
+unfoldable pub storedNumber : ℕ → List ℕ → ℕ → ℕ → ℕ
+storedNumber k rows site i = halfAt i (column (k + 1 + i / 2) rows site)
+
+unfoldable pub storedNumbers : ℕ → List ℕ → ℕ → List ℕ
+storedNumbers k rows site = map (storedNumber k rows site) (numbersFrom 0 (column k rows site))
+
+-- so many numbers stand in a row that has room for `most`; else the two columns behind theirs say where the text has them
+unfoldable pub isStored : ℕ → ℕ → Bool
+isStored most count = ltb 0 count && leb count most
+
+-- the list; it is missing if its part of the text is none
+unfoldable pub numbersAt : ℕ → ℕ → List ℕ → List ℕ → ℕ → Option (List ℕ)
+numbersAt k most s rows site =
+    cond (isStored most (column k rows site)) (some (storedNumbers k rows site)) (numberList (partAt (k + 1) (k + 2) s rows site))
+
+-- the same, and of a faulty list in the text the numbers before the fault
+unfoldable pub firstNumbersAt : ℕ → ℕ → List ℕ → List ℕ → ℕ → List ℕ
+firstNumbersAt k most s rows site =
+    cond (isStored most (column k rows site)) (storedNumbers k rows site) (firstNumbers (fieldsOf comma (partAt (k + 1) (k + 2) s rows site)))
+
+-- AD of up to 4 numbers, and PL of up to 10, stand in the row: those of a site with up to 4 alleles
+abbrev pub adAt : List ℕ → List ℕ → ℕ → Option (List ℕ)
+adAt = numbersAt 13 4
+
+abbrev pub plAt : List ℕ → List ℕ → ℕ → Option (List ℕ)
+plAt = numbersAt 16 10
+
+-- what is stored of a list in its column and so many behind it
+unfoldable pub wordOf : List ℕ → ℕ → ℕ
+wordOf numbers j = getD numbers (2 * j) 0 + getD numbers (2 * j + 1) 0 * 4294967296
+
+unfoldable pub listColumns : ℕ → List ℕ → List ℕ
+listColumns words numbers = length numbers ∷ map (wordOf numbers) (numbersFrom 0 words)
+
+-- ---- the site of a row
+
 -- the allele that a field is, which is known to spell one
 unfoldable pub alleleSpelled : List ℕ → Allele
 alleleSpelled s = cond (sameBytes s (spelled spanDel)) spanDel (cond (sameBytes s (spelled nonRef)) nonRef (letters s))
@@ -50,7 +93,7 @@ alleleSpelled s = cond (sameBytes s (spelled spanDel)) spanDel (cond (sameBytes 
 unfoldable pub refAltsSpelled : List ℕ → List ℕ → RefAlts
 refAltsSpelled ref alt = record { ref = ref; alts = map alleleSpelled (fieldsOf comma alt) }
 
--- the site that a row stands for; a list of numbers is missing if its part of the text is none
+-- the site that a row stands for
 unfoldable pub siteAt : List ℕ → List ℕ → ℕ → Site
 siteAt s rows site = record {
   sample = column 0 rows site;
@@ -60,8 +103,8 @@ siteAt s rows site = record {
   alleles = refAltsSpelled (partAt 9 10 s rows site) (partAt 11 12 s rows site);
   gq = codeOption (column 5 rows site);
   dp = codeOption (column 6 rows site);
-  ad = numberList (partAt 13 14 s rows site);
-  pl = numberList (partAt 15 16 s rows site);
+  ad = adAt s rows site;
+  pl = plAt s rows site;
 }
 
 -- the rows of a table stand for these sites
@@ -73,19 +116,19 @@ pub record SiteRows (s rows : List ℕ) (sites : List Site) : Type 0 where
 
 -- ---- reference segments and clip spans
 
--- 69,632 numbers are the rows of 4,096 sites. Behind them stand 1,024 rows of 5 for segments and 1,024 rows of 4 for spans; then how
+-- 90,112 numbers are the rows of 4,096 sites. Behind them stand 1,024 rows of 5 for segments and 1,024 rows of 4 for spans; then how
 -- many segments and how many spans have rows; then the offset at which the segments, and that at which the spans, go on in their text.
 abbrev pub segmentsAt : ℕ
-segmentsAt = 69632
+segmentsAt = 90112
 
 abbrev pub spansAt : ℕ
-spansAt = 74752
+spansAt = 95232
 
 abbrev pub countsAt : ℕ
-countsAt = 78848
+countsAt = 99328
 
 abbrev pub tableLength : ℕ
-tableLength = 78852
+tableLength = 99332
 
 -- a segment's row: where the reference text has (0, 1) the contig, 2 the first position, where it has (3, 4) the bases
 unfoldable pub segmentColumn : ℕ → List ℕ → ℕ → ℕ

@@ -1,7 +1,7 @@
 // The tables that the texts of a call are read into: names, sites, and behind 4,096 sites the first 1,024 reference segments and clip
 // spans. Every number of a row is answered: past the table's end all columns are 0.
 ghost use mathlib.Core.Path.{_≡_};
-ghost use Prim.Native.Nat.{_+_, _≤_};
+ghost use Prim.Native.Nat.{_+_, _<_, _≤_};
 ghost use lib.Dec.{eqb};
 ghost use lib.ListN.{getD, length};
 ghost use lib.Seq.{sets};
@@ -12,7 +12,7 @@ ghost use Rattle.definitions.specs.Bytes.{comma, fieldsOf};
 ghost use Rattle.definitions.specs.Numbers.{numberList};
 ghost use Rattle.kv_text.specs.Fields.{between, firstNumbers};
 ghost use Rattle.kv_write.specs.Optional.{optionOf};
-ghost use Rattle.tables.specs.Tables.{codeOption, column, partAt, segmentColumn, segmentCount, segmentsNext, spanColumn, spanCount, spansNext};
+ghost use Rattle.tables.specs.Tables.{adAt, codeOption, column, firstNumbersAt, halfAt, isStored, listColumns, numbersAt, partAt, plAt, segmentColumn, segmentCount, segmentsNext, spanColumn, spanCount, spansNext, storedNumbers, wordOf};
 use bio_ids::GenomePosition;
 use bio_ids::SampleIndex;
 use kv_text::NumbersRead;
@@ -79,7 +79,7 @@ fn column(rows: &[usize], site: usize, k: usize) -> usize
     if TOO_MANY_NUMBERS <= k {
         return 0;
     }
-    let at = site * 17 + k;
+    let at = site * 22 + k;
     if rows.len() <= at {
         return 0;
     }
@@ -187,22 +187,103 @@ fn numbers_in(list: &[u8], out: &mut [u32]) -> usize
     }
 }
 
+// Whether so many numbers of a list stand in a row that has room for `most`.
+fn is_stored(count: usize, most: usize) -> bool
+    ensures { λ r. ⌜ r ≡ isStored most count ⌝ }
+{
+    0 < count && count <= most
+}
+
+// The number at a place of a list, of the two that a number of the table holds.
+fn half_at(n: usize, place: usize) -> u32
+    ensures { λ r. ⌜ r ≡ halfAt place n ⌝ }
+{
+    if place % 2 == 0 {
+        return (n % 4294967296) as u32;
+    }
+    (n / 4294967296) as u32
+}
+
+// The numbers of a list that stand in the row, into a slice, as many as fit.
+fn stored_numbers(rows: &[usize], site: usize, k: usize, out: &mut [u32])
+    requires { ⌜ k ≤ 16 ⌝ }
+    ensures { λ _. ⌜ now (out .exit) ≡ sets (now (out .entry)) 0 (storedNumbers k (now (rows .entry)) site) ⌝ }
+{
+    let count = column(rows, site, k);
+    for i in 0..count {
+        let n = column(rows, site, k + 1 + i / 2);
+        kv_text::store(out, i, half_at(n, i));
+    }
+}
+
+// A list of numbers from its column on into a slice, as many as fit; the answer is how many they are, 0 for a missing list.
+fn numbers_at(
+    s: &[u8],
+    rows: &[usize],
+    site: usize,
+    k: usize,
+    most: usize,
+    out: &mut [u32],
+) -> usize
+    requires { ⌜ k ≤ 16 ⌝ }
+    ensures count { λ r. ⌜ r ≡ length (Option·getD (numbersAt k most (now (s .entry)) (now (rows .entry)) site) []) ⌝ }
+    ensures values { λ r. ⌜ now (out .exit) ≡ sets (now (out .entry)) 0 (firstNumbersAt k most (now (s .entry)) (now (rows .entry)) site) ⌝ }
+{
+    let count = column(rows, site, k);
+    if is_stored(count, most) {
+        stored_numbers(rows, site, k, out);
+        return count;
+    }
+    let list = part_at(s, rows, site, k + 1, k + 2);
+    numbers_in(list, out)
+}
+
 // The site's AD.
 pub fn ad_of(s: &[u8], rows: &[usize], site: usize, out: &mut [u32]) -> usize
-    ensures count { λ r. ⌜ r ≡ length (Option·getD (numberList (partAt 13 14 (now (s .entry)) (now (rows .entry)) site)) []) ⌝ }
-    ensures values { λ r. ⌜ now (out .exit) ≡ sets (now (out .entry)) 0 (firstNumbers (fieldsOf comma (partAt 13 14 (now (s .entry)) (now (rows .entry)) site))) ⌝ }
+    ensures count { λ r. ⌜ r ≡ length (Option·getD (adAt (now (s .entry)) (now (rows .entry)) site) []) ⌝ }
+    ensures values { λ r. ⌜ now (out .exit) ≡ sets (now (out .entry)) 0 (firstNumbersAt 13 4 (now (s .entry)) (now (rows .entry)) site) ⌝ }
 {
-    let list = part_at(s, rows, site, 13, 14);
-    numbers_in(list, out)
+    numbers_at(s, rows, site, 13, 4, out)
 }
 
 // The site's PL.
 pub fn pl_of(s: &[u8], rows: &[usize], site: usize, out: &mut [u32]) -> usize
-    ensures count { λ r. ⌜ r ≡ length (Option·getD (numberList (partAt 15 16 (now (s .entry)) (now (rows .entry)) site)) []) ⌝ }
-    ensures values { λ r. ⌜ now (out .exit) ≡ sets (now (out .entry)) 0 (firstNumbers (fieldsOf comma (partAt 15 16 (now (s .entry)) (now (rows .entry)) site))) ⌝ }
+    ensures count { λ r. ⌜ r ≡ length (Option·getD (plAt (now (s .entry)) (now (rows .entry)) site) []) ⌝ }
+    ensures values { λ r. ⌜ now (out .exit) ≡ sets (now (out .entry)) 0 (firstNumbersAt 16 10 (now (s .entry)) (now (rows .entry)) site) ⌝ }
 {
-    let list = part_at(s, rows, site, 15, 16);
-    numbers_in(list, out)
+    numbers_at(s, rows, site, 16, 10, out)
+}
+
+// The value at a place of a list; 0 if there is none.
+fn value_at(numbers: &[u32], place: usize) -> usize
+    ensures { λ r. ⌜ r ≡ getD (now (numbers .entry)) place 0 ⌝ }
+{
+    if place < numbers.len() {
+        return numbers[place] as usize;
+    }
+    0
+}
+
+// Two numbers of a list in one.
+fn word_of(numbers: &[u32], j: usize) -> usize
+    requires { ⌜ j < 4611686018427387904 ⌝ }
+    ensures { λ r. ⌜ r ≡ wordOf (now (numbers .entry)) j ⌝ }
+{
+    let low = value_at(numbers, 2 * j);
+    let high = value_at(numbers, 2 * j + 1);
+    low + high * 4294967296
+}
+
+// Stores a list of numbers in a row: how many they are at the offset of its column, and two in each of so many columns behind it.
+pub fn store_numbers(rows: &mut [usize], at: usize, words: usize, numbers: &[u32])
+    requires { ⌜ at + 1 + words ≤ length (now rows) ⌝ }
+    ensures { λ _. ⌜ now (rows .exit) ≡ sets (now (rows .entry)) at (listColumns words (now (numbers .entry))) ⌝ }
+{
+    rows[at] = numbers.len();
+    for j in 0..words {
+        let word = word_of(numbers, j);
+        rows[at + 1 + j] = word;
+    }
 }
 
 // ---- reference segments and clip spans
@@ -230,7 +311,7 @@ pub fn segment_column(rows: &[usize], segment: usize, k: usize) -> usize
     if TOO_MANY_NUMBERS <= k {
         return 0;
     }
-    number_at(rows, 69632 + segment * 5 + k)
+    number_at(rows, 90112 + segment * 5 + k)
 }
 
 // A number of a clip span's row.
@@ -243,33 +324,33 @@ pub fn span_column(rows: &[usize], span: usize, k: usize) -> usize
     if TOO_MANY_NUMBERS <= k {
         return 0;
     }
-    number_at(rows, 74752 + span * 4 + k)
+    number_at(rows, 95232 + span * 4 + k)
 }
 
 // How many reference segments have rows.
 pub fn segment_count(rows: &[usize]) -> usize
     ensures { λ r. ⌜ r ≡ segmentCount (now (rows .entry)) ⌝ }
 {
-    number_at(rows, 78848)
+    number_at(rows, 99328)
 }
 
 // How many clip spans have rows.
 pub fn span_count(rows: &[usize]) -> usize
     ensures { λ r. ⌜ r ≡ spanCount (now (rows .entry)) ⌝ }
 {
-    number_at(rows, 78849)
+    number_at(rows, 99329)
 }
 
 // Where the reference segments without rows begin in their text.
 pub fn segments_next(rows: &[usize]) -> usize
     ensures { λ r. ⌜ r ≡ segmentsNext (now (rows .entry)) ⌝ }
 {
-    number_at(rows, 78850)
+    number_at(rows, 99330)
 }
 
 // Where the clip spans without rows begin in their text.
 pub fn spans_next(rows: &[usize]) -> usize
     ensures { λ r. ⌜ r ≡ spansNext (now (rows .entry)) ⌝ }
 {
-    number_at(rows, 78851)
+    number_at(rows, 99331)
 }

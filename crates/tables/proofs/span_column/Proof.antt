@@ -10,11 +10,11 @@ use Rattle.tables.proofs.span_column.Tie as tie
 
 returns : tie.Need-returns
 unfolding spanColumn
-returns c = sym (getD-past ((c .before .before .args .rows .now)) (74752 + (c .before .before .args .span) * 4 + (c .before .before .args .k)) (omega arith))
+returns c = sym (getD-past ((c .before .before .args .rows .now)) (95232 + (c .before .before .args .span) * 4 + (c .before .before .args .k)) (omega arith))
 
 returns-2 : tie.Need-returns-2
 unfolding spanColumn
-returns-2 c = sym (getD-past ((c .before .before .before .args .rows .now)) (74752 + (c .before .before .before .args .span) * 4 + (c .before .before .before .args .k)) (omega arith))
+returns-2 c = sym (getD-past ((c .before .before .before .args .rows .now)) (95232 + (c .before .before .before .args .span) * 4 + (c .before .before .before .args .k)) (omega arith))
 
 mul-number-at : tie.Need-mul-number-at
 mul-number-at c = search needs

@@ -1,0 +1,47 @@
+-- Lists of numbers in a row: what is read of them, and that storing one in the row leaves what it is.
+use Prim.Native.Nat.{_%_, _*_, _+_, _/_, _<_, _≤_, suc, zero, ℕ}
+use borrow.Author.Tests.{eq-eqb, le-leb, lt-ltb, ne-eqb}
+use lib.Dec.{eqb, leb, ltb}
+use lib.ListN.{getD, length, length-map}
+use lib.Seq.{ext-getD, sets}
+use mathlib.Core.Bool.{Bool, cond, false, true}
+use mathlib.Core.List.{List, [], _∷_, map}
+use mathlib.Core.Option.{Option, Option·getD, none, some}
+use mathlib.Core.Path.{_∙_, _≡_, ap, refl, sym}
+use native.Mathlib.Nat.{add-zero}
+use native.Mathlib.Omega.{arith}
+use Rattle.definitions.specs.Bytes.{comma, fieldsOf}
+use Rattle.definitions.specs.Lists.{numbersFrom}
+use Rattle.definitions.specs.Numbers.{numberList}
+use Rattle.kv_text.specs.Fields.{firstNumbers}
+use Rattle.laws.proofs.Members.{length-numbers}
+use Rattle.laws.proofs.Tests.{both}
+use Rattle.tables.proofs.Stored.{get-behind, get-before, get-here}
+use Rattle.tables.specs.Tables.{column, firstNumbersAt, halfAt, isStored, listColumns, numbersAt, partAt, storedNumber, storedNumbers, wordOf}
+
+-- ---- where a list stands
+
+module _ (k most : ℕ) (s rows : List ℕ) (site : ℕ) where
+  -- in the row
+  pub in-row : isStored most (column k rows site) ≡ true → numbersAt k most s rows site ≡ some (storedNumbers k rows site)
+  unfolding numbersAt
+  in-row e = rw e
+
+  pub first-in-row : isStored most (column k rows site) ≡ true → firstNumbersAt k most s rows site ≡ storedNumbers k rows site
+  unfolding firstNumbersAt
+  first-in-row e = rw e
+
+  -- in the text
+  pub in-text : isStored most (column k rows site) ≡ false → numbersAt k most s rows site ≡ numberList (partAt (k + 1) (k + 2) s rows site)
+  unfolding numbersAt
+  in-text e = rw e
+
+  pub first-in-text : isStored most (column k rows site) ≡ false
+      → firstNumbersAt k most s rows site ≡ firstNumbers (fieldsOf comma (partAt (k + 1) (k + 2) s rows site))
+  unfolding firstNumbersAt
+  first-in-text e = rw e
+
+  -- so many
+  pub stored-length : length (storedNumbers k rows site) ≡ column k rows site
+  unfolding storedNumbers
+  stored-length = length-map (numbersFrom 0 (column k rows site)) (storedNumber k rows site) ∙ length-numbers 0 (column k rows site)
