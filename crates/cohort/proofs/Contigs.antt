@@ -15,6 +15,7 @@ use Rattle.definitions.specs.Lists.{indexWhere, numbersFrom}
 use Rattle.laws.proofs.Bytes.{same-is, same-refl}
 use Rattle.laws.proofs.Members.{length-numbers}
 use Rattle.laws.proofs.Tests.{both-of, clash, not-none, some-same}
+use Rattle.tables.proofs.Stored.{map-numbers}
 use Rattle.tables.specs.Tables.{column, partAt}
 use Rattle.cohort.specs.Cohort.{ContigsNumbered, contigNames, firstOn}
 
@@ -57,12 +58,6 @@ module _ {A : Type 0} (p : A → Bool) (d : A) where
           later k t h (suc j) b = h j (omega arith)
 
 -- ---- contigNames
-
-map-numbers : {A : Type 0} (f : ℕ → A) (d : A) (a n j : ℕ) → j < n → getD (map f (numbersFrom a n)) j d ≡ f (a + j)
-unfolding numbersFrom
-map-numbers f d a zero j h = absurd (omega arith)
-map-numbers f d a (suc n) zero h = ap f (sym (add-zero a))
-map-numbers f d a (suc n) (suc j) h = map-numbers f d (suc a) n j (omega arith) ∙ ap f (omega arith)
 
 module _ (s rows : List ℕ) (count : ℕ) where
   pub name-at : (site : ℕ) → site < count → getD (contigNames s rows count) site [] ≡ partAt 7 8 s rows site

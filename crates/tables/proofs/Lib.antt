@@ -4,3 +4,4 @@ pub mod Parts
 pub mod SameContig
 pub mod SameSites
 pub mod Stored
+pub mod StoredLists

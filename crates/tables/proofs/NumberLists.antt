@@ -1,6 +1,6 @@
 -- Lists of numbers in a row: what is read of them, and that storing one in the row leaves what it is.
 use Prim.Native.Nat.{_%_, _*_, _+_, _/_, _<_, _≤_, suc, zero, ℕ}
-use borrow.Author.Tests.{eq-eqb, le-leb, lt-ltb, ne-eqb}
+use borrow.Author.Tests.{leb-true, ltb-true}
 use lib.Dec.{eqb, leb, ltb}
 use lib.ListN.{getD, length, length-map}
 use lib.Seq.{ext-getD, sets}
@@ -15,7 +15,7 @@ use Rattle.definitions.specs.Lists.{numbersFrom}
 use Rattle.definitions.specs.Numbers.{numberList}
 use Rattle.kv_text.specs.Fields.{firstNumbers}
 use Rattle.laws.proofs.Members.{length-numbers}
-use Rattle.laws.proofs.Tests.{both}
+use Rattle.laws.proofs.Tests.{both-of}
 use Rattle.tables.proofs.Stored.{get-behind, get-before, get-here}
 use Rattle.tables.specs.Tables.{column, firstNumbersAt, halfAt, isStored, listColumns, numbersAt, partAt, storedNumber, storedNumbers, wordOf}
 
@@ -45,3 +45,12 @@ module _ (k most : ℕ) (s rows : List ℕ) (site : ℕ) where
   pub stored-length : length (storedNumbers k rows site) ≡ column k rows site
   unfolding storedNumbers
   stored-length = length-map (numbersFrom 0 (column k rows site)) (storedNumber k rows site) ∙ length-numbers 0 (column k rows site)
+
+-- what stands in the row has room there
+pub stored-some : (most count : ℕ) → isStored most count ≡ true → 0 < count
+unfolding isStored
+stored-some most count e = ltb-true 0 count (both-of (ltb 0 count) _ e .0)
+
+pub stored-few : (most count : ℕ) → isStored most count ≡ true → count ≤ most
+unfolding isStored
+stored-few most count e = leb-true count most (both-of (ltb 0 count) _ e .1)

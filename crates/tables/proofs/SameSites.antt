@@ -1,8 +1,7 @@
 -- The site of a row is the same where its columns are, or where they say the same numbers; the rows of sites do not see what stands
 -- behind those of 4,096 sites.
 use Prim.Native.Nat.{_*_, _+_, _/_, _<_, _≤_, ℕ}
-use borrow.Author.Tests.{leb-true}
-use lib.Dec.{eqb, ltb}
+use lib.Dec.{eqb}
 use lib.ListN.{getD, length}
 use mathlib.Core.Bool.{Bool, false, true}
 use mathlib.Core.List.{List, map}
@@ -13,18 +12,17 @@ use Rattle.definitions.specs.Alleles.{isBlock}
 use Rattle.definitions.specs.Bytes.{sameBytes}
 use Rattle.definitions.specs.Cohort.{Site}
 use Rattle.definitions.specs.Lists.{indexWhere, numbersFrom}
-use Rattle.laws.proofs.Tests.{both-of}
-use Rattle.tables.proofs.NumberLists.{in-row, in-text}
+use Rattle.tables.proofs.NumberLists.{in-row, in-text, stored-few}
 use Rattle.tables.proofs.Stored.{map-same}
 use Rattle.tables.specs.Tables.{SiteRows, adAt, column, isStored, numbersAt, partAt, plAt, siteAt, storedNumber, storedNumbers}
 
 -- ---- one row
 
 -- a site is what its first 13 columns and its two lists say
-pub same-site-by : (s rows after : List ℕ) (site site′ : ℕ) → ((k : ℕ) → k < 13 → column k after site′ ≡ column k rows site)
-    → adAt s after site′ ≡ adAt s rows site → plAt s after site′ ≡ plAt s rows site → siteAt s after site′ ≡ siteAt s rows site
+pub same-site-by : (s rows after : List ℕ) (site : ℕ) → ((k : ℕ) → k < 13 → column k after site ≡ column k rows site)
+    → adAt s after site ≡ adAt s rows site → plAt s after site ≡ plAt s rows site → siteAt s after site ≡ siteAt s rows site
 unfolding siteAt partAt
-same-site-by s rows after site site′ same ad pl = rw (
+same-site-by s rows after site same ad pl = rw (
   same 0 (omega arith),
   same 2 (omega arith),
   same 3 (omega arith),
@@ -40,32 +38,36 @@ same-site-by s rows after site site′ same ad pl = rw (
   pl,
 )
 
-module _ (s rows after : List ℕ) (site : ℕ) (same : (k : ℕ) → k < 22 → column k after site ≡ column k rows site) where
-  -- a list is what its columns say
-  pub same-numbers : (k most : ℕ) → k < 19 → 2 * (k + 1) + most ≤ 44 → numbersAt k most s after site ≡ numbersAt k most s rows site
-  unfolding partAt storedNumber storedNumbers isStored
-  same-numbers k most h few = go (isStored most (column k rows site)) refl
-    where
-      here : column k after site ≡ column k rows site
-      here = same k (omega arith)
+-- a list is what its columns say, which end before `last`
+pub same-numbers : (s rows after : List ℕ) (site k most last : ℕ) → k + 2 < last → 2 * (k + 1) + most ≤ 2 * last
+    → ((j : ℕ) → k ≤ j → j < last → column j after site ≡ column j rows site) → numbersAt k most s after site ≡ numbersAt k most s rows site
+unfolding partAt storedNumber storedNumbers
+same-numbers s rows after site k most last h few same = go (isStored most (column k rows site)) refl
+  where
+    here : column k after site ≡ column k rows site
+    here = same k (omega arith) (omega arith)
 
-      one : column k rows site ≤ most → (i : ℕ) → i < 0 + column k rows site → storedNumber k after site i ≡ storedNumber k rows site i
-      one fit i b = rw (same (k + 1 + i / 2) (omega arith))
+    one : column k rows site ≤ most → (i : ℕ) → i < 0 + column k rows site → storedNumber k after site i ≡ storedNumber k rows site i
+    one fit i b = rw (same (k + 1 + i / 2) (omega arith) (omega arith))
 
-      listed : column k rows site ≤ most → storedNumbers k after site ≡ storedNumbers k rows site
-      listed fit = rw here (map-same (storedNumber k after site) (storedNumber k rows site) 0 (column k rows site) (one fit))
+    listed : column k rows site ≤ most → storedNumbers k after site ≡ storedNumbers k rows site
+    listed fit = rw here (map-same (storedNumber k after site) (storedNumber k rows site) 0 (column k rows site) (one fit))
 
-      go : (b : Bool) → isStored most (column k rows site) ≡ b → numbersAt k most s after site ≡ numbersAt k most s rows site
-      go true e =
-          in-row k most s after site (rw here e)
-          ∙ ap {B = Option (List ℕ)} some (listed (leb-true (column k rows site) most (both-of (ltb 0 (column k rows site)) _ e .1)))
-          ∙ sym (in-row k most s rows site e)
-      go false e =
-          in-text k most s after site (rw here e)
-          ∙ rw (same (k + 1) (omega arith), same (k + 2) (omega arith)) (sym (in-text k most s rows site e))
+    go : (b : Bool) → isStored most (column k rows site) ≡ b → numbersAt k most s after site ≡ numbersAt k most s rows site
+    go true e =
+        in-row k most s after site (rw here e)
+        ∙ ap {B = Option (List ℕ)} some (listed (stored-few most (column k rows site) e))
+        ∙ sym (in-row k most s rows site e)
+    go false e =
+        in-text k most s after site (rw here e)
+        ∙ rw (same (k + 1) (omega arith) (omega arith), same (k + 2) (omega arith) (omega arith)) (sym (in-text k most s rows site e))
 
-  pub same-columns : siteAt s after site ≡ siteAt s rows site
-  same-columns = same-site-by s rows after site site (λ k h. same k (omega arith)) (same-numbers 13 4 (omega arith) (omega arith)) (same-numbers 16 10 (omega arith) (omega arith))
+pub same-columns : (s rows after : List ℕ) (site : ℕ) → ((k : ℕ) → k < 22 → column k after site ≡ column k rows site)
+    → siteAt s after site ≡ siteAt s rows site
+same-columns s rows after site same =
+    same-site-by s rows after site (λ k h. same k (omega arith))
+    (same-numbers s rows after site 13 4 16 (omega arith) (omega arith) (λ j _ h. same j (omega arith)))
+    (same-numbers s rows after site 16 10 22 (omega arith) (omega arith) (λ j _ h. same j h))
 
 -- ---- all rows
 

@@ -1,14 +1,14 @@
 -- Numbers stored in a table from an offset on, and what stands in the rows with the first numbers.
 use Prim.Native.Nat.{_+_, _-_, _<_, _≤_, suc, zero, ℕ}
-use lib.ListN.{drop, getD, length, length-set, set}
-use lib.Seq.{drop-set-lt, getD-set-other, getD-set-same, length-sets, sets}
+use lib.ListN.{drop, getD, length, length-map, length-set, set}
+use lib.Seq.{drop-set-lt, ext-getD, getD-set-other, getD-set-same, length-sets, sets}
 use mathlib.Core.List.{List, [], _++_, _∷_, map, map-append}
-use mathlib.Core.Path.{_∙_, _≡_, ap, refl}
+use mathlib.Core.Path.{_∙_, _≡_, ap, refl, sym}
 use native.Mathlib.Nat.{add-zero, sub-zero, zero-add}
 use native.Mathlib.Numerals.{add-one}
 use native.Mathlib.Omega.{arith}
 use Rattle.definitions.specs.Lists.{numbersFrom}
-use Rattle.laws.proofs.Members.{numbers-append}
+use Rattle.laws.proofs.Members.{length-numbers, numbers-append}
 
 -- ---- sets
 
@@ -44,6 +44,19 @@ one-more f n = ap (map f) (numbers-append 0 n 1) ∙ map-append f (numbersFrom 0
   where
     last : map f (numbersFrom 0 n) ++ map f (numbersFrom n 1) ≡ map f (numbersFrom 0 n) ++ (f n ∷ [])
     last = unfold numbersFrom in refl
+
+pub map-numbers : {A : Type 0} (f : ℕ → A) (d : A) (a n j : ℕ) → j < n → getD (map f (numbersFrom a n)) j d ≡ f (a + j)
+unfolding numbersFrom
+map-numbers f d a zero j h = absurd (omega arith)
+map-numbers f d a (suc n) zero h = ap f (sym (add-zero a))
+map-numbers f d a (suc n) (suc j) h = map-numbers f d (suc a) n j (omega arith) ∙ ap f (omega arith)
+
+-- a list is its numbers one by one
+pub numbers-all : (l : List ℕ) → map (λ i. getD l i 0) (numbersFrom 0 (length l)) ≡ l
+numbers-all l =
+    let n = length-map (numbersFrom 0 (length l)) (λ i. getD l i 0) ∙ length-numbers 0 (length l) in
+    ext-getD 0 (map (λ i. getD l i 0) (numbersFrom 0 (length l))) l n
+    (λ i h. map-numbers (λ i. getD l i 0) 0 0 (length l) i (omega arith) ∙ rw zero-add)
 
 -- the rows from here on: the next and those behind it, or none
 module _ {A : Type 0} (f : ℕ → A) (n i : ℕ) where

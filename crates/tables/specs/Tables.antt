@@ -2,7 +2,8 @@
 -- those of 4,096 sites a row for each of the first 1,024 reference segments and clip spans.
 use Prim.Native.Nat.{_%_, _*_, _+_, _/_, _<_, ℕ}
 use lib.Dec.{eqb, leb, ltb}
-use lib.ListN.{getD, length}
+use lib.ListN.{getD, length, take}
+use lib.Seq.{sets}
 use mathlib.Core.Bool.{Bool, _&&_, cond}
 use mathlib.Core.List.{List, _∷_, map}
 use mathlib.Core.Option.{Option, some}
@@ -82,6 +83,11 @@ wordOf numbers j = getD numbers (2 * j) 0 + getD numbers (2 * j + 1) 0 * 4294967
 
 unfoldable pub listColumns : ℕ → List ℕ → List ℕ
 listColumns words numbers = length numbers ∷ map (wordOf numbers) (numbersFrom 0 words)
+
+-- a table in which a list's column, at this offset, got the first so many numbers, if they have room; else it stays as it was
+unfoldable pub withNumbers : ℕ → ℕ → List ℕ → ℕ → List ℕ → List ℕ
+withNumbers at words numbers count rows =
+    cond (isStored (length numbers) count) (sets rows at (listColumns words (take count numbers))) rows
 
 -- ---- the site of a row
 

@@ -12,7 +12,7 @@ ghost use Rattle.definitions.specs.Bytes.{comma, fieldsOf};
 ghost use Rattle.definitions.specs.Numbers.{numberList};
 ghost use Rattle.kv_text.specs.Fields.{between, firstNumbers};
 ghost use Rattle.kv_write.specs.Optional.{optionOf};
-ghost use Rattle.tables.specs.Tables.{adAt, codeOption, column, firstNumbersAt, halfAt, isStored, listColumns, numbersAt, partAt, plAt, segmentColumn, segmentCount, segmentsNext, spanColumn, spanCount, spansNext, storedNumbers, wordOf};
+ghost use Rattle.tables.specs.Tables.{adAt, codeOption, column, firstNumbersAt, halfAt, isStored, listColumns, numbersAt, partAt, plAt, segmentColumn, segmentCount, segmentsNext, spanColumn, spanCount, spansNext, storedNumbers, withNumbers, wordOf};
 use bio_ids::GenomePosition;
 use bio_ids::SampleIndex;
 use kv_text::NumbersRead;
@@ -274,8 +274,8 @@ fn word_of(numbers: &[u32], j: usize) -> usize
     low + high * 4294967296
 }
 
-// Stores a list of numbers in a row: how many they are at the offset of its column, and two in each of so many columns behind it.
-pub fn store_numbers(rows: &mut [usize], at: usize, words: usize, numbers: &[u32])
+// Stores a list of numbers from the offset of its column on: how many they are, and two in each of so many columns behind it.
+fn store_list(rows: &mut [usize], at: usize, words: usize, numbers: &[u32])
     requires { ⌜ at + 1 + words ≤ length (now rows) ⌝ }
     ensures { λ _. ⌜ now (rows .exit) ≡ sets (now (rows .entry)) at (listColumns words (now (numbers .entry))) ⌝ }
 {
@@ -283,6 +283,16 @@ pub fn store_numbers(rows: &mut [usize], at: usize, words: usize, numbers: &[u32
     for j in 0..words {
         let word = word_of(numbers, j);
         rows[at + 1 + j] = word;
+    }
+}
+
+// The same for the first so many numbers of a slice, if there are some and the slice has them all; else the table stays as it was.
+pub fn store_numbers(rows: &mut [usize], at: usize, words: usize, numbers: &[u32], count: usize)
+    requires { ⌜ at + 1 + words ≤ length (now rows) ⌝ }
+    ensures { λ _. ⌜ now (rows .exit) ≡ withNumbers at words (now (numbers .entry)) count (now (rows .entry)) ⌝ }
+{
+    if is_stored(count, numbers.len()) {
+        store_list(rows, at, words, &numbers[..count]);
     }
 }
 
