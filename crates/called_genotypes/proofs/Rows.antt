@@ -8,15 +8,12 @@ use mathlib.Core.Option.{Option}
 use mathlib.Core.Path.{_≡_}
 use native.Mathlib.Nat.{sub-zero}
 use native.Mathlib.Omega.{arith}
-use Rattle.definitions.specs.Bytes.{comma, fieldsOf}
 use Rattle.definitions.specs.CalledList.{calledData}
 use Rattle.definitions.specs.Lists.{numbersFrom}
-use Rattle.definitions.specs.Numbers.{numberList}
-use Rattle.kv_text.specs.Fields.{firstNumbers}
 use Rattle.laws.proofs.Every.{every-member, if-there}
 use Rattle.laws.proofs.Members.{numbers-member}
-use Rattle.record_lines.proofs.SiteValues.{Front, numbers-front, numbers-present, numbersOf}
-use Rattle.tables.specs.Tables.{codeOption, column, partAt}
+use Rattle.record_lines.proofs.SiteValues.{Front, first-read, numbers-front, numbers-present, numbersOf}
+use Rattle.tables.specs.Tables.{adAt, codeOption, column, firstNumbersAt, plAt}
 use Rattle.called_genotypes.specs.Rows.{Entries, SamplePrintable, SamplesPrintable, calledSample, calledSamples, rowData}
 use Rattle.called_genotypes.specs.Values.{CalledPrintable, ownValues}
 
@@ -24,30 +21,30 @@ use Rattle.called_genotypes.specs.Values.{CalledPrintable, ownValues}
 
 module _ (s rows : List ℕ) (sample : ℕ) where
   abbrev pub adOf : List ℕ
-  adOf = numbersOf (partAt 13 14 s rows sample)
+  adOf = numbersOf (adAt s rows sample)
 
   abbrev pub plOf : List ℕ
-  plOf = numbersOf (partAt 15 16 s rows sample)
+  plOf = numbersOf (plAt s rows sample)
 
   -- AD and PL stand at the fronts of the arrays
   module _ (n : ℕ) (few : n ≤ 16) (entries : Entries n (rowData s rows sample)) (before : List ℕ) {after : List ℕ} {r : ℕ} where
-    pub ad-front : length before ≡ 16 → r ≡ length adOf → after ≡ sets before 0 (firstNumbers (fieldsOf comma (partAt 13 14 s rows sample)))
+    pub ad-front : length before ≡ 16 → r ≡ length adOf → after ≡ sets before 0 (firstNumbersAt 13 4 s rows sample)
         → Front adOf after r
     unfolding rowData
     ad-front long =
-        numbers-front (partAt 13 14 s rows sample) before
-        (rw long (if-there (numberList (partAt 13 14 s rows sample)) (λ l e. omega arith) (entries .ad)))
+        numbers-front (adAt s rows sample) _ before (first-read 13 4 s rows sample)
+        (rw long (if-there (adAt s rows sample) (λ l e. omega arith) (entries .ad)))
 
-    pub pl-front : length before ≡ 136 → r ≡ length plOf → after ≡ sets before 0 (firstNumbers (fieldsOf comma (partAt 15 16 s rows sample)))
+    pub pl-front : length before ≡ 136 → r ≡ length plOf → after ≡ sets before 0 (firstNumbersAt 16 10 s rows sample)
         → Front plOf after r
     unfolding rowData
-    pl-front long = numbers-front (partAt 15 16 s rows sample) before (rw long (entries .pl))
+    pl-front long = numbers-front (plAt s rows sample) _ before (first-read 16 10 s rows sample) (rw long (entries .pl))
 
   module _ (n x : ℕ) {dp : Option ℕ} {ad pl : List ℕ} (d : dp ≡ codeOption (column 6 rows sample)) (a : ad ≡ adOf) (p : pl ≡ plOf) where
     -- what is said by these values is what is said by the row
     pub row-called : calledData n x (ownValues dp ad pl) ≡ calledData n x (rowData s rows sample)
     unfolding calledData ownValues rowData
-    row-called = rw (d, a, p, numbers-present (partAt 13 14 s rows sample), numbers-present (partAt 15 16 s rows sample))
+    row-called = rw (d, a, p, numbers-present 13 4 s rows sample, numbers-present 16 10 s rows sample)
 
     -- what `put_called_data` asks
     pub row-printable : {at : ℕ} → SamplePrintable s n x rows sample at → CalledPrintable n x dp ad pl at
@@ -56,7 +53,7 @@ module _ (s rows : List ℕ) (sample : ℕ) where
       atLeast = pre .atLeast;
       atMost = pre .atMost;
       dropped = pre .dropped;
-      entries = rw (a, numbers-present (partAt 13 14 s rows sample)) (pre .entries .ad);
+      entries = rw (a, numbers-present 13 4 s rows sample) (pre .entries .ad);
       fits = rw row-called (pre .fits);
     }
 

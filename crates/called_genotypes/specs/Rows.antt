@@ -12,12 +12,12 @@ use Rattle.definitions.specs.Genotypes.{SampleData}
 use Rattle.definitions.specs.Lines.{line}
 use Rattle.definitions.specs.ListReader.{countsFit}
 use Rattle.definitions.specs.Lists.{allOf, filterBy, numbersFrom}
-use Rattle.definitions.specs.Numbers.{decimal, numberList}
+use Rattle.definitions.specs.Numbers.{decimal}
 use Rattle.definitions.specs.Printed.{printedValues}
 use Rattle.definitions.specs.Records.{Record}
 use Rattle.laws.proofs.Every.{Every, IfThere}
 use Rattle.sample_alleles.specs.Readings.{allelesIn}
-use Rattle.tables.specs.Tables.{codeOption, column, partAt, refAltsSpelled}
+use Rattle.tables.specs.Tables.{adAt, codeOption, column, plAt, refAltsSpelled}
 
 -- ---- a record in a table
 
@@ -27,8 +27,8 @@ rowData s rows sample = record {
   gt = none;
   gq = codeOption (column 5 rows sample);
   dp = codeOption (column 6 rows sample);
-  ad = numberList (partAt 13 14 s rows sample);
-  pl = numberList (partAt 15 16 s rows sample);
+  ad = adAt s rows sample;
+  pl = plAt s rows sample;
 }
 
 -- a sample's data but GT

@@ -16,6 +16,7 @@ use Rattle.definitions.specs.Alleles.{isBlock}
 use Rattle.definitions.specs.Bytes.{sameBytes}
 use Rattle.definitions.specs.Cohort.{Site}
 use Rattle.definitions.specs.Lists.{indexWhere, numbersFrom}
+use Rattle.definitions.specs.Numbers.{numberList}
 use Rattle.kv_text.specs.Fields.{between}
 use Rattle.laws.proofs.Bytes.{same-refl}
 use Rattle.laws.proofs.Members.{length-numbers, numbers-append}
@@ -24,8 +25,10 @@ use Rattle.site_groups.specs.SiteGroups.{siteFrom}
 use Rattle.site_groups.specs.declared.SiteAlleles.{SiteAlleles}
 use Rattle.site_groups.specs.declared.SitePlace.{SitePlace}
 use Rattle.site_groups.specs.declared.SiteValues.{SiteValues}
+use Rattle.tables.proofs.NumberLists.{in-text}
+use Rattle.tables.proofs.SameSites.{same-columns}
 use Rattle.tables.proofs.Stored.{drop-sets, get-before, get-here, map-same, one-more}
-use Rattle.tables.specs.Tables.{SiteRows, column, partAt, siteAt}
+use Rattle.tables.specs.Tables.{SiteRows, column, isStored, numbersAt, partAt, siteAt}
 use Rattle.cohort.proofs.Contigs.{names-length}
 use Rattle.cohort.specs.Cohort.{ContigsNumbered, contigNames, firstOn, rowOf, sitesIn}
 
@@ -56,45 +59,33 @@ module _ {A : Type 0} (p : A → Bool) where
 
 -- ---- a row
 
-module _ (rows row : List ℕ) (count : ℕ) (whole : length row ≡ 17) (room : count * 17 + 17 ≤ length rows) where
+module _ (rows row : List ℕ) (count : ℕ) (whole : length row ≡ 22) (room : count * 22 + 22 ≤ length rows) where
   abbrev stored : List ℕ
-  stored = sets rows (count * 17) row
+  stored = sets rows (count * 22) row
 
-  column-before : (k site : ℕ) → k < 17 → site < count → column k stored site ≡ column k rows site
+  column-before : (k site : ℕ) → k < 22 → site < count → column k stored site ≡ column k rows site
   unfolding column
-  column-before k site h b = get-before row rows (count * 17) (site * 17 + k) (omega arith)
+  column-before k site h b = get-before row rows (count * 22) (site * 22 + k) (omega arith)
 
-  column-here : (k : ℕ) → k < 17 → column k stored count ≡ getD row k 0
+  column-here : (k : ℕ) → k < 22 → column k stored count ≡ getD row k 0
   unfolding column
-  column-here k h = get-here row rows (count * 17) k (omega arith) (omega arith)
+  column-here k h = get-here row rows (count * 22) k (omega arith) (omega arith)
 
-  rest-kept : drop ((count + 1) * 17) stored ≡ drop ((count + 1) * 17) rows
-  rest-kept = drop-sets row rows (count * 17) ((count + 1) * 17) (omega arith)
+  rest-kept : drop ((count + 1) * 22) stored ≡ drop ((count + 1) * 22) rows
+  rest-kept = drop-sets row rows (count * 22) ((count + 1) * 22) (omega arith)
 
   -- behind the rows the table stays as it was
-  pub rest-more : (rows₀ : List ℕ) → drop (count * 17) rows ≡ drop (count * 17) rows₀ → drop ((count + 1) * 17) stored ≡ drop ((count + 1) * 17) rows₀
+  pub rest-more : (rows₀ : List ℕ) → drop (count * 22) rows ≡ drop (count * 22) rows₀ → drop ((count + 1) * 22) stored ≡ drop ((count + 1) * 22) rows₀
   rest-more rows₀ e =
-      let there : (count + 1) * 17 ≡ count * 17 + 17 = omega arith in
-      rest-kept ∙ rw there (sym (drop-drop 17 (count * 17) rows) ∙ ap (drop 17) e ∙ drop-drop 17 (count * 17) rows₀)
+      let there : (count + 1) * 22 ≡ count * 22 + 22 = omega arith in
+      rest-kept ∙ rw there (sym (drop-drop 22 (count * 22) rows) ∙ ap (drop 22) e ∙ drop-drop 22 (count * 22) rows₀)
 
-  part-before : (s : List ℕ) (from to site : ℕ) → from < 17 → to < 17 → site < count → partAt from to s stored site ≡ partAt from to s rows site
+  part-before : (s : List ℕ) (from to site : ℕ) → from < 22 → to < 22 → site < count → partAt from to s stored site ≡ partAt from to s rows site
   unfolding partAt
   part-before s from to site f t b = rw (column-before from site f b, column-before to site t b)
 
   site-before : (s : List ℕ) (site : ℕ) → site < count → siteAt s stored site ≡ siteAt s rows site
-  unfolding siteAt
-  site-before s site b = rw (
-    column-before 0 site (omega arith) b,
-    column-before 2 site (omega arith) b,
-    column-before 3 site (omega arith) b,
-    column-before 5 site (omega arith) b,
-    column-before 6 site (omega arith) b,
-    part-before s 7 8 site (omega arith) (omega arith) b,
-    part-before s 9 10 site (omega arith) (omega arith) b,
-    part-before s 11 12 site (omega arith) (omega arith) b,
-    part-before s 13 14 site (omega arith) (omega arith) b,
-    part-before s 15 16 site (omega arith) (omega arith) b,
-  )
+  site-before s site b = same-columns s rows stored site (λ k h. column-before k site h b)
 
 -- ---- a site more
 
@@ -123,19 +114,26 @@ numbered-rows s rows count n = record {
 }
 
 module _ (s rows : List ℕ) (count : ℕ) (p : SitePlace) (contig : ℕ) (a : SiteAlleles) (v : SiteValues) (block : Bool)
-    (room : count * 17 + 17 ≤ length rows) where
+    (room : count * 22 + 22 ≤ length rows) where
   abbrev row : List ℕ
   row = rowOf p contig a v block
 
   abbrev after : List ℕ
-  after = sets rows (count * 17) row
+  after = sets rows (count * 22) row
 
-  here : (k : ℕ) → k < 17 → column k after count ≡ getD row k 0
+  here : (k : ℕ) → k < 22 → column k after count ≡ getD row k 0
   here = column-here rows row count refl room
 
-  part-here : (from to : ℕ) → from < 17 → to < 17 → partAt from to s after count ≡ between s (getD row from 0) (getD row to 0)
+  part-here : (from to : ℕ) → from < 22 → to < 22 → partAt from to s after count ≡ between s (getD row from 0) (getD row to 0)
   unfolding partAt
   part-here from to f t = rw (here from f, here to t)
+
+  -- a list in the text
+  list-here : (k most : ℕ) → k + 2 < 22 → getD row k 0 ≡ 0
+      → numbersAt k most s after count ≡ numberList (between s (getD row (k + 1) 0) (getD row (k + 2) 0))
+  list-here k most h none-stored =
+      in-text k most s after count (rw (here k (omega arith), none-stored) (unfold isStored in refl))
+      ∙ rw (part-here (k + 1) (k + 2) (omega arith) h)
 
   site-here : siteAt s after count ≡ siteFrom s p a v
   unfolding siteAt
@@ -148,8 +146,8 @@ module _ (s rows : List ℕ) (count : ℕ) (p : SitePlace) (contig : ℕ) (a : S
     part-here 7 8 (omega arith) (omega arith),
     part-here 9 10 (omega arith) (omega arith),
     part-here 11 12 (omega arith) (omega arith),
-    part-here 13 14 (omega arith) (omega arith),
-    part-here 15 16 (omega arith) (omega arith),
+    list-here 13 4 (omega arith) refl,
+    list-here 16 10 (omega arith) refl,
   )
 
   pub sites-more : sitesIn s after (count + 1) ≡ sitesIn s rows count ++ (siteFrom s p a v ∷ [])

@@ -38,8 +38,8 @@ module _ (samples : ℕ) (s : List ℕ) (at₀ : ℕ) (rows₀ : List ℕ) where
     pub long : length rows ≡ length rows₀
     pub numbered : Numbered s rows count
     pub few : count ≤ 4096
-    pub room : count * 17 ≤ length rows₀
-    pub rest : drop (count * 17) rows ≡ drop (count * 17) rows₀
+    pub room : count * 22 ≤ length rows₀
+    pub rest : drop (count * 22) rows ≡ drop (count * 22) rows₀
     pub whole : (names : List (List ℕ)) → samples ≡ length names → left names s (sitesIn s rows count) next ≡ sitesFrom names s at₀
 
   pub reading-start : Reading rows₀ at₀ 0
@@ -68,15 +68,15 @@ module _ (samples : ℕ) (s : List ℕ) (at₀ : ℕ) (rows₀ : List ℕ) where
         (group-refused 10 (omega arith) (siteOf names) (reverse (sitesIn s rows count)) s next row more (same-group rows next count names n ∙ e))
         ∙ continued-refused (reverse (sitesIn s rows count)) row
 
-    pub no-row : {x : Site} → siteGroupOf s next samples count ≡ accepted x → length rows < count * 17 + 17
+    pub no-row : {x : Site} → siteGroupOf s next samples count ≡ accepted x → length rows < count * 22 + 22
         → SitesRead samples s at₀ rows₀ rows sites.NoRoom
     unfolding SitesRead
     no-row e short = omega (arith, few-before s next samples count e, inv .long)
 
     module _ (p : SitePlace) (a : SiteAlleles) (v : SiteValues) (block : Bool) (to : SiteTo s next samples count p a v block)
         (contig : ℕ) (first : contig ≡ firstOn s rows count (between s (p .contig .at) (p .contig .end)))
-        (fits : count * 17 + 17 ≤ length rows) where
-      pub site-read : (after : List ℕ) → length after ≡ length rows → after ≡ sets rows (count * 17) (rowOf p contig a v block)
+        (fits : count * 22 + 22 ≤ length rows) where
+      pub site-read : (after : List ℕ) → length after ≡ length rows → after ≡ sets rows (count * 22) (rowOf p contig a v block)
           → Reading after (v .next) (count + 1)
       unfolding siteLines
       site-read after same e = record {

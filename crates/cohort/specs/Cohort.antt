@@ -25,12 +25,12 @@ use Rattle.cohort.specs.declared.SitesAt.the-variants as sites
 
 -- ---- a row
 
--- the numbers of a site's row, in the order of the table's columns
+-- the numbers of a site's row, in the order of the table's columns; AD and PL stand in the text
 abbrev pub rowOf : SitePlace → ℕ → SiteAlleles → SiteValues → Bool → List ℕ
 rowOf p contig a v block =
     p .sample ∷ contig ∷ p .start ∷ p .end ∷ cond block 1 0 ∷ v .gq ∷ v .dp
     ∷ p .contig .at ∷ p .contig .end ∷ a .refs .at ∷ a .refs .end ∷ a .alts .at ∷ a .alts .end
-    ∷ v .ad .at ∷ v .ad .end ∷ v .pl .at ∷ v .pl .end ∷ []
+    ∷ 0 ∷ v .ad .at ∷ v .ad .end ∷ 0 ∷ v .pl .at ∷ v .pl .end ∷ 0 ∷ 0 ∷ 0 ∷ []
 
 -- ---- contigs
 

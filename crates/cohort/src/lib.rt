@@ -22,7 +22,7 @@ fn flag(b: bool) -> usize
     if b { 1 } else { 0 }
 }
 
-// Stores a site's row.
+// Stores a site's row; where the text has AD and PL, not their numbers.
 pub fn put_site(
     rows: &mut [usize],
     site: usize,
@@ -32,8 +32,8 @@ pub fn put_site(
     values: SiteValues,
     block: bool,
 )
-    requires { ⌜ site * 17 + 17 ≤ length (now rows) ⌝ }
-    ensures { λ _. ⌜ now (rows .exit) ≡ sets (now (rows .entry)) (site * 17) (rowOf place contig alleles values block) ⌝ }
+    requires { ⌜ site * 22 + 22 ≤ length (now rows) ⌝ }
+    ensures { λ _. ⌜ now (rows .exit) ≡ sets (now (rows .entry)) (site * 22) (rowOf place contig alleles values block) ⌝ }
 {
     let row = [
         place.sample as usize,
@@ -49,12 +49,17 @@ pub fn put_site(
         alleles.refs.end,
         alleles.alts.at,
         alleles.alts.end,
+        0,
         values.ad.at,
         values.ad.end,
+        0,
         values.pl.at,
         values.pl.end,
+        0,
+        0,
+        0,
     ];
-    tables::store_row(rows, site * 17, &row);
+    tables::store_row(rows, site * 22, &row);
 }
 
 // Whether a site is the first on its contig, and that contig has this name.
@@ -101,7 +106,7 @@ fn read_sites(s: &[u8], at: usize, samples: usize, rows: &mut [usize]) -> SitesA
                 return SitesAt::Refused(row);
             }
             SiteAt::Site(place, alleles, values, block) => {
-                if rows.len() < count * 17 + 17 {
+                if rows.len() < count * 22 + 22 {
                     return SitesAt::NoRoom;
                 }
                 let name = tables::part(s, place.contig.at, place.contig.end);
@@ -153,7 +158,7 @@ fn clear_tables(names: &mut [usize], rows: &mut [usize])
     tables::clear(rows);
 }
 
-// Reads cohort.kv, rows 1 to 8, into the two tables: 128 numbers for names, two each, and 17 numbers for each site, 4,096 at most. If a
+// Reads cohort.kv, rows 1 to 8, into the two tables: 128 numbers for names, two each, and 22 numbers for each site, 4,096 at most. If a
 // table is too short, or a row refuses the text, both are cleared.
 pub fn read_cohort(s: &[u8], names: &mut [usize], rows: &mut [usize]) -> CohortRead
     ensures { λ r. ⌜ CohortAt (now (s .entry)) (now (names .entry)) (now (names .exit)) (now (rows .entry)) (now (rows .exit)) r ⌝ }

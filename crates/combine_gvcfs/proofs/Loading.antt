@@ -181,7 +181,7 @@ still-whole rows rows′ e w = ⊎-elim (λ h. inl (omega arith)) (λ h. inr (om
 module _ {s names rows : List ℕ} {samples sites : ℕ} {clipped : Bool} {clip : List ℕ} {referenced : Bool} {reference : List ℕ}
     (held : CohortHeld s names rows samples sites clipped clip referenced reference) {rows₁ rows₂ : List ℕ}
     (first : SegmentsOnly rows rows₁) (second : SpansOnly rows₁ rows₂) where
-  same-numbers : (j : ℕ) → j < 69632 → getD rows₂ j 0 ≡ getD rows j 0
+  same-numbers : (j : ℕ) → j < 90112 → getD rows₂ j 0 ≡ getD rows j 0
   same-numbers j h = second .sites-segments j (omega arith) ∙ first .sites j h
 
   -- the tables still hold the cohort
@@ -298,7 +298,7 @@ module _ {s names rows : List ℕ} {samples sites : ℕ} {clipped : Bool} {clip 
 
 -- lists for so many sites, and a table that has no more rows
 pub tables-fit : {names rows order firsts chosen : List ℕ} (places : ℕ) → length names ≡ 2 * maxSamples → length order ≡ places → length firsts ≡ places
-    → length chosen ≡ places → TableWhole rows → ((sites : ℕ) → sites ≤ maxSites → sites * 17 ≤ length rows → sites ≤ places)
+    → length chosen ≡ places → TableWhole rows → ((sites : ℕ) → sites ≤ maxSites → sites * 22 ≤ length rows → sites ≤ places)
     → TablesFit names rows order firsts chosen
 tables-fit places n o f c whole few = record {
   for-names = omega arith;
@@ -307,7 +307,7 @@ tables-fit places n o f c whole few = record {
 }
 
 -- a table for 256 sites
-pub short-fit : {names rows order firsts chosen : List ℕ} → length names ≡ 2 * maxSamples → length rows ≡ 4352 → length order ≡ 256 → length firsts ≡ 256
+pub short-fit : {names rows order firsts chosen : List ℕ} → length names ≡ 2 * maxSamples → length rows ≡ 5632 → length order ≡ 256 → length firsts ≡ 256
     → length chosen ≡ 256 → TablesFit names rows order firsts chosen
 short-fit n r o f c = tables-fit 256 n o f c (inr (omega arith)) (λ sites h k. omega arith)
 
@@ -317,11 +317,11 @@ pub long-fit : {names rows order firsts chosen : List ℕ} → length names ≡ 
 long-fit n r o f c = tables-fit 4096 n o f c (inl (omega arith)) (λ sites h k. h)
 
 -- a table with room for the names has none for the rows
-pub rows-short : {names₀ names rows₀ rows : List ℕ} → 2 * maxSamples ≤ length names₀ → CohortUnread names₀ names rows₀ rows → length rows₀ < maxSites * 17
+pub rows-short : {names₀ names rows₀ rows : List ℕ} → 2 * maxSamples ≤ length names₀ → CohortUnread names₀ names rows₀ rows → length rows₀ < maxSites * 22
 rows-short e u = ⊎-elim (λ h. absurd (omega arith)) (λ h. h) (u .no-room)
 
 -- the table for all has rows for all sites
-pub full-table : {R : Type 0} (places : ℕ) → places ≡ tableLength → places < maxSites * 17 → R
+pub full-table : {R : Type 0} (places : ℕ) → places ≡ tableLength → places < maxSites * 22 → R
 full-table places e h = absurd (omega arith)
 
 -- the other tables are tried with the same output

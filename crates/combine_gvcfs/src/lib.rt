@@ -505,10 +505,10 @@ fn combine_short<'a>(
     out: &mut [u8],
 ) -> Tried
     requires { ⌜ TextsFit (now cohort) clipped (now clip) referenced (now reference) ⌝ }
-    ensures { λ r. ⌜ TriedWith (textsOf (now (cohort .entry)) clipped (now (clip .entry)) referenced (now (reference .entry))) (length (now (scratch .entry))) (now (out .entry)) (now (out .exit)) 4352 r ⌝ }
+    ensures { λ r. ⌜ TriedWith (textsOf (now (cohort .entry)) clipped (now (clip .entry)) referenced (now (reference .entry))) (length (now (scratch .entry))) (now (out .entry)) (now (out .exit)) 5632 r ⌝ }
 {
     let mut names = [0usize; 128];
-    let mut rows = [0usize; 4352];
+    let mut rows = [0usize; 5632];
     let mut order = [0usize; 256];
     let mut firsts = [0usize; 256];
     let mut chosen = [0usize; 256];
@@ -542,7 +542,7 @@ fn combine_long<'a>(
     ensures { λ r. ⌜ TextsAnswered (textsOf (now (cohort .entry)) clipped (now (clip .entry)) referenced (now (reference .entry))) (length (now (scratch .entry))) (now (out .entry)) (now (out .exit)) r ⌝ }
 {
     let mut names = [0usize; 128];
-    let mut rows = [0usize; 78852];
+    let mut rows = [0usize; 99332];
     let mut order = [0usize; 4096];
     let mut firsts = [0usize; 4096];
     let mut chosen = [0usize; 4096];

@@ -204,7 +204,7 @@ fn call_records(
     requires { ⌜ HeaderNames (now s) (now names) samples ⌝ }
     ensures { λ r. ⌜ Answered (calledFrom (now (s .entry)) (now (names .entry)) samples records at (length (now (out .entry)))) (now (out .entry)) (now (out .exit)) r ⌝ }
 {
-    let mut rows = [0usize; 1088];
+    let mut rows = [0usize; 1408];
     let measured = walk_records(s, at, samples, records, &mut rows, &mut out[..0], 0);
     match measured {
         Walked::Refused(row) => Outcome::Refused(row),

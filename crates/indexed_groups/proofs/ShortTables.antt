@@ -17,7 +17,7 @@ none-indexed read s rowAt = record { few = omega arith; split = λ groups from. 
 
 module _ (s rows : List ℕ) (short : length rows ≤ countsAt) where
   pub no-segment-rows : SegmentsIndexed s rows
-  no-segment-rows = rw (getD-past rows 78848 (omega arith), getD-past rows 78850 (omega arith)) (none-indexed _ s _)
+  no-segment-rows = rw (getD-past rows 99328 (omega arith), getD-past rows 99330 (omega arith)) (none-indexed _ s _)
 
   pub no-span-rows : SpansIndexed s rows
-  no-span-rows = rw (getD-past rows 78849 (omega arith), getD-past rows 78851 (omega arith)) (none-indexed _ s _)
+  no-span-rows = rw (getD-past rows 99329 (omega arith), getD-past rows 99331 (omega arith)) (none-indexed _ s _)

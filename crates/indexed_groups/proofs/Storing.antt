@@ -76,28 +76,28 @@ module _ (rows row : List ℕ) (at : ℕ) (room : at + length row ≤ length row
     behind = λ j b. get-behind row rows at j (omega arith);
   }
 
-module _ (reference rows : List ℕ) (count contigAt contigEnd first basesAt basesEnd : ℕ) (few : count < 1024) (room : 78852 ≤ length rows) where
+module _ (reference rows : List ℕ) (count contigAt contigEnd first basesAt basesEnd : ℕ) (few : count < 1024) (room : 99332 ≤ length rows) where
   abbrev row₅ : List ℕ
   row₅ = contigAt ∷ contigEnd ∷ first ∷ basesAt ∷ basesEnd ∷ []
 
   abbrev after₅ : List ℕ
-  after₅ = sets rows (69632 + count * 5) row₅
+  after₅ = sets rows (90112 + count * 5) row₅
 
   segment-before : (k segment : ℕ) → k < 5 → segment < count → segmentColumn k rows segment ≡ segmentColumn k after₅ segment
   unfolding segmentColumn
-  segment-before k segment h b = sym (get-before row₅ rows (69632 + count * 5) (69632 + segment * 5 + k) (omega arith))
+  segment-before k segment h b = sym (get-before row₅ rows (90112 + count * 5) (90112 + segment * 5 + k) (omega arith))
 
   segment-here : (k : ℕ) → k < 5 → segmentColumn k after₅ count ≡ getD row₅ k 0
   unfolding segmentColumn
-  segment-here k h = get-here row₅ rows (69632 + count * 5) k (omega arith) (omega arith)
+  segment-here k h = get-here row₅ rows (90112 + count * 5) k (omega arith) (omega arith)
 
   pub segment-stored : {rows₀ : List ℕ} {at next : ℕ} → SegmentsStored reference rows₀ rows count at
       → GroupTo reference at segmentOf (record { contig = between reference contigAt contigEnd; first = first; bases = between reference basesAt basesEnd }) next
       → SegmentsStored reference rows₀ after₅ (count + 1) next
   unfolding segmentAt
   segment-stored inv to =
-      stored-more segmentOf reference (segmentAt reference) 69632 74752 inv few to
-      (only-row rows row₅ (69632 + count * 5) (omega arith) 69632 74752 (omega arith) (omega arith))
+      stored-more segmentOf reference (segmentAt reference) 90112 95232 inv few to
+      (only-row rows row₅ (90112 + count * 5) (omega arith) 90112 95232 (omega arith) (omega arith))
       (λ i h. rw (
         segment-before 0 i (omega arith) h,
         segment-before 1 i (omega arith) h,
@@ -113,28 +113,28 @@ module _ (reference rows : List ℕ) (count contigAt contigEnd first basesAt bas
         segment-here 4 (omega arith),
       ))
 
-module _ (clip rows : List ℕ) (count contigAt contigEnd start end : ℕ) (few : count < 1024) (room : 78852 ≤ length rows) where
+module _ (clip rows : List ℕ) (count contigAt contigEnd start end : ℕ) (few : count < 1024) (room : 99332 ≤ length rows) where
   abbrev row₄ : List ℕ
   row₄ = contigAt ∷ contigEnd ∷ start ∷ end ∷ []
 
   abbrev after₄ : List ℕ
-  after₄ = sets rows (74752 + count * 4) row₄
+  after₄ = sets rows (95232 + count * 4) row₄
 
   span-before : (k span : ℕ) → k < 4 → span < count → spanColumn k rows span ≡ spanColumn k after₄ span
   unfolding spanColumn
-  span-before k span h b = sym (get-before row₄ rows (74752 + count * 4) (74752 + span * 4 + k) (omega arith))
+  span-before k span h b = sym (get-before row₄ rows (95232 + count * 4) (95232 + span * 4 + k) (omega arith))
 
   span-here : (k : ℕ) → k < 4 → spanColumn k after₄ count ≡ getD row₄ k 0
   unfolding spanColumn
-  span-here k h = get-here row₄ rows (74752 + count * 4) k (omega arith) (omega arith)
+  span-here k h = get-here row₄ rows (95232 + count * 4) k (omega arith) (omega arith)
 
   pub span-stored : {rows₀ : List ℕ} {at next : ℕ} → SpansStored clip rows₀ rows count at
       → GroupTo clip at spanOf (record { contig = between clip contigAt contigEnd; start = start; end = end }) next
       → SpansStored clip rows₀ after₄ (count + 1) next
   unfolding spanAt
   span-stored inv to =
-      stored-more spanOf clip (spanAt clip) 74752 78848 inv few to
-      (only-row rows row₄ (74752 + count * 4) (omega arith) 74752 78848 (omega arith) (omega arith))
+      stored-more spanOf clip (spanAt clip) 95232 99328 inv few to
+      (only-row rows row₄ (95232 + count * 4) (omega arith) 95232 99328 (omega arith) (omega arith))
       (λ i h. rw (
         span-before 0 i (omega arith) h,
         span-before 1 i (omega arith) h,
@@ -152,26 +152,26 @@ module _ (clip rows : List ℕ) (count contigAt contigEnd start end : ℕ) (few 
 
 module _ (rows after : List ℕ) where
   -- segments see no number from the spans' on but their own two
-  pub same-segments : (reference : List ℕ) (count : ℕ) → count ≤ 1024 → ((j : ℕ) → j < 74752 → getD after j 0 ≡ getD rows j 0)
+  pub same-segments : (reference : List ℕ) (count : ℕ) → count ≤ 1024 → ((j : ℕ) → j < 95232 → getD after j 0 ≡ getD rows j 0)
       → (i : ℕ) → i < count → segmentAt reference rows i ≡ segmentAt reference after i
   unfolding segmentAt segmentColumn
   same-segments reference count few same i h = rw (
-    same (69632 + i * 5 + 0) (omega arith),
-    same (69632 + i * 5 + 1) (omega arith),
-    same (69632 + i * 5 + 2) (omega arith),
-    same (69632 + i * 5 + 3) (omega arith),
-    same (69632 + i * 5 + 4) (omega arith),
+    same (90112 + i * 5 + 0) (omega arith),
+    same (90112 + i * 5 + 1) (omega arith),
+    same (90112 + i * 5 + 2) (omega arith),
+    same (90112 + i * 5 + 3) (omega arith),
+    same (90112 + i * 5 + 4) (omega arith),
   )
 
   pub same-spans : (clip : List ℕ) (count : ℕ) → count ≤ 1024
-      → ((j : ℕ) → 74752 ≤ j → j < 78848 → getD after j 0 ≡ getD rows j 0)
+      → ((j : ℕ) → 95232 ≤ j → j < 99328 → getD after j 0 ≡ getD rows j 0)
       → (i : ℕ) → i < count → spanAt clip rows i ≡ spanAt clip after i
   unfolding spanAt spanColumn
   same-spans clip count few same i h = rw (
-    same (74752 + i * 4 + 0) (omega arith) (omega arith),
-    same (74752 + i * 4 + 1) (omega arith) (omega arith),
-    same (74752 + i * 4 + 2) (omega arith) (omega arith),
-    same (74752 + i * 4 + 3) (omega arith) (omega arith),
+    same (95232 + i * 4 + 0) (omega arith) (omega arith),
+    same (95232 + i * 4 + 1) (omega arith) (omega arith),
+    same (95232 + i * 4 + 2) (omega arith) (omega arith),
+    same (95232 + i * 4 + 3) (omega arith) (omega arith),
   )
 
 -- rows for spans leave the segments indexed
@@ -200,41 +200,41 @@ module _ (rows : List ℕ) (p q a b : ℕ) (apart : p < q) (room : q < length ro
   same-long = length-set (set rows p a) q b ∙ length-set rows p a
 
 module _ {rows₀ rows : List ℕ} {count next : ℕ} where
-  module _ {reference : List ℕ} (x : SegmentsStored reference rows₀ rows count next) (room : 78852 ≤ length rows) where
-    segments-other : (j : ℕ) → (j ≡ 78848 → ⊥) → (j ≡ 78850 → ⊥) → getD (set (set rows 78848 count) 78850 next) j 0 ≡ getD rows j 0
-    segments-other = other rows 78848 78850 count next (omega arith) (omega arith)
+  module _ {reference : List ℕ} (x : SegmentsStored reference rows₀ rows count next) (room : 99332 ≤ length rows) where
+    segments-other : (j : ℕ) → (j ≡ 99328 → ⊥) → (j ≡ 99330 → ⊥) → getD (set (set rows 99328 count) 99330 next) j 0 ≡ getD rows j 0
+    segments-other = other rows 99328 99330 count next (omega arith) (omega arith)
 
-    pub segments-only : SegmentsOnly rows₀ (set (set rows 78848 count) 78850 next)
+    pub segments-only : SegmentsOnly rows₀ (set (set rows 99328 count) 99330 next)
     segments-only = record {
-      long = same-long rows 78848 78850 count next (omega arith) (omega arith) ∙ x .only .long;
+      long = same-long rows 99328 99330 count next (omega arith) (omega arith) ∙ x .only .long;
       sites = λ j h. segments-other j (λ e. absurd (omega arith)) (λ e. absurd (omega arith)) ∙ x .only .before j h;
       spans = λ j h k. segments-other j (λ e. absurd (omega arith)) (λ e. absurd (omega arith)) ∙ x .only .behind j h;
-      span-count = segments-other 78849 (λ e. absurd (omega arith)) (λ e. absurd (omega arith)) ∙ x .only .behind 78849 (omega arith);
-      spans-next = segments-other 78851 (λ e. absurd (omega arith)) (λ e. absurd (omega arith)) ∙ x .only .behind 78851 (omega arith);
+      span-count = segments-other 99329 (λ e. absurd (omega arith)) (λ e. absurd (omega arith)) ∙ x .only .behind 99329 (omega arith);
+      spans-next = segments-other 99331 (λ e. absurd (omega arith)) (λ e. absurd (omega arith)) ∙ x .only .behind 99331 (omega arith);
     }
 
-    pub segments-indexed : SegmentsIndexed reference (set (set rows 78848 count) 78850 next)
+    pub segments-indexed : SegmentsIndexed reference (set (set rows 99328 count) 99330 next)
     segments-indexed =
-        rw (first-of rows 78848 78850 count next (omega arith) (omega arith), second-of rows 78848 78850 count next (omega arith) (omega arith))
-        (indexed-same (same-segments rows (set (set rows 78848 count) 78850 next) reference count (x .indexed .few)
+        rw (first-of rows 99328 99330 count next (omega arith) (omega arith), second-of rows 99328 99330 count next (omega arith) (omega arith))
+        (indexed-same (same-segments rows (set (set rows 99328 count) 99330 next) reference count (x .indexed .few)
         (λ j h. segments-other j (λ e. absurd (omega arith)) (λ e. absurd (omega arith)))) (x .indexed))
 
-  module _ {clip : List ℕ} (x : SpansStored clip rows₀ rows count next) (room : 78852 ≤ length rows) where
-    spans-other : (j : ℕ) → (j ≡ 78849 → ⊥) → (j ≡ 78851 → ⊥) → getD (set (set rows 78849 count) 78851 next) j 0 ≡ getD rows j 0
-    spans-other = other rows 78849 78851 count next (omega arith) (omega arith)
+  module _ {clip : List ℕ} (x : SpansStored clip rows₀ rows count next) (room : 99332 ≤ length rows) where
+    spans-other : (j : ℕ) → (j ≡ 99329 → ⊥) → (j ≡ 99331 → ⊥) → getD (set (set rows 99329 count) 99331 next) j 0 ≡ getD rows j 0
+    spans-other = other rows 99329 99331 count next (omega arith) (omega arith)
 
-    pub spans-only : SpansOnly rows₀ (set (set rows 78849 count) 78851 next)
+    pub spans-only : SpansOnly rows₀ (set (set rows 99329 count) 99331 next)
     spans-only = record {
-      long = same-long rows 78849 78851 count next (omega arith) (omega arith) ∙ x .only .long;
+      long = same-long rows 99329 99331 count next (omega arith) (omega arith) ∙ x .only .long;
       sites-segments = λ j h. spans-other j (λ e. absurd (omega arith)) (λ e. absurd (omega arith)) ∙ x .only .before j h;
-      segment-count = spans-other 78848 (λ e. absurd (omega arith)) (λ e. absurd (omega arith)) ∙ x .only .behind 78848 (omega arith);
-      segments-next = spans-other 78850 (λ e. absurd (omega arith)) (λ e. absurd (omega arith)) ∙ x .only .behind 78850 (omega arith);
+      segment-count = spans-other 99328 (λ e. absurd (omega arith)) (λ e. absurd (omega arith)) ∙ x .only .behind 99328 (omega arith);
+      segments-next = spans-other 99330 (λ e. absurd (omega arith)) (λ e. absurd (omega arith)) ∙ x .only .behind 99330 (omega arith);
     }
 
-    pub spans-indexed : SpansIndexed clip (set (set rows 78849 count) 78851 next)
+    pub spans-indexed : SpansIndexed clip (set (set rows 99329 count) 99331 next)
     spans-indexed =
-        rw (first-of rows 78849 78851 count next (omega arith) (omega arith), second-of rows 78849 78851 count next (omega arith) (omega arith))
-        (indexed-same (same-spans rows (set (set rows 78849 count) 78851 next) clip count (x .indexed .few)
+        rw (first-of rows 99329 99331 count next (omega arith) (omega arith), second-of rows 99329 99331 count next (omega arith) (omega arith))
+        (indexed-same (same-spans rows (set (set rows 99329 count) 99331 next) clip count (x .indexed .few)
         (λ j h k. spans-other j (λ e. absurd (omega arith)) (λ e. absurd (omega arith)))) (x .indexed))
 
 pub segments-unchanged : (rows : List ℕ) → SegmentsOnly rows rows

@@ -35,7 +35,7 @@ fn store_segments(reference: &[u8], rows: &mut [usize]) -> Stored
             return Stored { count, next: at };
         };
         let row = [contig_at, contig_end, first as usize, bases_at, bases_end];
-        tables::store_row(rows, 69632 + count * 5, &row);
+        tables::store_row(rows, 90112 + count * 5, &row);
         count += 1;
         at = next;
     }
@@ -47,12 +47,12 @@ pub fn index_segments(reference: &[u8], rows: &mut [usize])
     ensures others { λ _. ⌜ SegmentsOnly (now (rows .entry)) (now (rows .exit)) ⌝ }
     ensures indexed { λ _. ⌜ (tableLength ≤ length (now (rows .entry)) → SegmentsIndexed (now (reference .entry)) (now (rows .exit))) ⌝ }
 {
-    if rows.len() < 78852 {
+    if rows.len() < 99332 {
         return;
     }
     let stored = store_segments(reference, rows);
-    rows[78848] = stored.count;
-    rows[78850] = stored.next;
+    rows[99328] = stored.count;
+    rows[99330] = stored.next;
 }
 
 // ---- clip.kv
@@ -77,7 +77,7 @@ fn store_spans(clip: &[u8], rows: &mut [usize]) -> Stored
             return Stored { count, next: at };
         };
         let row = [contig_at, contig_end, start as usize, end as usize];
-        tables::store_row(rows, 74752 + count * 4, &row);
+        tables::store_row(rows, 95232 + count * 4, &row);
         count += 1;
         at = next;
     }
@@ -89,10 +89,10 @@ pub fn index_spans(clip: &[u8], rows: &mut [usize])
     ensures others { λ _. ⌜ SpansOnly (now (rows .entry)) (now (rows .exit)) ⌝ }
     ensures indexed { λ _. ⌜ (tableLength ≤ length (now (rows .entry)) → SpansIndexed (now (clip .entry)) (now (rows .exit))) ⌝ }
 {
-    if rows.len() < 78852 {
+    if rows.len() < 99332 {
         return;
     }
     let stored = store_spans(clip, rows);
-    rows[78849] = stored.count;
-    rows[78851] = stored.next;
+    rows[99329] = stored.count;
+    rows[99331] = stored.next;
 }

@@ -154,7 +154,7 @@ module _ (s : List ℕ) (at samples : ℕ) (rows₀ : List ℕ) (h : RecordHead)
     pub sampleData : List SampleData
     pub whole : inOrder (map sampleRead (numbersFrom 0 samples)) ≡ After sampleRead sampleData i (samples - i)
     pub table : map withoutGt sampleData ≡ map siteSample (sitesIn s rows i)
-    pub rest : drop (i * 17) rows ≡ drop (i * 17) rows₀
+    pub rest : drop (i * 22) rows ≡ drop (i * 22) rows₀
     pub some-pl : has-pl ≡ anyOf (λ (v : SampleData). isThere (v .pl)) sampleData
     pub right : fit ≡ allOf (rightCounts s (h .alleles)) sampleData
     pub long : length rows ≡ length rows₀
@@ -191,16 +191,16 @@ module _ (s : List ℕ) (at samples : ℕ) (rows₀ : List ℕ) (h : RecordHead)
           unless-1 _ _ (then _ _ (l .contig) (then _ _ (l .pos) (then _ _ (l .end) (then _ _ (l .ref) (then _ _ (l .alt) (then-refused _ _
           (inv .whole ∙ rw one-less (after-refused sampleRead (inv .sampleData) i (samples - (i + 1)) (rw count at (w at samples i more (inv .behind)))))))))))
 
-      module _ (v : SiteValues) (to : SampleTo s next alts v) (room : samples * 17 ≤ length rows₀) where
+      module _ (v : SiteValues) (to : SampleTo s next alts v) (room : samples * 22 ≤ length rows₀) where
         read : sampleRead i ≡ accepted (sampleFrom s (to .gt) v)
         read = rw count at (to .lines at samples i more (inv .behind) .value)
 
-        pub sample-next : (after : List ℕ) → length after ≡ length rows → after ≡ sets rows (i * 17) (rowOf (placeOf h) 0 (h .alleles) v false)
+        pub sample-next : (after : List ℕ) → length after ≡ length rows → after ≡ sets rows (i * 22) (rowOf (placeOf h) 0 (h .alleles) v false)
             → (has′ fit′ : Bool) → has′ ≡ (has-pl || ltb 0 (v .pl .count)) → fit′ ≡ (fit && countsBy alts v)
             → Reading after (v .next) has′ fit′ (i + 1)
         unfolding withoutGt
         sample-next after same e has′ fit′ e₁ e₂ =
-            let fits : i * 17 + 17 ≤ length rows = omega (arith, inv .long) in
+            let fits : i * 22 + 22 ≤ length rows = omega (arith, inv .long) in
             record {
               sampleData = inv .sampleData ++ (sampleFrom s (to .gt) v ∷ []);
               whole =

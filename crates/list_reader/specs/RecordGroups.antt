@@ -15,14 +15,14 @@ use Rattle.definitions.specs.Limits.{maxAlleles}
 use Rattle.definitions.specs.Lines.{Line, keyOf, lineAt, linesOf}
 use Rattle.definitions.specs.ListReader.{countsFit, gtOf, recordLines, recordRead, sampleDataRead, sampleLines}
 use Rattle.definitions.specs.Lists.{allOf, anyOf, byOrder, isThere, numbersFrom}
-use Rattle.definitions.specs.Numbers.{name, number, numberList, orMissing}
+use Rattle.definitions.specs.Numbers.{name, number, orMissing}
 use Rattle.definitions.specs.Records.{Record, recordEnd}
 use Rattle.kv_text.specs.Lines.{Behind, LineReads, readTo, unread}
 use Rattle.site_groups.specs.SiteGroups.{Counted, bytesOf, numbersOf}
 use Rattle.site_groups.specs.declared.Part.{Part}
 use Rattle.site_groups.specs.declared.SiteAlleles.{SiteAlleles}
 use Rattle.site_groups.specs.declared.SiteValues.{SiteValues}
-use Rattle.tables.specs.Tables.{codeOption, column, partAt, refAltsSpelled, rowLength}
+use Rattle.tables.specs.Tables.{adAt, codeOption, column, plAt, refAltsSpelled, rowLength}
 use Rattle.list_reader.specs.declared.GtAt.{GtAt}
 use Rattle.list_reader.specs.declared.GtAt.the-variants as gt
 use Rattle.list_reader.specs.declared.HeadAt.{HeadAt}
@@ -60,8 +60,8 @@ sampleAt s rows i = record {
   gt = none;
   gq = codeOption (column 5 rows i);
   dp = codeOption (column 6 rows i);
-  ad = numberList (partAt 13 14 s rows i);
-  pl = numberList (partAt 15 16 s rows i);
+  ad = adAt s rows i;
+  pl = plAt s rows i;
 }
 
 -- a GT that reads in a record with so many ALTs

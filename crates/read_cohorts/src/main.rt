@@ -139,7 +139,7 @@ fn main() {
     let mut input = [0u8; 131072];
     let mut text = [0u8; 300000];
     let mut names = [0usize; 128];
-    let mut rows = [0usize; 69632];
+    let mut rows = [0usize; 90112];
     let count = io::read_full(0, &mut input);
     run_cases(
         tables::part(&input, 0, count),

@@ -2,6 +2,7 @@
 use Prim.Native.Nat.{_*_, _+_, _≤_, suc, ℕ}
 use lib.ListN.{length, length-map, take}
 use lib.Seq.{sets}
+use mathlib.Core.Bool.{Bool, false, true}
 use mathlib.Core.List.{List, [], _∷_, map}
 use mathlib.Core.Option.{Option, Option·getD, none, some}
 use mathlib.Core.Path.{_∙_, _≡_, ap, refl, sym}
@@ -25,14 +26,15 @@ use Rattle.laws.proofs.SoundInput.{SoundSite}
 use Rattle.laws.proofs.SoundValues.{Numbers, numbers-sound}
 use Rattle.sample_alleles.proofs.Readings.{few-alleles}
 use Rattle.sample_alleles.specs.Readings.{allelesIn}
-use Rattle.tables.specs.Tables.{alleleSpelled, codeOption, column, partAt, refAltsSpelled, siteAt}
+use Rattle.tables.proofs.NumberLists.{first-in-row, first-in-text, in-row, in-text, stored-length, stored-some}
+use Rattle.tables.specs.Tables.{adAt, alleleSpelled, codeOption, column, firstNumbersAt, isStored, numbersAt, partAt, plAt, refAltsSpelled, siteAt, storedNumbers}
 use Rattle.record_lines.specs.Samples.{SitePrintable}
 
 -- ---- numbers of a list
 
 -- the numbers of a list, none if it is missing
-abbrev pub numbersOf : List ℕ → List ℕ
-numbersOf list = Option·getD (numberList list) []
+abbrev pub numbersOf : Option (List ℕ) → List ℕ
+numbersOf list = Option·getD list []
 
 -- they are the first numbers of its fields
 first-all : (fs : List (List ℕ)) → IfThere (λ ns. firstNumbers fs ≡ ns) (allNumbers fs)
@@ -50,14 +52,31 @@ first-numbers : (list : List ℕ) → IfThere (λ ns. firstNumbers (fieldsOf com
 unfolding numberList
 first-numbers list = first-all (fieldsOf comma list)
 
--- an empty slice stands for a missing list
-pub numbers-present : (list : List ℕ) → present (numbersOf list) ≡ numberList list
-unfolding onlyIf
-numbers-present list = go (numberList list) (numbers-sound list)
-  where
-    go : (o : Option (List ℕ)) → ((ns : List ℕ) → o ≡ some ns → Numbers ns) → present (Option·getD o []) ≡ o
-    go none h = refl
-    go (some ns) h = present-some ns (h ns refl .some-number)
+module _ (k most : ℕ) (s rows : List ℕ) (site : ℕ) where
+  -- what is read first is the list, wherever it stands
+  pub first-read : IfThere (λ ns. firstNumbersAt k most s rows site ≡ ns) (numbersAt k most s rows site)
+  first-read = go (isStored most (column k rows site)) refl
+    where
+      go : (b : Bool) → isStored most (column k rows site) ≡ b → IfThere (λ ns. firstNumbersAt k most s rows site ≡ ns) (numbersAt k most s rows site)
+      go true e = rw (in-row k most s rows site e, first-in-row k most s rows site e) refl
+      go false e = rw (in-text k most s rows site e, first-in-text k most s rows site e) (first-numbers (partAt (k + 1) (k + 2) s rows site))
+
+  -- an empty slice stands for a missing list
+  pub numbers-present : present (numbersOf (numbersAt k most s rows site)) ≡ numbersAt k most s rows site
+  unfolding onlyIf
+  numbers-present = go (isStored most (column k rows site)) refl
+    where
+      text : (o : Option (List ℕ)) → ((ns : List ℕ) → o ≡ some ns → Numbers ns) → present (numbersOf o) ≡ o
+      text none h = refl
+      text (some ns) h = present-some ns (h ns refl .some-number)
+
+      go : (b : Bool) → isStored most (column k rows site) ≡ b → present (numbersOf (numbersAt k most s rows site)) ≡ numbersAt k most s rows site
+      go true e =
+          let more = stored-some most (column k rows site) e in
+          rw (in-row k most s rows site e) (present-some (storedNumbers k rows site) (omega (arith, stored-length k most s rows site)))
+      go false e =
+          rw (in-text k most s rows site e)
+          (text (numberList (partAt (k + 1) (k + 2) s rows site)) (numbers-sound (partAt (k + 1) (k + 2) s rows site)))
 
 -- ---- the front of an array
 
@@ -70,14 +89,10 @@ pub record Front (values after : List ℕ) (r : ℕ) : Type 0 where
 filled : {values before after : List ℕ} {r : ℕ} → Filled values before after r → length values ≤ length before → Front values after r
 filled p room = record { front = filled-front p room; within = filled-within p room; long = filled-length p room }
 
-pub numbers-front : (list before : List ℕ) {after : List ℕ} {r : ℕ} → IfThere (λ ns. length ns ≤ length before) (numberList list)
-    → r ≡ length (numbersOf list) → after ≡ sets before 0 (firstNumbers (fieldsOf comma list)) → Front (numbersOf list) after r
-numbers-front list before {after} {r} room count laid = go (numberList list) (first-numbers list) room count
-  where
-    go : (o : Option (List ℕ)) → IfThere (λ ns. firstNumbers (fieldsOf comma list) ≡ ns) o → IfThere (λ ns. length ns ≤ length before) o
-        → r ≡ length (Option·getD o []) → Front (Option·getD o []) after r
-    go none e k n = rw n (record { front = refl; within = omega arith; long = refl })
-    go (some ns) e k n = filled (record { laid = rw e at laid; count = n }) k
+pub numbers-front : (list : Option (List ℕ)) (first before : List ℕ) {after : List ℕ} {r : ℕ} → IfThere (λ ns. first ≡ ns) list
+    → IfThere (λ ns. length ns ≤ length before) list → r ≡ length (numbersOf list) → after ≡ sets before 0 first → Front (numbersOf list) after r
+numbers-front none first before e room count laid = rw count (record { front = refl; within = omega arith; long = refl })
+numbers-front (some ns) first before e room count laid = filled (record { laid = rw e at laid; count = count }) room
 
 -- ---- a sound site
 
@@ -95,32 +110,32 @@ module _ (s rows : List ℕ) (site : ℕ) where
   mapOf position ref alts = perSampleMap (remappedAlleles ref position (siteAt s rows site)) (allelesIn alts)
 
   abbrev pub adOf : List ℕ
-  adOf = numbersOf (partAt 13 14 s rows site)
+  adOf = numbersOf (adAt s rows site)
 
   abbrev pub plOf : List ℕ
-  plOf = numbersOf (partAt 15 16 s rows site)
+  plOf = numbersOf (plAt s rows site)
 
   module _ (sound : SoundSite (siteAt s rows site)) where
     alts-few : length (fieldsOf comma (partAt 11 12 s rows site)) ≤ 7
     unfolding siteAt refAltsSpelled
     alts-few = omega (arith, sound .alleles .at-most, length-map (fieldsOf comma (partAt 11 12 s rows site)) alleleSpelled)
 
-    ad-few : IfThere (λ ns. length ns ≤ 8) (numberList (partAt 13 14 s rows site))
+    ad-few : IfThere (λ ns. length ns ≤ 8) (adAt s rows site)
     unfolding siteAt refAltsSpelled
-    ad-few = if-there (numberList (partAt 13 14 s rows site)) (λ ns c. omega (arith, c .at-most, sound .alleles .at-most)) (sound .ad)
+    ad-few = if-there (adAt s rows site) (λ ns c. omega (arith, c .at-most, sound .alleles .at-most)) (sound .ad)
 
-    pl-few : IfThere (λ ns. length ns ≤ 36) (numberList (partAt 15 16 s rows site))
+    pl-few : IfThere (λ ns. length ns ≤ 36) (plAt s rows site)
     unfolding siteAt refAltsSpelled
-    pl-few = if-there (numberList (partAt 15 16 s rows site)) (λ ns c. omega (arith, c .how-many, count-few _ (sound .alleles .at-most))) (sound .pl)
+    pl-few = if-there (plAt s rows site) (λ ns c. omega (arith, c .how-many, count-few _ (sound .alleles .at-most))) (sound .pl)
 
     module _ (before : List ℕ) {after : List ℕ} {r : ℕ} where
-      pub ad-front : length before ≡ 8 → r ≡ length adOf → after ≡ sets before 0 (firstNumbers (fieldsOf comma (partAt 13 14 s rows site)))
+      pub ad-front : length before ≡ 8 → r ≡ length adOf → after ≡ sets before 0 (firstNumbersAt 13 4 s rows site)
           → Front adOf after r
-      ad-front long = numbers-front (partAt 13 14 s rows site) before (rw long ad-few)
+      ad-front long = numbers-front (adAt s rows site) _ before (first-read 13 4 s rows site) (rw long ad-few)
 
-      pub pl-front : length before ≡ 36 → r ≡ length plOf → after ≡ sets before 0 (firstNumbers (fieldsOf comma (partAt 15 16 s rows site)))
+      pub pl-front : length before ≡ 36 → r ≡ length plOf → after ≡ sets before 0 (firstNumbersAt 16 10 s rows site)
           → Front plOf after r
-      pl-front long = numbers-front (partAt 15 16 s rows site) before (rw long pl-few)
+      pl-front long = numbers-front (plAt s rows site) _ before (first-read 16 10 s rows site) (rw long pl-few)
 
       pub map-front : (position : ℕ) (ref alts : List ℕ) → length before ≡ 16 → length (fieldsOf comma alts) ≤ 15
           → r ≡ 1 + length (fieldsOf comma alts)
@@ -136,7 +151,7 @@ module _ (s rows : List ℕ) (site : ℕ) where
   by-row : (position : ℕ) (ref alts : List ℕ)
       → siteData ref (allelesIn alts) position (siteAt s rows site)
       ≡ valuesOf (mapOf position ref alts) (codeOption (column 5 rows site)) (codeOption (column 6 rows site))
-      (numberList (partAt 13 14 s rows site)) (numberList (partAt 15 16 s rows site))
+      (adAt s rows site) (plAt s rows site)
   unfolding siteAt
   by-row position ref alts = site-values ref (allelesIn alts) position (siteAt s rows site)
 
@@ -145,7 +160,7 @@ module _ (s rows : List ℕ) (site : ℕ) where
       → dp ≡ codeOption (column 6 rows site) → m ≡ mapOf position ref alts → ad ≡ adOf → pl ≡ plOf
       → valuesOf m gq dp (present ad) (present pl) ≡ siteData ref (allelesIn alts) position (siteAt s rows site)
   values-said position ref alts g d m a p =
-      rw (g, d, m, a, p, numbers-present (partAt 13 14 s rows site), numbers-present (partAt 15 16 s rows site))
+      rw (g, d, m, a, p, numbers-present 13 4 s rows site, numbers-present 16 10 s rows site)
       (sym (by-row position ref alts))
 
   -- what `put_sample_data` asks
