@@ -97,10 +97,12 @@ pub enum SitesAt {
 fn read_sites(s: &[u8], at: usize, samples: usize, rows: &mut [usize]) -> SitesAt
     ensures { λ r. ⌜ SitesRead samples (now (s .entry)) at (now (rows .entry)) (now (rows .exit)) r ⌝ }
 {
+    let mut ad = [0u32; 4];
+    let mut pl = [0u32; 10];
     let mut next = at;
     let mut count = 0;
     while next < s.len() {
-        let group = site_groups::site_at(s, next, samples, count);
+        let group = site_groups::site_at(s, next, samples, count, &mut ad, &mut pl);
         match group {
             SiteAt::Refused(row) => {
                 return SitesAt::Refused(row);

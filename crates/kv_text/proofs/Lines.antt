@@ -9,16 +9,16 @@ use mathlib.Core.Path.{_∙_, _≡_, ap, refl}
 use native.Mathlib.Decide.{decLt}
 use native.Mathlib.Numerals.{add-one}
 use native.Mathlib.Omega.{arith}
-use Rattle.definitions.specs.Bytes.{lineFeed, sameBytes, stripPrefix, text}
+use Rattle.definitions.specs.Bytes.{comma, fieldsOf, lineFeed, sameBytes, stripPrefix, text}
 use Rattle.definitions.specs.Lines.{linesOf, valueOf}
-use Rattle.definitions.specs.Lists.{isThere}
-use Rattle.definitions.specs.Numbers.{orMissing}
+use Rattle.definitions.specs.Lists.{allOf, isThere, onlyIf, splitWhere}
+use Rattle.definitions.specs.Numbers.{noLeadingZero, number, orMissing}
 use Rattle.laws.proofs.Bytes.{strip-prefix-back}
 use Rattle.laws.proofs.Lines.{lines-at, lines-end, lines-unended-at}
 use Rattle.laws.proofs.Tests.{is-there, not-none, not-there, some-same}
 use Rattle.kv_text.proofs.Fields.{drop-take, field-ended, field-forward, field-has-none, field-within}
-use Rattle.kv_text.specs.Fields.{between, fieldLength}
-use Rattle.kv_text.specs.Lines.{LineReads, lineValue, readTo, unread}
+use Rattle.kv_text.specs.Fields.{between, fieldLength, firstNumbers}
+use Rattle.kv_text.specs.Lines.{LineReads, lineNumbers, lineValue, readTo, unread}
 
 -- ---- the line at an offset, which ends at e
 
@@ -107,6 +107,17 @@ pub line-within : {A : Type 0} (s : List ℕ) (at : ℕ) (key : List ℕ) (read 
     → LineReads s at key read (readTo a e) → e < length s
 unfolding LineReads
 line-within s at key read a e l = l .within
+
+-- ---- the numbers of a list, as far as they go
+
+module _ (s : List ℕ) (at : ℕ) (key : List ℕ) where
+  pub numbers-absent : LineReads s at key some unread → lineNumbers s at key ≡ []
+  unfolding LineReads lineNumbers firstNumbers fieldsOf splitWhere number onlyIf allOf noLeadingZero
+  numbers-absent h = rw h
+
+  pub numbers-there : (v : List ℕ) (e : ℕ) → LineReads s at key some (readTo v e) → lineNumbers s at key ≡ firstNumbers (fieldsOf comma v)
+  unfolding LineReads lineNumbers
+  numbers-there v e l = rw (l .value)
 
 -- ---- what may be missing
 

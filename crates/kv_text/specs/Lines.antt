@@ -1,8 +1,9 @@
 -- What reading the line at an offset of a text finds.
 use Prim.Native.Nat.{_+_, _<_, _≤_, ℕ}
 use lib.ListN.{drop, getD, length}
-use mathlib.Core.List.{List}
-use mathlib.Core.Option.{Option, bind, none, some}
+use lib.Seq.{sets}
+use mathlib.Core.List.{List, []}
+use mathlib.Core.Option.{Option, Option·getD, bind, none, some}
 use mathlib.Core.Path.{_≡_}
 use Rattle.definitions.specs.Bytes.{comma, fieldsOf}
 use Rattle.definitions.specs.Lines.{linesOf, valueOf}
@@ -73,3 +74,13 @@ listCount s (list.Found a e n) =
     (a ≤ e) × (numberList (between s a e) ≡ some (firstNumbers (fieldsOf comma (between s a e))))
     × (n ≡ length (firstNumbers (fieldsOf comma (between s a e))))
 listCount s list.Wrong = Unit {0}
+
+-- the numbers of the list in the line at an offset, up to the first field that spells none; none if no line has the key
+unfoldable pub lineNumbers : List ℕ → ℕ → List ℕ → List ℕ
+lineNumbers s at key = firstNumbers (fieldsOf comma (Option·getD (lineValue s at key some) []))
+
+-- what a slice holds after the answer: the list's numbers at its front, as many as fit; of a list that does not read, those before the fault
+abbrev pub ListStored : List ℕ → ℕ → List ℕ → List ℕ → List ℕ → ListAt → Type 0
+ListStored s at key before after (list.Missing e) = after ≡ before
+ListStored s at key before after (list.Found a e n) = after ≡ sets before 0 (Option·getD (numberList (between s a e)) [])
+ListStored s at key before after list.Wrong = after ≡ sets before 0 (lineNumbers s at key)

@@ -10,7 +10,7 @@ ghost use Rattle.definitions.specs.Bytes.{comma, compareBytes, fieldsOf, sameBy
 ghost use Rattle.definitions.specs.Lists.{isThere};
 ghost use Rattle.definitions.specs.Numbers.{isDigit, isNameByte, name, number, numberList, orMissing};
 ghost use Rattle.kv_text.specs.Fields.{FieldFound, alleleRead, digitsRead, fieldLength, firstNumbers, numberRead, numbersRead, orderOf};
-ghost use Rattle.kv_text.specs.Lines.{LineReads, Ordered, listCount, listFound, numberFound, optionalFound, valueFound};
+ghost use Rattle.kv_text.specs.Lines.{LineReads, ListStored, Ordered, listCount, listFound, numberFound, optionalFound, valueFound};
 
 // ---- bytes
 
@@ -465,9 +465,9 @@ pub enum ListAt {
     Wrong,
 }
 
-// The list of numbers, or `.`, in the line at an offset.
-pub fn optional_numbers_line(s: &[u8], at: usize, key: &[u8]) -> ListAt
-    ensures { λ r. ⌜ LineReads (now (s .entry)) at (now (key .entry)) (orMissing numberList) (listFound (now (s .entry)) r) × listCount (now (s .entry)) r ⌝ }
+// The list of numbers, or `.`, in the line at an offset; its numbers, as many as fit, into a slice.
+pub fn optional_numbers_line(s: &[u8], at: usize, key: &[u8], out: &mut [u32]) -> ListAt
+    ensures { λ r. ⌜ LineReads (now (s .entry)) at (now (key .entry)) (orMissing numberList) (listFound (now (s .entry)) r) × listCount (now (s .entry)) r × ListStored (now (s .entry)) at (now (key .entry)) (now (out .entry)) (now (out .exit)) r ⌝ }
 {
     let v = value_line(s, at, key);
     let ValueAt::At(a, e) = v else {
@@ -476,8 +476,7 @@ pub fn optional_numbers_line(s: &[u8], at: usize, key: &[u8]) -> ListAt
     if same_bytes(&s[a..e], b".") {
         return ListAt::Missing(e);
     }
-    let mut room = [0u32; 1];
-    let n = read_numbers(&s[a..e], &mut room[..0]);
+    let n = read_numbers(&s[a..e], out);
     match n {
         NumbersRead::Count(count) => ListAt::Found(a, e, count),
         NumbersRead::Fault => ListAt::Wrong,

@@ -7,6 +7,9 @@ ghost use lib.ListN.{length};
 ghost use Rattle.definitions.specs.Alleles.{genotypeCount};
 ghost use Rattle.definitions.specs.ListReader.{gtOf};
 ghost use Rattle.definitions.specs.Lists.{isThere, missingOr};
+ghost use Rattle.definitions.specs.Numbers.{numberList, orMissing};
+ghost use Rattle.kv_text.specs.Lines.{LineReads};
+ghost use Rattle.site_groups.specs.SiteGroups.{PartCounted, partFound};
 ghost use Rattle.tables.specs.Tables.{codeOption, rowLength};
 ghost use Rattle.list_reader.specs.RecordGroups.{GtRead, HeadRead, RecordChecked, RecordFound, RecordRead, SampleRead, TextRead, comesAfterLast};
 use alleles::AllelesRead;
@@ -76,6 +79,14 @@ fn gt_line(s: &[u8], at: usize, alts: usize) -> GtAt
     GtAt::Wrong
 }
 
+// The list of numbers in the line at an offset: where it stands and how many it has. The numbers are not kept.
+fn part_line(s: &[u8], at: usize, key: &[u8]) -> PartAt
+    ensures { λ r. ⌜ LineReads (now (s .entry)) at (now (key .entry)) (orMissing numberList) (partFound (now (s .entry)) r) × PartCounted (now (s .entry)) r ⌝ }
+{
+    let mut room = [0u32; 1];
+    site_groups::part_line(s, at, key, &mut room[..0])
+}
+
 enum SampleAt {
     Sample(SiteValues),
     Wrong,
@@ -97,11 +108,11 @@ fn sample_lines(s: &[u8], at: usize, alts: usize) -> SampleAt
     let NumberAt::Found(dp, e2) = depth else {
         return SampleAt::Wrong;
     };
-    let depths = site_groups::part_line(s, e2 + 1, b"ad=");
+    let depths = part_line(s, e2 + 1, b"ad=");
     let PartAt::Part(a3, e3, n3) = depths else {
         return SampleAt::Wrong;
     };
-    let likelihoods = site_groups::part_line(s, e3 + 1, b"pl=");
+    let likelihoods = part_line(s, e3 + 1, b"pl=");
     let PartAt::Part(a4, e4, n4) = likelihoods else {
         return SampleAt::Wrong;
     };

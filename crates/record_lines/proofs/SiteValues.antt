@@ -3,7 +3,7 @@ use Prim.Native.Nat.{_*_, _+_, _≤_, suc, ℕ}
 use lib.ListN.{length, length-map, take}
 use lib.Seq.{sets}
 use mathlib.Core.Bool.{Bool, false, true}
-use mathlib.Core.List.{List, [], _∷_, map}
+use mathlib.Core.List.{List, []}
 use mathlib.Core.Option.{Option, Option·getD, none, some}
 use mathlib.Core.Path.{_∙_, _≡_, ap, refl, sym}
 use native.Mathlib.Nat.{mul-le-mul}
@@ -11,15 +11,15 @@ use native.Mathlib.Omega.{arith}
 use Rattle.definitions.specs.Alleles.{Allele, genotypeCount}
 use Rattle.definitions.specs.Bytes.{comma, fieldsOf}
 use Rattle.definitions.specs.Genotypes.{siteData}
-use Rattle.definitions.specs.Lists.{allSome, onlyIf}
+use Rattle.definitions.specs.Lists.{onlyIf}
 use Rattle.definitions.specs.MergedAlleles.{perSampleMap, remappedAlleles, sampleAlleleOf}
-use Rattle.definitions.specs.Numbers.{number, numberList}
+use Rattle.definitions.specs.Numbers.{numberList}
 use Rattle.genotype_values.proofs.Best.{present-some}
 use Rattle.genotype_values.proofs.Filled.{filled-front, filled-length, filled-within}
 use Rattle.genotype_values.proofs.Said.{site-values}
 use Rattle.genotype_values.specs.Remapped.{Filled}
 use Rattle.genotype_values.specs.Values.{Printable, present, valuesOf}
-use Rattle.kv_text.proofs.Numbers.{all-fault, all-later-fault, all-number, allNumbers}
+use Rattle.kv_text.proofs.Numbers.{first-numbers}
 use Rattle.kv_text.specs.Fields.{firstNumbers}
 use Rattle.laws.proofs.Every.{IfThere, if-there}
 use Rattle.laws.proofs.SoundInput.{SoundSite}
@@ -35,22 +35,6 @@ use Rattle.record_lines.specs.Samples.{SitePrintable}
 -- the numbers of a list, none if it is missing
 abbrev pub numbersOf : Option (List ℕ) → List ℕ
 numbersOf list = Option·getD list []
-
--- they are the first numbers of its fields
-first-all : (fs : List (List ℕ)) → IfThere (λ ns. firstNumbers fs ≡ ns) (allNumbers fs)
-unfolding allSome firstNumbers
-first-all [] = refl
-first-all (f ∷ fs) = go (number f) refl (allNumbers fs) refl (first-all fs)
-  where
-    go : (o : Option ℕ) → number f ≡ o → (r : Option (List ℕ)) → allNumbers fs ≡ r → IfThere (λ ns. firstNumbers fs ≡ ns) r
-        → IfThere (λ ns. firstNumbers (f ∷ fs) ≡ ns) (allNumbers (f ∷ fs))
-    go none e r q h = rw (all-fault f fs e) tt
-    go (some n) e none q h = rw (all-later-fault f fs e q) tt
-    go (some n) e (some ns) q h = rw (all-number f fs e (q ∙ ap {B = Option (List ℕ)} some (sym h))) refl
-
-first-numbers : (list : List ℕ) → IfThere (λ ns. firstNumbers (fieldsOf comma list) ≡ ns) (numberList list)
-unfolding numberList
-first-numbers list = first-all (fieldsOf comma list)
 
 module _ (k most : ℕ) (s rows : List ℕ) (site : ℕ) where
   -- what is read first is the list, wherever it stands

@@ -20,7 +20,7 @@ use Rattle.kv_text.specs.Fields.{between}
 use Rattle.kv_text.specs.Lines.{Behind, LineReads, lineValue, readTo, unread}
 use Rattle.tables.proofs.Parts.{between-none}
 use Rattle.tables.specs.Tables.{codeOption}
-use Rattle.site_groups.specs.SiteGroups.{AlleleLines, AlleleLinesRead, PlaceLines, PlaceRead, TextRead, ValueLines, ValuesRead}
+use Rattle.site_groups.specs.SiteGroups.{AlleleLines, AlleleLinesRead, PlaceLines, PlaceRead, SomeStored, TextRead, ValueLines, ValuesRead}
 use Rattle.site_groups.specs.declared.AllelesAt.the-variants as alleles
 use Rattle.site_groups.specs.declared.PlaceAt.the-variants.{Place, Wrong}
 use Rattle.site_groups.specs.declared.SiteAlleles.{SiteAlleles}
@@ -244,3 +244,7 @@ no-list = refl
 -- a missing list is an empty part
 pub part-missing : (s : List ℕ) (e : ℕ) → numberList (between s e e) ≡ none
 part-missing s e = rw (between-none s e e (omega arith)) no-list
+
+-- a slice that was not written to
+pub none-stored : (l : List ℕ) → SomeStored l l
+none-stored l = record { numbers = []; stored = refl }

@@ -1,17 +1,19 @@
 -- What reading the lines of a site group finds.
 use Prim.Native.Nat.{_<_, _≤_, ℕ}
 use lib.ListN.{drop, length, take}
+use lib.Seq.{sets}
 use mathlib.Core.List.{List, []}
 use mathlib.Core.Bool.{Bool}
 use mathlib.Core.Option.{Option, Option·getD, some}
 use mathlib.Core.Path.{_≡_}
 use Rattle.definitions.specs.Alleles.{isBlock}
+use Rattle.definitions.specs.Answers.{scratchAfter}
 use Rattle.definitions.specs.Checked.{Checked, _>>=_, accepted, refused}
 use Rattle.definitions.specs.Cohort.{Site, SiteText, checkedSite, siteLines, siteTextOf}
 use Rattle.definitions.specs.Lines.{Line, lineAt, linesOf}
 use Rattle.definitions.specs.Numbers.{name, number, numberList, orMissing}
 use Rattle.kv_text.specs.Fields.{between}
-use Rattle.kv_text.specs.Lines.{Behind, LineFound, readTo, unread}
+use Rattle.kv_text.specs.Lines.{Behind, LineFound, lineNumbers, readTo, unread}
 use Rattle.kv_text.specs.declared.NumberAt.{NumberAt}
 use Rattle.kv_text.specs.declared.NumberAt.the-variants as one
 use Rattle.tables.specs.Tables.{codeOption, refAltsSpelled}
@@ -48,6 +50,11 @@ partFound s part.Wrong = unread
 abbrev pub PartCounted : List ℕ → PartAt → Type 0
 PartCounted s (part.Part a e n) = n ≡ length (Option·getD (numberList (between s a e)) [])
 PartCounted s part.Wrong = Unit {0}
+
+-- what a slice holds after the answer: the list's numbers at its front, as many as fit; of a list that does not read, those before the fault
+abbrev pub PartStored : List ℕ → ℕ → List ℕ → List ℕ → List ℕ → PartAt → Type 0
+PartStored s at key before after (part.Part a e n) = after ≡ sets before 0 (Option·getD (numberList (between s a e)) [])
+PartStored s at key before after part.Wrong = after ≡ sets before 0 (lineNumbers s at key)
 
 -- the bytes of a part of the text
 abbrev pub bytesOf : List ℕ → Part → List ℕ
@@ -91,6 +98,15 @@ numbersOf s n = numberList (between s (n .at) (n .end))
 abbrev pub Counted : List ℕ → NumbersPart → Type 0
 Counted s n = n .count ≡ length (Option·getD (numbersOf s n) [])
 
+-- a list's numbers stand at the front of a slice, as many as fit
+abbrev pub Stored : List ℕ → NumbersPart → List ℕ → List ℕ → Type 0
+Stored s n before after = after ≡ sets before 0 (Option·getD (numbersOf s n) [])
+
+-- some numbers stand there
+pub record SomeStored (before after : List ℕ) : Type 0 where
+  pub numbers : List ℕ
+  pub stored : after ≡ sets before 0 numbers
+
 -- the last four lines
 pub record ValueLines (s : List ℕ) (first : ℕ) (v : SiteValues) : Type 0 where
   pub gq : lineAt (siteGroup s first) 6 "gq" (orMissing number) ≡ accepted (codeOption (v .gq))
@@ -106,6 +122,11 @@ pub record ValueLines (s : List ℕ) (first : ℕ) (v : SiteValues) : Type 0 whe
 unfoldable pub ValuesRead : List ℕ → ℕ → ValuesAt → Type 0
 ValuesRead s at (values.Values v) = (first : ℕ) → Behind s first 6 at → ValueLines s first v
 ValuesRead s at values.Wrong = (first : ℕ) → Behind s first 6 at → siteTextOf (siteGroup s first) ≡ refused 1
+
+-- what the slices for AD and PL hold after the answer; if a line is wrong, the numbers that were read before it
+abbrev pub ValuesStored : List ℕ → List ℕ → List ℕ → List ℕ → List ℕ → ValuesAt → Type 0
+ValuesStored s ad₀ ad pl₀ pl (values.Values v) = Stored s (v .ad) ad₀ ad × Stored s (v .pl) pl₀ pl
+ValuesStored s ad₀ ad pl₀ pl values.Wrong = SomeStored ad₀ ad × SomeStored pl₀ pl
 
 -- what the ten lines say
 abbrev pub siteTextAt : List ℕ → SitePlace → SiteAlleles → SiteValues → SiteText
@@ -131,6 +152,10 @@ pub record TextLines (s : List ℕ) (at : ℕ) (p : SitePlace) (a : SiteAlleles)
 unfoldable pub TextRead : List ℕ → ℕ → TextAt → Type 0
 TextRead s at (text.Text p a v) = TextLines s at p a v
 TextRead s at text.Wrong = siteTextOf (siteGroup s at) ≡ refused 1
+
+abbrev pub TextStored : List ℕ → List ℕ → List ℕ → List ℕ → List ℕ → TextAt → Type 0
+TextStored s ad₀ ad pl₀ pl (text.Text p a v) = Stored s (v .ad) ad₀ ad × Stored s (v .pl) pl₀ pl
+TextStored s ad₀ ad pl₀ pl text.Wrong = SomeStored ad₀ ad × SomeStored pl₀ pl
 
 -- the site that they stand for
 abbrev pub siteFrom : List ℕ → SitePlace → SiteAlleles → SiteValues → Site
@@ -172,3 +197,8 @@ pub record SiteTo (s : List ℕ) (at samples before : ℕ) (p : SitePlace) (a : 
 unfoldable pub SiteRead : List ℕ → ℕ → ℕ → ℕ → SiteAt → Type 0
 SiteRead s at samples before (site.Site p a v block) = SiteTo s at samples before p a v block
 SiteRead s at samples before (site.Refused row) = siteGroupOf s at samples before ≡ refused row
+
+-- what the slices for AD and PL hold after the answer: the site's numbers at their fronts, as many as fit; zeros after a refusal
+abbrev pub NumbersStored : List ℕ → List ℕ → List ℕ → List ℕ → List ℕ → SiteAt → Type 0
+NumbersStored s ad₀ ad pl₀ pl (site.Site p a v block) = Stored s (v .ad) ad₀ ad × Stored s (v .pl) pl₀ pl
+NumbersStored s ad₀ ad pl₀ pl (site.Refused row) = (ad ≡ scratchAfter ad₀) × (pl ≡ scratchAfter pl₀)

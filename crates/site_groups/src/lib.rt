@@ -3,9 +3,10 @@ ghost use mathlib.Core.Path.{_≡_};
 ghost use mathlib.Core.Bool.{_&&_, _||_, cond};
 ghost use lib.Dec.{eqb, leb};
 ghost use Rattle.definitions.specs.Alleles.{genotypeCount};
+ghost use Rattle.definitions.specs.Answers.{scratchAfter};
 ghost use Rattle.definitions.specs.Numbers.{number, numberList, orMissing};
 ghost use Rattle.kv_text.specs.Lines.{LineReads};
-ghost use Rattle.site_groups.specs.SiteGroups.{AlleleLinesRead, PartCounted, PlaceRead, SiteChecked, SiteRead, TextRead, ValuesRead, codeFound, partFound};
+ghost use Rattle.site_groups.specs.SiteGroups.{AlleleLinesRead, NumbersStored, PartCounted, PartStored, PlaceRead, SiteChecked, SiteRead, TextRead, TextStored, ValuesRead, ValuesStored, codeFound, partFound};
 use alleles::AllelesRead;
 use kv_text::ListAt;
 use kv_text::NumberAt;
@@ -30,10 +31,11 @@ pub enum PartAt {
     Wrong,
 }
 
-pub fn part_line(s: &[u8], at: usize, key: &[u8]) -> PartAt
-    ensures { λ r. ⌜ LineReads (now (s .entry)) at (now (key .entry)) (orMissing numberList) (partFound (now (s .entry)) r) × PartCounted (now (s .entry)) r ⌝ }
+// The list of numbers in the line at an offset; its numbers, as many as fit, into a slice.
+pub fn part_line(s: &[u8], at: usize, key: &[u8], out: &mut [u32]) -> PartAt
+    ensures { λ r. ⌜ LineReads (now (s .entry)) at (now (key .entry)) (orMissing numberList) (partFound (now (s .entry)) r) × PartCounted (now (s .entry)) r × PartStored (now (s .entry)) at (now (key .entry)) (now (out .entry)) (now (out .exit)) r ⌝ }
 {
-    let line = kv_text::optional_numbers_line(s, at, key);
+    let line = kv_text::optional_numbers_line(s, at, key, out);
     match line {
         ListAt::Missing(e) => PartAt::Part(e, e, 0),
         ListAt::Found(a, e, n) => PartAt::Part(a, e, n),
@@ -140,8 +142,8 @@ pub enum ValuesAt {
     Wrong,
 }
 
-fn site_values(s: &[u8], at: usize) -> ValuesAt
-    ensures { λ r. ⌜ ValuesRead (now (s .entry)) at r ⌝ }
+fn site_values(s: &[u8], at: usize, ad: &mut [u32], pl: &mut [u32]) -> ValuesAt
+    ensures { λ r. ⌜ ValuesRead (now (s .entry)) at r × ValuesStored (now (s .entry)) (now (ad .entry)) (now (ad .exit)) (now (pl .entry)) (now (pl .exit)) r ⌝ }
 {
     let quality = code_line(s, at, b"gq=");
     let NumberAt::Found(gq, e6) = quality else {
@@ -151,11 +153,11 @@ fn site_values(s: &[u8], at: usize) -> ValuesAt
     let NumberAt::Found(dp, e7) = depth else {
         return ValuesAt::Wrong;
     };
-    let depths = part_line(s, e7 + 1, b"ad=");
+    let depths = part_line(s, e7 + 1, b"ad=", ad);
     let PartAt::Part(a8, e8, n8) = depths else {
         return ValuesAt::Wrong;
     };
-    let likelihoods = part_line(s, e8 + 1, b"pl=");
+    let likelihoods = part_line(s, e8 + 1, b"pl=", pl);
     let PartAt::Part(a9, e9, n9) = likelihoods else {
         return ValuesAt::Wrong;
     };
@@ -182,9 +184,9 @@ pub enum TextAt {
     Wrong,
 }
 
-// The site group at an offset, by its lines: row 1, or what they say.
-pub fn site_text(s: &[u8], at: usize) -> TextAt
-    ensures { λ r. ⌜ TextRead (now (s .entry)) at r ⌝ }
+// The site group at an offset, by its lines: row 1, or what they say, with the numbers of AD and PL.
+pub fn site_text(s: &[u8], at: usize, ad: &mut [u32], pl: &mut [u32]) -> TextAt
+    ensures { λ r. ⌜ TextRead (now (s .entry)) at r × TextStored (now (s .entry)) (now (ad .entry)) (now (ad .exit)) (now (pl .entry)) (now (pl .exit)) r ⌝ }
 {
     let first = site_place(s, at);
     let PlaceAt::Place(place) = first else {
@@ -196,7 +198,7 @@ pub fn site_text(s: &[u8], at: usize) -> TextAt
         return TextAt::Wrong;
     };
     let next = alleles.next;
-    let third = site_values(s, next);
+    let third = site_values(s, next, ad, pl);
     let ValuesAt::Values(values) = third else {
         return TextAt::Wrong;
     };
@@ -281,17 +283,37 @@ pub enum SiteAt {
     Refused(usize),
 }
 
-// The site group at an offset, of a cohort with so many samples, after so many sites: rows 1 to 8.
-pub fn site_at(s: &[u8], at: usize, samples: usize, before: usize) -> SiteAt
-    ensures { λ r. ⌜ SiteRead (now (s .entry)) at samples before r ⌝ }
+// Sets every number of AD and PL to 0.
+fn clear_values(ad: &mut [u32], pl: &mut [u32])
+    ensures { λ _. ⌜ (now (ad .exit) ≡ scratchAfter (now (ad .entry))) × (now (pl .exit) ≡ scratchAfter (now (pl .entry))) ⌝ }
 {
-    let text = site_text(s, at);
+    tables::clear_numbers(ad);
+    tables::clear_numbers(pl);
+}
+
+// The site group at an offset, of a cohort with so many samples, after so many sites: rows 1 to 8. The numbers of AD and PL, as many
+// as fit, into two slices; a refusal clears both.
+pub fn site_at(
+    s: &[u8],
+    at: usize,
+    samples: usize,
+    before: usize,
+    ad: &mut [u32],
+    pl: &mut [u32],
+) -> SiteAt
+    ensures { λ r. ⌜ SiteRead (now (s .entry)) at samples before r × NumbersStored (now (s .entry)) (now (ad .entry)) (now (ad .exit)) (now (pl .entry)) (now (pl .exit)) r ⌝ }
+{
+    let text = site_text(s, at, ad, pl);
     let TextAt::Text(place, alleles, values) = text else {
+        clear_values(ad, pl);
         return SiteAt::Refused(1);
     };
     let check = check_site(s, place, alleles, values, samples, before);
     match check {
         SiteCheck::Right(block) => SiteAt::Site(place, alleles, values, block),
-        SiteCheck::Refused(row) => SiteAt::Refused(row),
+        SiteCheck::Refused(row) => {
+            clear_values(ad, pl);
+            SiteAt::Refused(row)
+        }
     }
 }

@@ -36,6 +36,15 @@ pub fn clear_places(scratch: &mut [u64])
     }
 }
 
+// Sets every number of a list to 0.
+pub fn clear_numbers(numbers: &mut [u32])
+    ensures { λ _. ⌜ now (numbers .exit) ≡ scratchAfter (now (numbers .entry)) ⌝ }
+{
+    for i in 0..numbers.len() {
+        numbers[i] = 0;
+    }
+}
+
 // Stores the numbers of a row from an offset on.
 pub fn store_row(rows: &mut [usize], first: usize, row: &[usize])
     requires { ⌜ first + length (now row) ≤ length (now rows) ⌝ }

@@ -2,6 +2,7 @@
 use Prim.Native.Nat.{_-_}
 use borrow.Author.Needs.{needs}
 use lib.ListN.{length}
+use mathlib.Core.Path.{_∙_, _≡_, refl}
 use native.Mathlib.Omega.{arith}
 use Rattle.cohort.proofs.Sites.{Reading, few-before, no-row, reading-start, site-read, site-refused, sites-end}
 use Rattle.site_groups.specs.SiteGroups.{SiteRead}
@@ -9,13 +10,19 @@ use Rattle.cohort.proofs.read_sites.Statement.{statement}
 use Rattle.cohort.proofs.read_sites.Tie as tie
 
 abbrev Inv-loop : tie.InvT-loop
-Inv-loop s at samples rows₀ next₀ count₀ rows next count = Reading samples s at rows₀ rows next count
+Inv-loop s at samples rows₀ ad₀ pl₀ next₀ count₀ rows ad pl next count = Reading samples s at rows₀ rows next count × (length ad ≡ 4) × (length pl ≡ 10)
 
 abbrev μ-loop : tie.MeasureT-loop
-μ-loop s at samples rows₀ next₀ count₀ rows next count = length s - next
+μ-loop s at samples rows₀ ad₀ pl₀ next₀ count₀ rows ad pl next count = length s - next
 
 loop-holds : tie.Need-loop-holds Inv-loop μ-loop
-loop-holds c = reading-start _ _ _ _
+loop-holds c = (reading-start _ _ _ _, refl, refl)
+
+slice-aggregate-site-at : tie.Need-slice-aggregate-site-at Inv-loop μ-loop
+slice-aggregate-site-at c = let long = c .before .before .loop .inv .1 in search needs
+
+slice-aggregate-site-at-2 : tie.Need-slice-aggregate-site-at-2 Inv-loop μ-loop
+slice-aggregate-site-at-2 c = let long = c .before .before .before .loop .inv .2 in search needs
 
 site-at-requires : tie.Need-site-at-requires Inv-loop μ-loop
 site-at-requires c κs = search needs
@@ -24,55 +31,56 @@ enum-known-group : tie.Need-enum-known-group Inv-loop μ-loop
 enum-known-group c = search needs
 
 same-length : tie.Need-same-length Inv-loop μ-loop
-same-length c = (c .before .before .before .before .before .loop .inv .long)
+same-length c = c .before .before .before .before .before .before .before .before .before .loop .inv .0 .long
 
 returns : tie.Need-returns Inv-loop μ-loop
 unfolding SiteRead
-returns c = site-refused _ _ _ _ _ _ _ (c .before .before .before .before .before .loop .inv) (c .before .before .before .before .loop-test .taken) _ (rw ((c .before .group .given .1)) at ((c .before .before .before .site-at .ensures)))
+returns c = site-refused _ _ _ _ _ _ _ (c .before .before .before .before .before .before .before .before .before .loop .inv .0) (c .before .before .before .before .before .before .before .before .loop-test .taken) _ ((rw (c .before .group .given .1) at (c .before .before .before .before .before .site-at .ensures)) .0)
 
 enum-known-group-2 : tie.Need-enum-known-group-2 Inv-loop μ-loop
 enum-known-group-2 c = search needs
 
 mul-if1 : tie.Need-mul-if1 Inv-loop μ-loop
-mul-if1 c = omega (arith, (c .before .before .before .before .before .loop .inv .few))
+mul-if1 c = omega (arith, c .before .before .before .before .before .before .before .before .before .loop .inv .0 .few)
 
 add-if1 : tie.Need-add-if1 Inv-loop μ-loop
-add-if1 c = omega (arith, (c .before .before .before .before .before .loop .inv .few))
+add-if1 c = omega (arith, c .before .before .before .before .before .before .before .before .before .loop .inv .0 .few)
 
 same-length-2 : tie.Need-same-length-2 Inv-loop μ-loop
-same-length-2 c = (c .before .before .before .before .before .before .loop .inv .long)
+same-length-2 c = c .before .before .before .before .before .before .before .before .before .before .loop .inv .0 .long
 
 returns-2 : tie.Need-returns-2 Inv-loop μ-loop
 unfolding SiteRead
-returns-2 c = let to = rw ((c .before .before .group2 .given .1)) at ((c .before .before .before .before .site-at .ensures)) in
-    no-row _ _ _ _ _ _ _ (c .before .before .before .before .before .before .loop .inv) (c .before .before .before .before .before .loop-test .taken) (to .value) (omega (arith, (c .if1 .taken)))
+returns-2 c = let to = (rw (c .before .before .group2 .given .1) at (c .before .before .before .before .before .before .site-at .ensures)) .0 in
+    no-row _ _ _ _ _ _ _ (c .before .before .before .before .before .before .before .before .before .before .loop .inv .0) (c .before .before .before .before .before .before .before .before .before .loop-test .taken) (to .value) (omega (arith, c .if1 .taken))
 
 part-requires : tie.Need-part-requires Inv-loop μ-loop
 part-requires c κs = search needs
 
 contig-number-requires : tie.Need-contig-number-requires Inv-loop μ-loop
-contig-number-requires c κs = (c .before .before .before .before .before .before .before .before .loop .inv .numbered .contigs)
+contig-number-requires c κs = c .before .before .before .before .before .before .before .before .before .before .before .before .loop .inv .0 .numbered .contigs
 
 put-site-requires : tie.Need-put-site-requires Inv-loop μ-loop
-put-site-requires c κs = omega (arith, (c .before .before .before .before .if1 .left))
+put-site-requires c κs = omega (arith, c .before .before .before .before .if1 .left)
 
 add-count : tie.Need-add-count Inv-loop μ-loop
-add-count c = omega (arith, (c .before .before .before .before .before .before .before .before .before .before .before .before .before .loop .inv .few))
+add-count c = omega (arith, c .before .before .before .before .before .before .before .before .before .before .before .before .before .before .before .before .before .loop .inv .0 .few)
 
 loop-less : tie.Need-loop-less Inv-loop μ-loop
 unfolding SiteRead
-loop-less c = let to = rw ((c .before .before .before .before .before .before .before .before .before .group2 .given .1)) at ((c .before .before .before .before .before .before .before .before .before .before .before .site-at .ensures)) in omega (arith, to .forward, to .within)
+loop-less c = let to = (rw (c .before .before .before .before .before .before .before .before .before .group2 .given .1) at (c .before .before .before .before .before .before .before .before .before .before .before .before .before .site-at .ensures)) .0 in
+    omega (arith, to .forward, to .within)
 
 loop-again : tie.Need-loop-again Inv-loop μ-loop
 unfolding SiteRead
-loop-again c = let to = rw ((c .before .before .before .before .before .before .before .before .before .group2 .given .1)) at ((c .before .before .before .before .before .before .before .before .before .before .before .site-at .ensures)) in
-    site-read _ _ _ _ _ _ _ (c .before .before .before .before .before .before .before .before .before .before .before .before .before .loop .inv) (c .before .before .before .before .before .before .before .before .before .before .before .before .loop-test .taken) _ _ _ _ to _ (rw ((c .before .before .before .before .before .before .part .ensures)) at ((c .before .before .before .before .contig-number .ensures))) (omega (arith, (c .before .before .before .before .before .before .before .if1 .left))) _ ((c .before .before .put-site .kept .0)) ((c .before .before .put-site .ensures))
+loop-again c = let to = (rw (c .before .before .before .before .before .before .before .before .before .group2 .given .1) at (c .before .before .before .before .before .before .before .before .before .before .before .before .before .site-at .ensures)) .0 in
+    (site-read _ _ _ _ _ _ _ (c .before .before .before .before .before .before .before .before .before .before .before .before .before .before .before .before .before .loop .inv .0) (c .before .before .before .before .before .before .before .before .before .before .before .before .before .before .before .before .loop-test .taken) _ _ _ _ to _ (rw (c .before .before .before .before .before .before .part .ensures) at (c .before .before .before .before .contig-number .ensures)) (omega (arith, c .before .before .before .before .before .before .before .if1 .left)) _ (c .before .before .put-site .kept .0) (c .before .before .put-site .ensures), (c .before .before .before .before .before .before .before .before .before .before .before .before .before .site-at .kept .1 .1 .1 .1 .0) ∙ (c .before .before .before .before .before .before .before .before .before .before .before .before .before .before .before .before .before .loop .inv .1), (c .before .before .before .before .before .before .before .before .before .before .before .before .before .site-at .kept .1 .1 .1 .1 .1 .0) ∙ (c .before .before .before .before .before .before .before .before .before .before .before .before .before .before .before .before .before .loop .inv .2))
 
 same-length-3 : tie.Need-same-length-3 Inv-loop μ-loop
-same-length-3 c = (c .before .loop .inv .long)
+same-length-3 c = c .before .loop .inv .0 .long
 
 returns-3 : tie.Need-returns-3 Inv-loop μ-loop
-returns-3 c = sites-end _ _ _ _ _ _ _ (c .before .loop .inv) (c .loop-test .left)
+returns-3 c = sites-end _ _ _ _ _ _ _ (c .before .loop .inv .0) (c .loop-test .left)
 
 pub read-sites-spec : {M : Type 1} → statement M
 read-sites-spec =
@@ -81,6 +89,8 @@ read-sites-spec =
     Inv-loop
     μ-loop
     loop-holds
+    slice-aggregate-site-at
+    slice-aggregate-site-at-2
     site-at-requires
     enum-known-group
     same-length

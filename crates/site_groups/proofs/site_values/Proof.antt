@@ -1,11 +1,15 @@
 -- One line after the other, each behind the one before it.
 use borrow.Author.Needs.{needs}
+use mathlib.Core.List.{[]}
+use mathlib.Core.Option.{Option·getD}
 use native.Mathlib.Omega.{arith}
-use Rattle.site_groups.proofs.SiteLines.{ad-wrong, dp-wrong, gq-wrong, pl-wrong, values-read}
 use Rattle.definitions.specs.Bytes.{text}
 use Rattle.definitions.specs.Lines.{keyOf}
 use Rattle.definitions.specs.Numbers.{number, numberList, orMissing}
 use Rattle.kv_text.proofs.Lines.{line-within}
+use Rattle.kv_text.specs.Fields.{between}
+use Rattle.kv_text.specs.Lines.{lineNumbers}
+use Rattle.site_groups.proofs.SiteLines.{ad-wrong, dp-wrong, gq-wrong, none-stored, pl-wrong, values-read}
 use Rattle.site_groups.proofs.site_values.Statement.{statement}
 use Rattle.site_groups.proofs.site_values.Tie as tie
 
@@ -23,7 +27,7 @@ enum-told c = search needs
 
 returns : tie.Need-returns
 unfolding keyOf text
-returns c = gq-wrong _ _ (rw (c .enum-told .given .1) at (c .before .before .code-line .ensures))
+returns c = (gq-wrong _ _ (rw (c .enum-told .given .1) at (c .before .before .code-line .ensures)), (none-stored _, none-stored _))
 
 add-code-line : tie.Need-add-code-line
 add-code-line c = let h = line-within _ _ _ (orMissing number) _ _ (rw (c .before .quality .given .1) at (c .before .before .before .code-line .ensures)) in omega arith
@@ -42,7 +46,7 @@ enum-told-2 c = search needs
 
 returns-2 : tie.Need-returns-2
 unfolding keyOf text
-returns-2 c = dp-wrong _ _ _ _ (rw (c .before .before .before .before .before .quality .given .1) at (c .before .before .before .before .before .before .before .code-line .ensures)) (rw (c .enum-told2 .given .1) at (c .before .before .code-line2 .ensures))
+returns-2 c = (dp-wrong _ _ _ _ (rw (c .before .before .before .before .before .quality .given .1) at (c .before .before .before .before .before .before .before .code-line .ensures)) (rw (c .enum-told2 .given .1) at (c .before .before .code-line2 .ensures)), (none-stored _, none-stored _))
 
 add-part-line : tie.Need-add-part-line
 add-part-line c = let h = line-within _ _ _ (orMissing number) _ _ (rw (c .before .depth .given .1) at (c .before .before .before .code-line2 .ensures)) in omega arith
@@ -59,13 +63,16 @@ enum-known-depths c = search needs
 enum-told-3 : tie.Need-enum-told-3
 enum-told-3 c = search needs
 
+same-length : tie.Need-same-length
+same-length c = search needs
+
 returns-3 : tie.Need-returns-3
 unfolding keyOf text
-returns-3 c = ad-wrong _ _ _ _ (rw (c .before .before .before .before .before .before .before .before .before .before .quality .given .1) at (c .before .before .before .before .before .before .before .before .before .before .before .before .code-line .ensures)) _ _ (rw (c .before .before .before .before .before .depth .given .1) at (c .before .before .before .before .before .before .before .code-line2 .ensures))
-    ((rw (c .enum-told3 .given .1) at (c .before .before .part-line .ensures)) .0)
+returns-3 c = let depths = rw (c .enum-told3 .given .1) at (c .before .before .before .before .part-line .ensures) in
+    (ad-wrong _ _ _ _ (rw (c .before .before .before .before .before .before .before .before .before .before .before .before .before .quality .given .1) at (c .before .before .before .before .before .before .before .before .before .before .before .before .before .before .before .code-line .ensures)) _ _ (rw (c .before .before .before .before .before .before .before .before .depth .given .1) at (c .before .before .before .before .before .before .before .before .before .before .code-line2 .ensures)) (depths .0), (record { numbers = lineNumbers _ _ _; stored = depths .2 }, none-stored _))
 
 add-part-line-2 : tie.Need-add-part-line-2
-add-part-line-2 c = let h = line-within _ _ _ (orMissing numberList) _ _ ((rw (c .before .depths .given .1) at (c .before .before .before .part-line .ensures)) .0) in omega arith
+add-part-line-2 c = let h = line-within _ _ _ (orMissing numberList) _ _ ((rw (c .before .depths .given .1) at (c .before .before .before .before .before .part-line .ensures)) .0) in omega arith
 
 slice-aggregate-part-line-2 : tie.Need-slice-aggregate-part-line-2
 slice-aggregate-part-line-2 c = search needs
@@ -79,21 +86,33 @@ enum-known-likelihoods c = search needs
 enum-told-4 : tie.Need-enum-told-4
 enum-told-4 c = search needs
 
+same-length-2 : tie.Need-same-length-2
+same-length-2 c = search needs
+
+same-length-3 : tie.Need-same-length-3
+same-length-3 c = search needs
+
 returns-4 : tie.Need-returns-4
 unfolding keyOf text
-returns-4 c = let depths = rw (c .before .before .before .before .before .depths .given .1) at (c .before .before .before .before .before .before .before .part-line .ensures) in
-    pl-wrong _ _ _ _ (rw (c .before .before .before .before .before .before .before .before .before .before .before .before .before .before .before .quality .given .1) at (c .before .before .before .before .before .before .before .before .before .before .before .before .before .before .before .before .before .code-line .ensures)) _ _ (rw (c .before .before .before .before .before .before .before .before .before .before .depth .given .1) at (c .before .before .before .before .before .before .before .before .before .before .before .before .code-line2 .ensures))
-    _ _ _ (depths .0) (depths .1) ((rw (c .enum-told4 .given .1) at (c .before .before .part-line2 .ensures)) .0)
+returns-4 c = let depths = rw (c .before .before .before .before .before .before .before .before .depths .given .1) at (c .before .before .before .before .before .before .before .before .before .before .before .before .part-line .ensures) in
+    let likelihoods = rw (c .enum-told4 .given .1) at (c .before .before .before .before .part-line2 .ensures) in
+    (pl-wrong _ _ _ _ (rw (c .before .before .before .before .before .before .before .before .before .before .before .before .before .before .before .before .before .before .before .before .before .quality .given .1) at (c .before .before .before .before .before .before .before .before .before .before .before .before .before .before .before .before .before .before .before .before .before .before .before .code-line .ensures)) _ _ (rw (c .before .before .before .before .before .before .before .before .before .before .before .before .before .before .before .before .depth .given .1) at (c .before .before .before .before .before .before .before .before .before .before .before .before .before .before .before .before .before .before .code-line2 .ensures)) _ _ _ (depths .0) (depths .1) (likelihoods .0), (record { numbers = Option·getD (numberList (between (c .before .before .before .before .before .before .before .before .before .before .before .before .before .before .before .before .before .before .before .before .before .before .before .before .before .before .before .before .args .s .now) (c .before .before .before .before .before .before .before .before .depths .given .0 .0) (c .before .before .before .before .before .before .before .before .depths .given .0 .1 .0))) []; stored = depths .2 }, record { numbers = lineNumbers _ _ _; stored = likelihoods .2 }))
 
-add-t23 : tie.Need-add-t23
-add-t23 c = let h = line-within _ _ _ (orMissing numberList) _ _ ((rw (c .before .likelihoods .given .1) at (c .before .before .before .part-line2 .ensures)) .0) in omega (arith, h, (c .before .before .before .before .before .before .before .before .before .before .before .before .before .before .before .before .before .before .before .before .before .good))
+add-t25 : tie.Need-add-t25
+add-t25 c = let h = line-within _ _ _ (orMissing numberList) _ _ ((rw (c .before .likelihoods .given .1) at (c .before .before .before .before .before .part-line2 .ensures)) .0) in
+    omega (arith, h, c .before .before .before .before .before .before .before .before .before .before .before .before .before .before .before .before .before .before .before .before .before .before .before .before .before .before .before .before .before .good)
+
+same-length-4 : tie.Need-same-length-4
+same-length-4 c = search needs
+
+same-length-5 : tie.Need-same-length-5
+same-length-5 c = search needs
 
 returns-5 : tie.Need-returns-5
 unfolding keyOf text
-returns-5 c = let depths = rw (c .before .before .before .before .before .before .depths .given .1) at (c .before .before .before .before .before .before .before .before .part-line .ensures) in
-    let likelihoods = rw (c .before .likelihoods .given .1) at (c .before .before .before .part-line2 .ensures) in
-    values-read _ _ _ _ (rw (c .before .before .before .before .before .before .before .before .before .before .before .before .before .before .before .before .quality .given .1) at (c .before .before .before .before .before .before .before .before .before .before .before .before .before .before .before .before .before .before .code-line .ensures)) _ _ (rw (c .before .before .before .before .before .before .before .before .before .before .before .depth .given .1) at (c .before .before .before .before .before .before .before .before .before .before .before .before .before .code-line2 .ensures))
-    _ _ _ (depths .0) (depths .1) _ _ _ (likelihoods .0) (likelihoods .1)
+returns-5 c = let depths = rw (c .before .before .before .before .before .before .before .before .before .depths .given .1) at (c .before .before .before .before .before .before .before .before .before .before .before .before .before .part-line .ensures) in
+    let likelihoods = rw (c .before .likelihoods .given .1) at (c .before .before .before .before .before .part-line2 .ensures) in
+    (values-read _ _ _ _ (rw (c .before .before .before .before .before .before .before .before .before .before .before .before .before .before .before .before .before .before .before .before .before .before .quality .given .1) at (c .before .before .before .before .before .before .before .before .before .before .before .before .before .before .before .before .before .before .before .before .before .before .before .before .code-line .ensures)) _ _ (rw (c .before .before .before .before .before .before .before .before .before .before .before .before .before .before .before .before .before .depth .given .1) at (c .before .before .before .before .before .before .before .before .before .before .before .before .before .before .before .before .before .before .before .code-line2 .ensures)) _ _ _ (depths .0) (depths .1) _ _ _ (likelihoods .0) (likelihoods .1), (depths .2, likelihoods .2))
 
 pub site-values-spec : {M : Type 1} → statement M
 site-values-spec =
@@ -115,12 +134,17 @@ site-values-spec =
     part-line-requires
     enum-known-depths
     enum-told-3
+    same-length
     returns-3
     add-part-line-2
     slice-aggregate-part-line-2
     part-line-requires-2
     enum-known-likelihoods
     enum-told-4
+    same-length-2
+    same-length-3
     returns-4
-    add-t23
+    add-t25
+    same-length-4
+    same-length-5
     returns-5)
