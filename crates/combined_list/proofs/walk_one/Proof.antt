@@ -2,9 +2,9 @@
 use borrow.Author.Needs.{needs}
 use lib.ListN.{length}
 use native.Mathlib.Omega.{arith}
-use Rattle.combine_gvcfs.proofs.OneContig.{all-places, collected, end-exactly, end-within, not-all-places, one-refused, one-walked, progress-low, taken-exactly, walk-ready}
-use Rattle.combine_gvcfs.proofs.walk_one.Statement.{statement}
-use Rattle.combine_gvcfs.proofs.walk_one.Tie as tie
+use Rattle.combined_list.proofs.OneContig.{all-places, collected, end-exactly, end-within, not-all-places, one-refused, one-walked, progress-low, taken-exactly, walk-ready}
+use Rattle.combined_list.proofs.walk_one.Statement.{statement}
+use Rattle.combined_list.proofs.walk_one.Tie as tie
 
 slice-aggregate-select-contig : tie.Need-slice-aggregate-select-contig
 slice-aggregate-select-contig c = search needs

@@ -30,7 +30,7 @@ use Rattle.merged_records.specs.Loaded.{ContigRuns, chosenLetters}
 use Rattle.record_laws.specs.Pending.{mergedContig}
 use Rattle.tables.proofs.SameContig.{same-contig}
 use Rattle.tables.specs.Tables.{column, partAt, siteAt}
-use Rattle.combine_gvcfs.specs.Contigs.{Grouped, IsFirst, givenClip, recordsOn}
+use Rattle.combined_list.specs.Contigs.{Grouped, IsFirst, givenClip, recordsOn}
 use Rattle.contig_walk.specs.Walk.{ClipGiven, RecordsWalked, WalkReady}
 use Rattle.coalescing.specs.Steps.{Progress}
 use Rattle.contig_walk.specs.declared.Walked.{Walked}

@@ -1,10 +1,10 @@
 -- The sites by sample, the contigs in byte order of name, then the list.
 use borrow.Author.Needs.{needs}
 use native.Mathlib.Omega.{arith}
-use Rattle.combine_gvcfs.proofs.Loading.{firsts-within, list-ready, loaded-answered}
-use Rattle.combine_gvcfs.proofs.OneContig.{taken-exactly}
-use Rattle.combine_gvcfs.proofs.combine_loaded.Statement.{statement}
-use Rattle.combine_gvcfs.proofs.combine_loaded.Tie as tie
+use Rattle.combined_list.proofs.ListReady.{firsts-within, list-ready, loaded-answered}
+use Rattle.combined_list.proofs.OneContig.{taken-exactly}
+use Rattle.combined_list.proofs.combine_loaded.Statement.{statement}
+use Rattle.combined_list.proofs.combine_loaded.Tie as tie
 
 slice-aggregate-group-by-sample : tie.Need-slice-aggregate-group-by-sample
 slice-aggregate-group-by-sample c = search needs

@@ -14,7 +14,7 @@ use Rattle.definitions.specs.Records.{Record}
 use Rattle.laws.proofs.Checked.{then-refused}
 use Rattle.laws.proofs.Every.{every-at}
 use Rattle.laws.proofs.Members.{flatMap-append}
-use Rattle.combine_gvcfs.specs.Contigs.{AllReady, OneReady, allRecords, recordsOn}
+use Rattle.combined_list.specs.Contigs.{AllReady, OneReady, allRecords, recordsOn}
 use Rattle.contig_walk.specs.Walk.{RecordsLaid, RecordsWalked}
 use Rattle.coalescing.specs.Steps.{Progress}
 use Rattle.contig_walk.specs.declared.Walked.{Walked}

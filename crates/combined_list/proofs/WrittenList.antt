@@ -1,6 +1,5 @@
 -- The two passes: the list is measured, and if there is room it is written.
 use Prim.Native.Nat.{_*_, _+_, _<_, _≤_, ℕ}
-use borrow.Author.Tests.{le-leb, lt-leb}
 use lib.ListN.{drop, drop-of-length-le, length, length-append, length-take, take}
 use lib.Seq.{sets}
 use mathlib.Core.Bool.{Bool, false, true}
@@ -20,7 +19,7 @@ use Rattle.definitions.specs.Printed.{printedHeader, printedList, printedRecord
 use Rattle.definitions.specs.Records.{Record}
 use Rattle.kv_write.proofs.Laying.{sets-front, sets-nothing}
 use Rattle.kv_write.specs.Laid.{Laid}
-use Rattle.laws.proofs.Checked.{accepted-same, not-refused, not-required, required, then, then-refused}
+use Rattle.laws.proofs.Checked.{accepted-same, not-refused, then, then-refused}
 use Rattle.laws.proofs.CombinedRecordsSound.{records-sound}
 use Rattle.laws.proofs.Every.{IfThere, every-of-each, flatMap-few}
 use Rattle.laws.proofs.RecordCount.{records-few}
@@ -32,8 +31,8 @@ use Rattle.list_header.specs.Measured.{limit}
 use Rattle.merged_records.specs.Loaded.{Loaded, chosenLetters}
 use Rattle.record_laws.proofs.Lengths.{mostHeader, mostRecord, record-few}
 use Rattle.tables.specs.Tables.{namesIn}
-use Rattle.combine_gvcfs.specs.Combined.{ListReady, Measurement, listTo, listWithin}
-use Rattle.combine_gvcfs.specs.Contigs.{AllReady, allRecords}
+use Rattle.combined_list.specs.Contigs.{AllReady, allRecords}
+use Rattle.combined_list.specs.WrittenList.{ListReady, Measurement, listTo, listWithin}
 use Rattle.contig_walk.specs.Walk.{RecordsLaid, RecordsWalked}
 use Rattle.contig_walk.specs.declared.Walked.the-variants as walked
 use Rattle.contig_walk.specs.declared.Walked.{Walked}
