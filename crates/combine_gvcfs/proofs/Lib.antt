@@ -1,4 +1,1 @@
-pub mod OneContig
-pub mod AllContigs
-pub mod WrittenList
 pub mod Loading

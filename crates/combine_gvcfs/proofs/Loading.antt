@@ -1,12 +1,11 @@
--- From the texts of a call to its tables, and from the tables to the sites by sample and the contigs in order.
+-- From the texts of a call to its tables, and from the answer for the tables to that for the texts.
 use Prim.Native.Nat.{_*_, _<_, _≤_, ℕ}
-use lib.ListN.{drop, getD, length, length-append, length-map, take}
-use lib.Seq.{take-append-seam}
+use lib.ListN.{getD, length, length-map}
 use mathlib.Core.Bool.{Bool, _&&_, false, true}
-use mathlib.Core.List.{List, [], _++_, _∷_, map}
+use mathlib.Core.List.{List, [], map}
 use mathlib.Core.Logic.{inl, inr, ⊎-elim}
 use mathlib.Core.Option.{Option, none, some}
-use mathlib.Core.Path.{_∙_, _≡_, ap, refl, subst, sym}
+use mathlib.Core.Path.{_∙_, _≡_, refl, subst, sym}
 use native.Mathlib.Omega.{arith}
 use Rattle.answers.proofs.Answers.{answered-refused}
 use Rattle.answers.specs.Answered.{Answered}
@@ -14,27 +13,21 @@ use Rattle.answers.specs.declared.Outcome.the-variants as outcome
 use Rattle.answers.specs.declared.Outcome.{Outcome}
 use Rattle.clip_and_reference.proofs.Groups.{GroupsFrom, in-order, not-in-order}
 use Rattle.cohort.specs.Cohort.{CohortTo, CohortUnread, fittingCohort, sitesIn}
-use Rattle.contigs.specs.Contigs.{ContigOrder}
-use Rattle.covering_sites.specs.Covering.{sampleSites}
-use Rattle.covering_sites.specs.Runs.{Runs}
+use Rattle.combined_list.specs.WrittenList.{CallLoaded, listWithin}
 use Rattle.definitions.specs.Answers.{scratchAfter}
-use Rattle.definitions.specs.Bytes.{compareBytes}
 use Rattle.definitions.specs.Checked.{Checked, accepted, isAccepted, refused}
 use Rattle.definitions.specs.ClipAndReference.{ChoiceFrom, LetterChoice, ReferenceSegment, optionalGroups, segmentOf, spanOf}
-use Rattle.definitions.specs.Cohort.{Site, cohortOf}
+use Rattle.definitions.specs.Cohort.{cohortOf}
 use Rattle.definitions.specs.CombinedList.{ChoiceFor, Input, Texts, combinedList, fits, inputOf}
-use Rattle.definitions.specs.Intervals.{contigsOf}
 use Rattle.definitions.specs.Limits.{maxSamples, maxSites}
 use Rattle.definitions.specs.Lines.{Line}
 use Rattle.definitions.specs.Lists.{missingOr, numbersFrom, onlyIf}
 use Rattle.indexed_groups.proofs.ShortTables.{no-segment-rows, no-span-rows}
 use Rattle.indexed_groups.proofs.Storing.{segments-still}
 use Rattle.indexed_groups.specs.Indexed.{SegmentsIndexed, SegmentsOnly, SpansIndexed, SpansOnly}
-use Rattle.kv_write.proofs.Laying.{sets-front}
 use Rattle.laws.proofs.Checked.{accepted-same, after-required, not-required, required, then, then-refused}
-use Rattle.laws.proofs.Every.{every-map, every-of-each}
+use Rattle.laws.proofs.Every.{every-of-each}
 use Rattle.laws.proofs.Members.{length-numbers}
-use Rattle.laws.proofs.Orders.{ascending-few}
 use Rattle.laws.proofs.ReferenceLetter.{first-letter, firstLetter}
 use Rattle.laws.proofs.SoundInput.{input-sound}
 use Rattle.laws.proofs.SoundRecords.{NameAfter}
@@ -42,46 +35,7 @@ use Rattle.laws.proofs.Tests.{all-three, clash}
 use Rattle.tables.proofs.Cleared.{scratch-same}
 use Rattle.tables.proofs.SameSites.{same-rows, same-sites}
 use Rattle.tables.specs.Tables.{nameAt, namesIn, siteAt, tableLength}
-use Rattle.combine_gvcfs.specs.Combined.{CallLoaded, CohortHeld, Combined, ListReady, TableWhole, TablesFit, TextsAnswered, TextsFit, listWithin, textsOf}
-
--- ---- the sites by sample, and the contigs in order
-
-module _ {s names rows : List ℕ} {samples sites : ℕ} {clipped : Bool} {clip : List ℕ} {referenced : Bool} {reference : List ℕ}
-    (call : CallLoaded s names rows samples sites clipped clip referenced reference) where
-  module _ {zeros firsts : List ℕ} {n : ℕ} (long : sites ≤ length zeros)
-      (o : ContigOrder s rows (call .loaded .input .cohort .sites) zeros firsts n) where
-    contigs-few : length (o .firsts) ≤ length zeros
-    unfolding contigsOf
-    contigs-few =
-        let many : length (o .firsts) ≡ length (contigsOf (call .loaded .input .cohort .sites)) = sym (length-map (o .firsts) _) ∙ ap length (o .names) in
-        let few = ascending-few compareBytes (map (λ (x : Site). x .contig) (call .loaded .input .cohort .sites)) in
-        omega (arith, many, few, length-map (call .loaded .input .cohort .sites) (λ (x : Site). x .contig), call .all-sites)
-
-    all-stored : firsts ≡ o .firsts ++ drop (length (o .firsts)) zeros
-    all-stored = o .stored ∙ sets-front zeros (o .firsts) contigs-few
-
-    pub firsts-within : n ≤ length firsts
-    firsts-within = omega (arith, o .counted, ap length all-stored ∙ length-append (o .firsts) (drop (length (o .firsts)) zeros))
-
-    firsts-are : take n firsts ≡ o .firsts
-    firsts-are = rw (o .counted, all-stored) (take-append-seam (o .firsts) _)
-
-    module _ {order runs : List ℕ} (g : Runs order runs samples (sampleSites rows sites)) where
-      pub list-ready : ListReady s names rows samples clipped clip referenced reference (take n firsts) order runs
-      list-ready = record {
-        tables = record { loaded = call .loaded; clip-given = call .clip-given; grouped = rw (← call .all-sites) g };
-        in-order = rw firsts-are (o .names);
-        firsts = rw firsts-are (every-map (λ i h. record { known = h .0; own = h .1 }) (o .each));
-        header = call .header;
-        names-are = call .names-are;
-      }
-
-      pub loaded-answered : (scratch : ℕ) {out out′ : List ℕ} {r : Outcome}
-          → ((ready : ListReady s names rows samples clipped clip referenced reference (take n firsts) order runs)
-          → Answered (listWithin (ready .tables .loaded) scratch (length out)) out out′ r)
-          → Answered (listWithin (call .loaded) scratch (length out)) out out′ r
-      unfolding list-ready
-      loaded-answered scratch says = says list-ready
+use Rattle.combine_gvcfs.specs.Combined.{CohortHeld, Combined, TableWhole, TablesFit, TextsAnswered, TextsFit, textsOf}
 
 -- ---- a text that may be left out
 

@@ -3,7 +3,7 @@ use Prim.Native.Nat.{_*_, _<_, _≤_, ℕ}
 use lib.Dec.{leb}
 use lib.ListN.{length}
 use mathlib.Core.Bool.{Bool, _&&_, true}
-use mathlib.Core.List.{List, flatMap, map}
+use mathlib.Core.List.{List}
 use mathlib.Core.Logic.{_⊎_}
 use mathlib.Core.Option.{Option}
 use mathlib.Core.Path.{_≡_}
@@ -11,21 +11,14 @@ use Rattle.answers.specs.Answered.{Answered, outcomeAnswer}
 use Rattle.answers.specs.declared.Outcome.{Outcome}
 use Rattle.cohort.specs.Cohort.{sitesIn}
 use Rattle.definitions.specs.Answers.{answerOf, outputAfter, scratchAfter}
-use Rattle.definitions.specs.Checked.{Checked, _>>=_, accepted, within}
+use Rattle.definitions.specs.Checked.{accepted}
 use Rattle.definitions.specs.ClipAndReference.{LetterChoice}
 use Rattle.definitions.specs.Cohort.{cohortOf}
-use Rattle.definitions.specs.CombinedList.{ChoiceFor, Texts, combinedList, fits, listOf}
-use Rattle.definitions.specs.Intervals.{contigsOf}
+use Rattle.definitions.specs.CombinedList.{ChoiceFor, Texts, combinedList, fits}
 use Rattle.definitions.specs.Limits.{maxSamples, maxSites}
 use Rattle.definitions.specs.Lists.{missingOr, onlyIf}
-use Rattle.definitions.specs.Printed.{printedList, printedRecord}
-use Rattle.definitions.specs.Records.{Record}
-use Rattle.laws.proofs.Every.{Every}
-use Rattle.list_header.specs.HeaderNames.{HeaderNames}
-use Rattle.merged_records.specs.Loaded.{Loaded, chosenLetters}
-use Rattle.tables.specs.Tables.{SiteRows, countsAt, namesIn, partAt, rowLength, tableLength}
-use Rattle.combine_gvcfs.specs.Contigs.{Grouped, IsFirst, allRecords}
-use Rattle.contig_walk.specs.Walk.{ClipGiven}
+use Rattle.combined_list.specs.WrittenList.{ListsFit}
+use Rattle.tables.specs.Tables.{SiteRows, countsAt, namesIn, rowLength, tableLength}
 use Rattle.combine_gvcfs.specs.declared.Tried.the-variants as tried
 use Rattle.combine_gvcfs.specs.declared.Tried.{Tried}
 
@@ -61,12 +54,6 @@ abbrev pub TextsFit : List ℕ → Bool → List ℕ → Bool → List ℕ → T
 TextsFit cohort clipped clip referenced reference =
     (fits cohort && missingOr fits (onlyIf clipped clip) && missingOr fits (onlyIf referenced reference)) ≡ true
 
--- lists that are filled have room for so many sites: their numbers by sample, those of first sites on a contig, and those on a contig
-pub record ListsFit (sites : ℕ) (order firsts chosen : List ℕ) : Type 0 where
-  pub for-order : sites ≤ length order
-  pub for-firsts : sites ≤ length firsts
-  pub for-chosen : length order ≤ length chosen
-
 -- a table has room for the groups of the other texts, or ends before their counts
 abbrev pub TableWhole : List ℕ → Type 0
 TableWhole rows = (tableLength ≤ length rows) ⊎ (length rows ≤ countsAt)
@@ -91,41 +78,3 @@ pub record CohortHeld (s names rows : List ℕ) (samples sites : ℕ) (clipped :
   pub few-sites : sites ≤ maxSites
   pub in-table : 2 * samples ≤ length names
   pub whole : TableWhole rows
-
--- ---- texts in order
-
--- the tables hold the cohort, and clip and reference are in order
-pub record CallLoaded (s names rows : List ℕ) (samples sites : ℕ) (clipped : Bool) (clip : List ℕ) (referenced : Bool) (reference : List ℕ) : Type 0 where
-  pub loaded : Loaded s rows samples referenced reference
-  pub clip-given : ClipGiven clipped clip rows (loaded .input)
-  pub header : HeaderNames s names samples
-  pub names-are : loaded .input .cohort .names ≡ namesIn s names samples
-  pub all-sites : sites ≡ length (loaded .input .cohort .sites)
-
--- the list of an input, if there is so much room
-abbrev pub listWithin : {s rows : List ℕ} {samples : ℕ} {referenced : Bool} {reference : List ℕ}
-    → Loaded s rows samples referenced reference → ℕ → ℕ → Checked (List ℕ)
-listWithin l scratch room = listOf (l .input) (chosenLetters l) scratch >>= within room
-
--- the same with the sites grouped by sample, and the contigs by their first sites, in byte order of name
-pub record ListReady (s names rows : List ℕ) (samples : ℕ) (clipped : Bool) (clip : List ℕ) (referenced : Bool) (reference contigs order bounds : List ℕ) : Type 0 where
-  pub tables : Grouped s rows samples clipped clip referenced reference order bounds
-  pub in-order : map (partAt 7 8 s rows) contigs ≡ contigsOf (tables .loaded .input .cohort .sites)
-  pub firsts : Every (IsFirst tables) contigs
-  pub header : HeaderNames s names samples
-  pub names-are : tables .loaded .input .cohort .names ≡ namesIn s names samples
-
--- and with all records, which were measured
-pub record Measurement (s names rows : List ℕ) (samples : ℕ) (clipped : Bool) (clip : List ℕ) (referenced : Bool) (reference contigs order bounds : List ℕ)
-    (scratch len count : ℕ) : Type 0 where
-  pub ready : ListReady s names rows samples clipped clip referenced reference contigs order bounds
-  pub records : List Record
-  pub merged : allRecords (ready .tables) scratch ≡ accepted records
-  pub len-is : len ≡ length (flatMap printedRecord records)
-  pub count-is : count ≡ length records
-
--- the list of those records
-abbrev pub listTo : {s names rows : List ℕ} {samples : ℕ} {clipped : Bool} {clip : List ℕ} {referenced : Bool}
-    {reference contigs order bounds : List ℕ} {scratch len count : ℕ}
-    → Measurement s names rows samples clipped clip referenced reference contigs order bounds scratch len count → List ℕ
-listTo m = printedList (m .ready .tables .loaded .input .cohort .names) (m .records)

@@ -1,2 +1,1 @@
-pub mod Contigs
 pub mod Combined

@@ -7,9 +7,9 @@ use mathlib.Core.Bool.{Bool, _&&_, false, not, true}
 use mathlib.Core.List.{List, [], _++_, _∷_, append-assoc, append-nil, flatMap, map-append}
 use mathlib.Core.Path.{_∙_, _≡_, ap, refl, sym}
 use native.Mathlib.Omega.{arith}
-use Rattle.called_genotypes.proofs.SoundCalled.{called-fits, called-is}
-use Rattle.called_genotypes.specs.Rows as called
-use Rattle.called_genotypes.specs.Rows.{CalledRecordFits, RecordRows, rowData, rowRecord}
+use Rattle.called_lines.proofs.SoundCalled.{called-fits, called-is}
+use Rattle.called_lines.specs.Rows as called
+use Rattle.called_lines.specs.Rows.{CalledRecordFits, RecordRows, rowData, rowRecord}
 use Rattle.definitions.specs.Alleles.{allelesOf, onlyNonRef}
 use Rattle.definitions.specs.Bytes.{comma, fieldsOf}
 use Rattle.definitions.specs.CalledList.{calledRecord, calledRecords, isCalled, printedCalledRecord}

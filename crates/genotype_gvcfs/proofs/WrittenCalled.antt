@@ -9,7 +9,7 @@ use Rattle.answers.proofs.Answers.{answered-refused, answered-written, is-withi
 use Rattle.answers.specs.Answered.{Answered}
 use Rattle.answers.specs.declared.Outcome.the-variants as outcome
 use Rattle.answers.specs.declared.Outcome.{Outcome}
-use Rattle.called_genotypes.proofs.SoundCalled.{called-few}
+use Rattle.called_lines.proofs.SoundCalled.{called-few}
 use Rattle.definitions.specs.CalledList.{calledRecord, calledRecords, isCalled, printedCalledList, printedCalledRecord}
 use Rattle.definitions.specs.Checked.{Checked, accepted, refused, within}
 use Rattle.definitions.specs.Limits.{maxSamples}

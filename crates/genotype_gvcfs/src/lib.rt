@@ -66,7 +66,7 @@ fn lay_called(
     let contig = tables::part(s, place.contig.at, place.contig.end);
     let reference = tables::part(s, place.alleles.refs.at, place.alleles.refs.end);
     let alts = tables::part(s, place.alleles.alts.at, place.alleles.alts.end);
-    let end = called_genotypes::put_called_record(
+    let end = called_lines::put_called_record(
         s,
         contig,
         place.pos,

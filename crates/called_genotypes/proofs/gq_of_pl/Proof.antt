@@ -1,6 +1,6 @@
 -- By whether there is a PL.
 use borrow.Author.Needs.{needs}
-use Rattle.called_genotypes.proofs.Values.{gq-there, no-gq}
+use Rattle.called_genotypes.proofs.Gq.{gq-there, no-gq}
 use Rattle.called_genotypes.proofs.gq_of_pl.Statement.{statement}
 use Rattle.called_genotypes.proofs.gq_of_pl.Tie as tie
 

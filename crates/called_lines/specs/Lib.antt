@@ -1,0 +1,2 @@
+pub mod SampleValues
+pub mod Rows

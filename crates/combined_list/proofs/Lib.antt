@@ -1,0 +1,4 @@
+pub mod OneContig
+pub mod AllContigs
+pub mod WrittenList
+pub mod ListReady

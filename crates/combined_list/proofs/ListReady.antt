@@ -1,0 +1,57 @@
+-- From the tables of a call to the sites by sample and the contigs in order.
+use Prim.Native.Nat.{_≤_, ℕ}
+use lib.ListN.{drop, length, length-append, length-map, take}
+use lib.Seq.{take-append-seam}
+use mathlib.Core.Bool.{Bool}
+use mathlib.Core.List.{List, _++_, map}
+use mathlib.Core.Path.{_∙_, _≡_, ap, sym}
+use native.Mathlib.Omega.{arith}
+use Rattle.answers.specs.Answered.{Answered}
+use Rattle.answers.specs.declared.Outcome.{Outcome}
+use Rattle.contigs.specs.Contigs.{ContigOrder}
+use Rattle.covering_sites.specs.Covering.{sampleSites}
+use Rattle.covering_sites.specs.Runs.{Runs}
+use Rattle.definitions.specs.Bytes.{compareBytes}
+use Rattle.definitions.specs.Cohort.{Site}
+use Rattle.definitions.specs.Intervals.{contigsOf}
+use Rattle.kv_write.proofs.Laying.{sets-front}
+use Rattle.laws.proofs.Every.{every-map}
+use Rattle.laws.proofs.Orders.{ascending-few}
+use Rattle.combined_list.specs.WrittenList.{CallLoaded, ListReady, listWithin}
+
+module _ {s names rows : List ℕ} {samples sites : ℕ} {clipped : Bool} {clip : List ℕ} {referenced : Bool} {reference : List ℕ}
+    (call : CallLoaded s names rows samples sites clipped clip referenced reference) where
+  module _ {zeros firsts : List ℕ} {n : ℕ} (long : sites ≤ length zeros)
+      (o : ContigOrder s rows (call .loaded .input .cohort .sites) zeros firsts n) where
+    contigs-few : length (o .firsts) ≤ length zeros
+    unfolding contigsOf
+    contigs-few =
+        let many : length (o .firsts) ≡ length (contigsOf (call .loaded .input .cohort .sites)) = sym (length-map (o .firsts) _) ∙ ap length (o .names) in
+        let few = ascending-few compareBytes (map (λ (x : Site). x .contig) (call .loaded .input .cohort .sites)) in
+        omega (arith, many, few, length-map (call .loaded .input .cohort .sites) (λ (x : Site). x .contig), call .all-sites)
+
+    all-stored : firsts ≡ o .firsts ++ drop (length (o .firsts)) zeros
+    all-stored = o .stored ∙ sets-front zeros (o .firsts) contigs-few
+
+    pub firsts-within : n ≤ length firsts
+    firsts-within = omega (arith, o .counted, ap length all-stored ∙ length-append (o .firsts) (drop (length (o .firsts)) zeros))
+
+    firsts-are : take n firsts ≡ o .firsts
+    firsts-are = rw (o .counted, all-stored) (take-append-seam (o .firsts) _)
+
+    module _ {order runs : List ℕ} (g : Runs order runs samples (sampleSites rows sites)) where
+      pub list-ready : ListReady s names rows samples clipped clip referenced reference (take n firsts) order runs
+      list-ready = record {
+        tables = record { loaded = call .loaded; clip-given = call .clip-given; grouped = rw (← call .all-sites) g };
+        in-order = rw firsts-are (o .names);
+        firsts = rw firsts-are (every-map (λ i h. record { known = h .0; own = h .1 }) (o .each));
+        header = call .header;
+        names-are = call .names-are;
+      }
+
+      pub loaded-answered : (scratch : ℕ) {out out′ : List ℕ} {r : Outcome}
+          → ((ready : ListReady s names rows samples clipped clip referenced reference (take n firsts) order runs)
+          → Answered (listWithin (ready .tables .loaded) scratch (length out)) out out′ r)
+          → Answered (listWithin (call .loaded) scratch (length out)) out out′ r
+      unfolding list-ready
+      loaded-answered scratch says = says list-ready

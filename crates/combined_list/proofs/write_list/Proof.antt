@@ -1,0 +1,51 @@
+-- The header, then the records behind it.
+use borrow.Author.Needs.{needs}
+use native.Mathlib.Omega.{arith}
+use Rattle.combined_list.proofs.WrittenList.{count-low, list-written, writing}
+use Rattle.combined_list.proofs.write_list.Statement.{statement}
+use Rattle.combined_list.proofs.write_list.Tie as tie
+
+cast-put-header : tie.Need-cast-put-header
+cast-put-header c = omega (arith, count-low (c .before .before .before .before .before .before .before .before .before .before .before .before .before .before .pre .0))
+
+put-header-requires : tie.Need-put-header-requires
+put-header-requires c κs = search needs
+
+walk-contigs-requires : tie.Need-walk-contigs-requires
+walk-contigs-requires c κs = (writing (c .before .before .before .before .before .before .before .before .before .before .before .before .before .before .before .before .before .before .before .before .before .before .before .before .pre .0) _ (c .before .before .before .before .before .before .before .before .before .before .before .before .before .before .before .before .before .before .before .before .before .before .before .before .pre .1) (c .before .before .before .before .before .before .before .before .put-header .ensures), (c .before .before .before .before .before .before .before .before .before .before .before .before .before .before .before .before .before .before .before .before .before .before .before .before .pre .2), (c .before .before .before .before .before .before .before .before .before .before .before .before .before .before .before .before .before .before .before .before .before .before .before .before .pre .3))
+
+same-length : tie.Need-same-length
+same-length c = search needs
+
+same-length-2 : tie.Need-same-length-2
+same-length-2 c = search needs
+
+same-length-3 : tie.Need-same-length-3
+same-length-3 c = search needs
+
+same-length-4 : tie.Need-same-length-4
+same-length-4 c = search needs
+
+same-length-5 : tie.Need-same-length-5
+same-length-5 c = search needs
+
+same-length-6 : tie.Need-same-length-6
+same-length-6 c = search needs
+
+returns : tie.Need-returns
+returns c = λ m exact. list-written m _ (c .before .before .before .before .before .before .before .before .before .before .before .before .before .before .before .before .before .before .before .before .before .before .before .before .before .before .before .before .before .before .before .before .before .before .before .before .before .pre .1) (c .before .before .before .before .before .before .before .before .before .before .before .before .before .before .before .before .before .before .before .before .before .put-header .ensures) _ (c .before .before .before .before .before .before .before .before .before .before .before .before .walk-contigs .ensures) exact
+
+pub write-list-spec : {M : Type 1} → statement M
+write-list-spec =
+    tie.close
+    (tie.spec
+    cast-put-header
+    put-header-requires
+    walk-contigs-requires
+    same-length
+    same-length-2
+    same-length-3
+    same-length-4
+    same-length-5
+    same-length-6
+    returns)

@@ -1,0 +1,80 @@
+-- The header is measured; if there is room for all, the list is written.
+use borrow.Author.Needs.{needs}
+use native.Mathlib.Omega.{arith}
+use Rattle.combined_list.proofs.OneContig.{taken-exactly}
+use Rattle.combined_list.proofs.WrittenList.{count-low, end-low, fitting-answered, full-answered, part-low}
+use Rattle.combined_list.proofs.write_measured.Statement.{statement}
+use Rattle.combined_list.proofs.write_measured.Tie as tie
+
+cast-put-header : tie.Need-cast-put-header
+cast-put-header c = omega (arith, count-low (c .before .before .before .before .before .before .before .before .before .before .before .before .before .before .pre .0))
+
+slice-relend-prefix-put-header : tie.Need-slice-relend-prefix-put-header
+slice-relend-prefix-put-header c = search needs
+
+slice-aggregate-put-header : tie.Need-slice-aggregate-put-header
+slice-aggregate-put-header c = search needs
+
+put-header-requires : tie.Need-put-header-requires
+put-header-requires c κs = search needs
+
+add-end : tie.Need-add-end
+add-end c = omega (arith, end-low (c .before .before .before .before .before .before .before .before .before .before .before .before .before .before .before .before .before .before .pre .0) (c .before .before .put-header .ensures))
+
+same-length : tie.Need-same-length
+same-length c = search needs
+
+returns : tie.Need-returns
+returns c = λ m. full-answered m (c .before .before .before .put-header .ensures) _ (c .if1 .taken)
+
+slice-relend-prefix-write-list : tie.Need-slice-relend-prefix-write-list
+slice-relend-prefix-write-list c = search needs
+
+slice-aggregate-write-list : tie.Need-slice-aggregate-write-list
+slice-aggregate-write-list c = taken-exactly _ _ (c .before .before .before .before .before .before .if1 .left)
+
+write-list-requires : tie.Need-write-list-requires
+write-list-requires c κs = ((c .before .before .before .before .before .before .before .before .before .before .before .before .before .before .before .before .before .before .before .before .before .before .before .before .before .pre .0), part-low (c .before .before .before .before .before .before .before .before .before .before .before .before .before .before .before .before .before .before .before .before .before .before .before .before .before .pre .0) (c .before .before .before .before .before .before .before .before .before .put-header .ensures) _, (c .before .before .before .before .before .before .before .before .before .before .before .before .before .before .before .before .before .before .before .before .before .before .before .before .before .pre .1), (c .before .before .before .before .before .before .before .before .before .before .before .before .before .before .before .before .before .before .before .before .before .before .before .before .before .pre .2))
+
+same-length-2 : tie.Need-same-length-2
+same-length-2 c = search needs
+
+same-length-3 : tie.Need-same-length-3
+same-length-3 c = search needs
+
+same-length-4 : tie.Need-same-length-4
+same-length-4 c = search needs
+
+same-length-5 : tie.Need-same-length-5
+same-length-5 c = search needs
+
+same-length-6 : tie.Need-same-length-6
+same-length-6 c = search needs
+
+same-length-7 : tie.Need-same-length-7
+same-length-7 c = search needs
+
+returns-2 : tie.Need-returns-2
+returns-2 c = λ m. fitting-answered m (c .before .before .before .before .before .before .before .before .before .before .before .before .before .before .before .before .before .before .before .before .before .before .put-header .ensures) _ (c .before .before .before .before .before .before .before .before .before .before .before .before .before .before .before .before .before .before .before .if1 .left) (c .before .before .before .before .before .before .before .before .before .before .before .before .write-list .ensures)
+
+pub write-measured-spec : {M : Type 1} → statement M
+write-measured-spec =
+    tie.close
+    (tie.spec
+    cast-put-header
+    slice-relend-prefix-put-header
+    slice-aggregate-put-header
+    put-header-requires
+    add-end
+    same-length
+    returns
+    slice-relend-prefix-write-list
+    slice-aggregate-write-list
+    write-list-requires
+    same-length-2
+    same-length-3
+    same-length-4
+    same-length-5
+    same-length-6
+    same-length-7
+    returns-2)

@@ -1,0 +1,2 @@
+pub mod Contigs
+pub mod WrittenList
