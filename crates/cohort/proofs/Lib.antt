@@ -1,4 +1,5 @@
 pub mod Contigs
+pub mod Numbers
 pub mod Rows
 pub mod Sites
 pub mod Whole

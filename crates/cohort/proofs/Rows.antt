@@ -135,7 +135,7 @@ module _ (s rows : List ℕ) (count : ℕ) (p : SitePlace) (contig : ℕ) (a : S
       in-text k most s after count (rw (here k (omega arith), none-stored) (unfold isStored in refl))
       ∙ rw (part-here (k + 1) (k + 2) (omega arith) h)
 
-  site-here : siteAt s after count ≡ siteFrom s p a v
+  pub site-here : siteAt s after count ≡ siteFrom s p a v
   unfolding siteAt
   site-here = rw (
     here 0 (omega arith),

@@ -8,7 +8,7 @@ ghost use lib.Seq.{sets};
 ghost use Rattle.definitions.specs.Answers.{scratchAfter};
 ghost use Rattle.definitions.specs.Bytes.{sameBytes};
 ghost use Rattle.definitions.specs.Limits.{maxSamples};
-ghost use Rattle.tables.specs.Tables.{column, partAt};
+ghost use Rattle.tables.specs.Tables.{column, partAt, withNumbers};
 ghost use Rattle.cohort.specs.Cohort.{CohortAt, CohortFitting, ContigsNumbered, SitesRead, firstOn, rowOf};
 use sample_names::HeaderRead;
 use site_groups::SiteAlleles;
@@ -60,6 +60,17 @@ pub fn put_site(
         0,
     ];
     tables::store_row(rows, site * 22, &row);
+}
+
+// Puts the numbers of AD and PL, which stand at the fronts of slices, into a site's row, in place of where the text has them: each
+// list that has some, and not more than its slice.
+fn put_numbers(rows: &mut [usize], site: usize, values: SiteValues, ad: &[u32], pl: &[u32])
+    requires { ⌜ site * 22 + 22 ≤ length (now rows) ⌝ }
+    ensures { λ _. ⌜ now (rows .exit) ≡ withNumbers (site * 22 + 16) 5 (now (pl .entry)) (values .pl .count)
+        (withNumbers (site * 22 + 13) 2 (now (ad .entry)) (values .ad .count) (now (rows .entry))) ⌝ }
+{
+    tables::store_numbers(rows, site * 22 + 13, 2, ad, values.ad.count);
+    tables::store_numbers(rows, site * 22 + 16, 5, pl, values.pl.count);
 }
 
 // Whether a site is the first on its contig, and that contig has this name.
@@ -114,6 +125,7 @@ fn read_sites(s: &[u8], at: usize, samples: usize, rows: &mut [usize]) -> SitesA
                 let name = tables::part(s, place.contig.at, place.contig.end);
                 let contig = contig_number(s, rows, count, name);
                 put_site(rows, count, place, contig, alleles, values, block);
+                put_numbers(rows, count, values, &ad, &pl);
                 count += 1;
                 next = values.next;
             }

@@ -190,6 +190,8 @@ siteGroupOf s at samples before = siteTextOf (siteGroup s at) >>= checkedSite sa
 pub record SiteTo (s : List ℕ) (at samples before : ℕ) (p : SitePlace) (a : SiteAlleles) (v : SiteValues) (block : Bool) : Type 0 where
   pub value : siteGroupOf s at samples before ≡ accepted (siteFrom s p a v)
   pub is-block : block ≡ isBlock (siteFrom s p a v .alleles)
+  pub ad-count : Counted s (v .ad)
+  pub pl-count : Counted s (v .pl)
   pub behind : Behind s at siteLines (v .next)
   pub forward : at < v .next
   pub within : v .next ≤ length s

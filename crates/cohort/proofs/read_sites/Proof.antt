@@ -2,9 +2,10 @@
 use Prim.Native.Nat.{_-_}
 use borrow.Author.Needs.{needs}
 use lib.ListN.{length}
-use mathlib.Core.Path.{_∙_, _≡_, refl}
+use mathlib.Core.Path.{_∙_, _≡_, refl, sym}
 use native.Mathlib.Omega.{arith}
-use Rattle.cohort.proofs.Sites.{Reading, few-before, no-row, reading-start, site-read, site-refused, sites-end}
+use Rattle.cohort.proofs.Numbers.{ListsRead, numbers-read}
+use Rattle.cohort.proofs.Sites.{Reading, few-before, no-row, reading-start, site-refused, sites-end}
 use Rattle.site_groups.specs.SiteGroups.{SiteRead}
 use Rattle.cohort.proofs.read_sites.Statement.{statement}
 use Rattle.cohort.proofs.read_sites.Tie as tie
@@ -19,10 +20,10 @@ loop-holds : tie.Need-loop-holds Inv-loop μ-loop
 loop-holds c = (reading-start _ _ _ _, refl, refl)
 
 slice-aggregate-site-at : tie.Need-slice-aggregate-site-at Inv-loop μ-loop
-slice-aggregate-site-at c = let long = c .before .before .loop .inv .1 in search needs
+slice-aggregate-site-at c = let long = (c .before .before .loop .inv .1) in search needs
 
 slice-aggregate-site-at-2 : tie.Need-slice-aggregate-site-at-2 Inv-loop μ-loop
-slice-aggregate-site-at-2 c = let long = c .before .before .before .loop .inv .2 in search needs
+slice-aggregate-site-at-2 c = let long = (c .before .before .before .loop .inv .2) in search needs
 
 site-at-requires : tie.Need-site-at-requires Inv-loop μ-loop
 site-at-requires c κs = search needs
@@ -31,56 +32,65 @@ enum-known-group : tie.Need-enum-known-group Inv-loop μ-loop
 enum-known-group c = search needs
 
 same-length : tie.Need-same-length Inv-loop μ-loop
-same-length c = c .before .before .before .before .before .before .before .before .before .loop .inv .0 .long
+same-length c = (c .before .before .before .before .before .before .before .before .before .loop .inv .0 .long)
 
 returns : tie.Need-returns Inv-loop μ-loop
 unfolding SiteRead
-returns c = site-refused _ _ _ _ _ _ _ (c .before .before .before .before .before .before .before .before .before .loop .inv .0) (c .before .before .before .before .before .before .before .before .loop-test .taken) _ ((rw (c .before .group .given .1) at (c .before .before .before .before .before .site-at .ensures)) .0)
+returns c = site-refused _ _ _ _ _ _ _ ((c .before .before .before .before .before .before .before .before .before .loop .inv .0)) ((c .before .before .before .before .before .before .before .before .loop-test .taken)) _ ((rw ((c .before .group .given .1)) at ((c .before .before .before .before .before .site-at .ensures))) .0)
 
 enum-known-group-2 : tie.Need-enum-known-group-2 Inv-loop μ-loop
 enum-known-group-2 c = search needs
 
 mul-if1 : tie.Need-mul-if1 Inv-loop μ-loop
-mul-if1 c = omega (arith, c .before .before .before .before .before .before .before .before .before .loop .inv .0 .few)
+mul-if1 c = omega (arith, (c .before .before .before .before .before .before .before .before .before .loop .inv .0 .few))
 
 add-if1 : tie.Need-add-if1 Inv-loop μ-loop
-add-if1 c = omega (arith, c .before .before .before .before .before .before .before .before .before .loop .inv .0 .few)
+add-if1 c = omega (arith, (c .before .before .before .before .before .before .before .before .before .loop .inv .0 .few))
 
 same-length-2 : tie.Need-same-length-2 Inv-loop μ-loop
-same-length-2 c = c .before .before .before .before .before .before .before .before .before .before .loop .inv .0 .long
+same-length-2 c = (c .before .before .before .before .before .before .before .before .before .before .loop .inv .0 .long)
 
 returns-2 : tie.Need-returns-2 Inv-loop μ-loop
 unfolding SiteRead
-returns-2 c = let to = (rw (c .before .before .group2 .given .1) at (c .before .before .before .before .before .before .site-at .ensures)) .0 in
-    no-row _ _ _ _ _ _ _ (c .before .before .before .before .before .before .before .before .before .before .loop .inv .0) (c .before .before .before .before .before .before .before .before .before .loop-test .taken) (to .value) (omega (arith, c .if1 .taken))
+returns-2 c = let to = (rw ((c .before .before .group2 .given .1)) at ((c .before .before .before .before .before .before .site-at .ensures))) .0 in no-row _ _ _ _ _ _ _ ((c .before .before .before .before .before .before .before .before .before .before .loop .inv .0)) ((c .before .before .before .before .before .before .before .before .before .loop-test .taken)) (to .value) (omega (arith, (c .if1 .taken)))
 
 part-requires : tie.Need-part-requires Inv-loop μ-loop
 part-requires c κs = search needs
 
 contig-number-requires : tie.Need-contig-number-requires Inv-loop μ-loop
-contig-number-requires c κs = c .before .before .before .before .before .before .before .before .before .before .before .before .loop .inv .0 .numbered .contigs
+contig-number-requires c κs = (c .before .before .before .before .before .before .before .before .before .before .before .before .loop .inv .0 .numbered .contigs)
 
 put-site-requires : tie.Need-put-site-requires Inv-loop μ-loop
-put-site-requires c κs = omega (arith, c .before .before .before .before .if1 .left)
+put-site-requires c κs = omega (arith, (c .before .before .before .before .if1 .left))
+
+slice-aggregate-put-numbers : tie.Need-slice-aggregate-put-numbers Inv-loop μ-loop
+slice-aggregate-put-numbers c = sym ((c .before .before .before .before .before .before .before .before .before .before .before .before .before .before .before .site-at .kept .1 .1 .1 .1 .0) ∙ (c .before .before .before .before .before .before .before .before .before .before .before .before .before .before .before .before .before .before .before .loop .inv .1))
+
+slice-aggregate-put-numbers-2 : tie.Need-slice-aggregate-put-numbers-2 Inv-loop μ-loop
+slice-aggregate-put-numbers-2 c = sym ((c .before .before .before .before .before .before .before .before .before .before .before .before .before .before .before .before .site-at .kept .1 .1 .1 .1 .1 .0) ∙ (c .before .before .before .before .before .before .before .before .before .before .before .before .before .before .before .before .before .before .before .before .loop .inv .2))
+
+put-numbers-requires : tie.Need-put-numbers-requires Inv-loop μ-loop
+put-numbers-requires c κs = omega (arith, (c .before .before .before .before .before .before .before .before .before .before .if1 .left), (c .before .before .before .before .before .put-site .kept .0))
 
 add-count : tie.Need-add-count Inv-loop μ-loop
-add-count c = omega (arith, c .before .before .before .before .before .before .before .before .before .before .before .before .before .before .before .before .before .loop .inv .0 .few)
+add-count c = omega (arith, (c .before .before .before .before .before .before .before .before .before .before .before .before .before .before .before .before .before .before .before .before .before .before .before .loop .inv .0 .few))
 
 loop-less : tie.Need-loop-less Inv-loop μ-loop
 unfolding SiteRead
-loop-less c = let to = (rw (c .before .before .before .before .before .before .before .before .before .group2 .given .1) at (c .before .before .before .before .before .before .before .before .before .before .before .before .before .site-at .ensures)) .0 in
-    omega (arith, to .forward, to .within)
+loop-less c = let to = (rw ((c .before .before .before .before .before .before .before .before .before .before .before .before .before .before .before .group2 .given .1)) at ((c .before .before .before .before .before .before .before .before .before .before .before .before .before .before .before .before .before .before .before .site-at .ensures))) .0 in omega (arith, to .forward, to .within)
 
 loop-again : tie.Need-loop-again Inv-loop μ-loop
 unfolding SiteRead
-loop-again c = let to = (rw (c .before .before .before .before .before .before .before .before .before .group2 .given .1) at (c .before .before .before .before .before .before .before .before .before .before .before .before .before .site-at .ensures)) .0 in
-    (site-read _ _ _ _ _ _ _ (c .before .before .before .before .before .before .before .before .before .before .before .before .before .before .before .before .before .loop .inv .0) (c .before .before .before .before .before .before .before .before .before .before .before .before .before .before .before .before .loop-test .taken) _ _ _ _ to _ (rw (c .before .before .before .before .before .before .part .ensures) at (c .before .before .before .before .contig-number .ensures)) (omega (arith, c .before .before .before .before .before .before .before .if1 .left)) _ (c .before .before .put-site .kept .0) (c .before .before .put-site .ensures), (c .before .before .before .before .before .before .before .before .before .before .before .before .before .site-at .kept .1 .1 .1 .1 .0) ∙ (c .before .before .before .before .before .before .before .before .before .before .before .before .before .before .before .before .before .loop .inv .1), (c .before .before .before .before .before .before .before .before .before .before .before .before .before .site-at .kept .1 .1 .1 .1 .1 .0) ∙ (c .before .before .before .before .before .before .before .before .before .before .before .before .before .before .before .before .before .loop .inv .2))
+loop-again c = let g = rw (c .before .before .before .before .before .before .before .before .before .before .before .before .before .before .before .group2 .given .1) at (c .before .before .before .before .before .before .before .before .before .before .before .before .before .before .before .before .before .before .before .site-at .ensures) in
+    let ad-long = (c .before .before .before .before .before .before .before .before .before .before .before .before .before .before .before .before .before .before .before .site-at .kept .1 .1 .1 .1 .0) ∙ (c .before .before .before .before .before .before .before .before .before .before .before .before .before .before .before .before .before .before .before .before .before .before .before .loop .inv .1) in
+    let pl-long = (c .before .before .before .before .before .before .before .before .before .before .before .before .before .before .before .before .before .before .before .site-at .kept .1 .1 .1 .1 .1 .0) ∙ (c .before .before .before .before .before .before .before .before .before .before .before .before .before .before .before .before .before .before .before .before .before .before .before .loop .inv .2) in
+    (numbers-read (c .before .before .before .before .before .before .before .before .before .before .before .before .before .before .before .before .before .before .before .before .before .before .before .loop .inv .0) (c .before .before .before .before .before .before .before .before .before .before .before .before .before .before .before .before .before .before .before .before .before .before .loop-test .taken) (g .0) _ (rw (c .before .before .before .before .before .before .before .before .before .before .before .before .part .ensures) at (c .before .before .before .before .before .before .before .before .before .before .contig-number .ensures)) (omega (arith, (c .before .before .before .before .before .before .before .before .before .before .before .before .before .if1 .left))) (record { ad₀ = _; pl₀ = _; ad-stored = g .1 .0; pl-stored = g .1 .1; ad-long = ad-long; pl-long = pl-long }) (c .before .before .before .before .before .before .before .before .put-site .ensures) (c .before .before .put-numbers .ensures), ad-long, pl-long)
 
 same-length-3 : tie.Need-same-length-3 Inv-loop μ-loop
-same-length-3 c = c .before .loop .inv .0 .long
+same-length-3 c = (c .before .loop .inv .0 .long)
 
 returns-3 : tie.Need-returns-3 Inv-loop μ-loop
-returns-3 c = sites-end _ _ _ _ _ _ _ (c .before .loop .inv .0) (c .loop-test .left)
+returns-3 c = sites-end _ _ _ _ _ _ _ ((c .before .loop .inv .0)) ((c .loop-test .left))
 
 pub read-sites-spec : {M : Type 1} → statement M
 read-sites-spec =
@@ -103,6 +113,9 @@ read-sites-spec =
     part-requires
     contig-number-requires
     put-site-requires
+    slice-aggregate-put-numbers
+    slice-aggregate-put-numbers-2
+    put-numbers-requires
     add-count
     loop-less
     loop-again
