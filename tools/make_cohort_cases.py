@@ -92,11 +92,20 @@ def read_site(lines, before, samples):
     return g, where
 
 
+def list_columns(numbers, where, words):
+    """A list's columns: how many numbers stand in those behind, two in each; or 0 and where the text has them."""
+    if not numbers or len(numbers) > 2 * words:
+        return ([0] + where + [0] * words)[: words + 1]
+    padded = numbers + [0] * (2 * words - len(numbers))
+    return [len(numbers)] + [padded[2 * j] + (padded[2 * j + 1] << 32) for j in range(words)]
+
+
 def row_of(g, where, contigs):
     contigs.append(g["contig"])
     block = int(g["alt"] == b"<NON_REF>")
     numbers = [g["site"], contigs.index(g["contig"]), g["start"], g["end"], block, g["gq"], g["dp"]]
-    return numbers + [at for key in ("contig", "ref", "alt", "ad", "pl") for at in where[key]]
+    parts = [at for key in ("contig", "ref", "alt") for at in where[key]]
+    return numbers + parts + list_columns(g["ad"], where["ad"], 2) + list_columns(g["pl"], where["pl"], 5)
 
 
 def read(text):
@@ -118,9 +127,11 @@ def same_sites(text, samples, rows):
     """Whether the model reads the sites that the rows stand for."""
     pairs = [line.split("=", 1) for line in text.decode().split("\n")[:-1]][1 + samples :]
     part = lambda row, k: text[row[k] : row[k + 1]].decode() or "."
+    stored = lambda row, k: ",".join(str(row[k + 1 + i // 2] >> 32 * (i % 2) & 0xFFFFFFFF) for i in range(row[k]))
+    values = lambda row, k: stored(row, k) or part(row, k + 1)
     coded = lambda v: MISSING if v == "." else int(v)
     for row, s in zip(rows, map(model.Site, model.groups(pairs, 10)), strict=True):
-        ours = row[:1] + row[2:7] + [part(row, 7), part(row, 9), part(row, 11), part(row, 13), part(row, 15)]
+        ours = row[:1] + row[2:7] + [part(row, 7), part(row, 9), part(row, 11), values(row, 13), values(row, 16)]
         place = [s.sample, s.start, s.end, int(s.block), coded(s.gq), coded(s.dp), s.contig]
         if ours != place + [s.alleles[0], model.commas(s.alleles[1:]), model.commas(s.ad), model.commas(s.pl)]:
             return False

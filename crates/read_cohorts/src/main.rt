@@ -3,7 +3,7 @@
 // A case is a line `head tail foot times name`, four numbers and a word, and behind its LF `head` bytes, `tail` bytes and `foot` bytes.
 // Its text is the head, the tail `times` times, and the foot, so that 4,097 sites are a short case. The input ends at 131,072 bytes, a text at 300,000.
 //
-// For each case a line: the name, and `samples=2 sites=3` or `refused=1`. Then the rows of at most three sites, 17 numbers to a line.
+// For each case a line: the name, and `samples=2 sites=3` or `refused=1`. Then the rows of at most three sites, 22 numbers to a line.
 // tools/make_cohort_cases.py writes the input, and what is to be printed, from document 01's rules.
 ghost use Prim.Native.Nat.{_<_};
 ghost use lib.ListN.{length};
@@ -60,14 +60,14 @@ fn make_text(s: &[u8], case: Case, times: usize, text: &mut [u8]) -> usize {
 
 // What stands behind the number at a place of the rows.
 fn print_separator(place: usize) {
-    if place % 17 == 16 {
+    if place % 22 == 21 {
         print(b"\n");
     } else {
         print(b" ");
     }
 }
 
-// Prints the first so many numbers of the rows, 17 to a line.
+// Prints the first so many numbers of the rows, 22 to a line.
 fn print_rows(rows: &[usize], count: usize) {
     let mut i = 0;
     while i < count {
@@ -87,7 +87,7 @@ fn print_cohort(samples: usize, sites: usize, rows: &[usize]) {
     print_number(sites);
     print(b"\n");
     if sites <= 3 {
-        print_rows(rows, sites * 17);
+        print_rows(rows, sites * 22);
     }
 }
 

@@ -18,9 +18,10 @@ same-length : tie.Need-same-length
 same-length c = search needs
 
 returns : tie.Need-returns
-returns c = let e = rw ((c .before .before .before .before .before .before .column .ensures)) at (sym ((c .before .before .before .before .before .is-stored .ensures)) ∙ (c .before .before .before .before .if1 .taken)) in
-    (rw (in-row ((c .before .before .before .before .before .before .before .before .before .before .args) .k) ((c .before .before .before .before .before .before .before .before .before .before .args) .most) ((c .before .before .before .before .before .before .before .before .before .before .args) .s .now) ((c .before .before .before .before .before .before .before .before .before .before .args) .rows .now) ((c .before .before .before .before .before .before .before .before .before .before .args) .site) e) ((c .before .before .before .before .before .before .column .ensures) ∙ sym (stored-length ((c .before .before .before .before .before .before .before .before .before .before .args) .k) ((c .before .before .before .before .before .before .before .before .before .before .args) .most) ((c .before .before .before .before .before .before .before .before .before .before .args) .s .now) ((c .before .before .before .before .before .before .before .before .before .before .args) .rows .now) ((c .before .before .before .before .before .before .before .before .before .before .args) .site))),
-    rw (first-in-row ((c .before .before .before .before .before .before .before .before .before .before .args) .k) ((c .before .before .before .before .before .before .before .before .before .before .args) .most) ((c .before .before .before .before .before .before .before .before .before .before .args) .s .now) ((c .before .before .before .before .before .before .before .before .before .before .args) .rows .now) ((c .before .before .before .before .before .before .before .before .before .before .args) .site) e) ((c .before .before .stored-numbers .ensures)))
+returns c = let e = rw ((c .before .before .before .before .before .before .column .ensures)) at (sym ((c .before .before .before .before .before .is-stored .ensures)) ∙ (c .before .before .before .before .if1 .taken)) in (
+  rw (in-row ((c .before .before .before .before .before .before .before .before .before .before .args) .k) ((c .before .before .before .before .before .before .before .before .before .before .args) .most) ((c .before .before .before .before .before .before .before .before .before .before .args) .s .now) ((c .before .before .before .before .before .before .before .before .before .before .args) .rows .now) ((c .before .before .before .before .before .before .before .before .before .before .args) .site) e) ((c .before .before .before .before .before .before .column .ensures) ∙ sym (stored-length ((c .before .before .before .before .before .before .before .before .before .before .args) .k) ((c .before .before .before .before .before .before .before .before .before .before .args) .most) ((c .before .before .before .before .before .before .before .before .before .before .args) .s .now) ((c .before .before .before .before .before .before .before .before .before .before .args) .rows .now) ((c .before .before .before .before .before .before .before .before .before .before .args) .site))),
+  rw (first-in-row ((c .before .before .before .before .before .before .before .before .before .before .args) .k) ((c .before .before .before .before .before .before .before .before .before .before .args) .most) ((c .before .before .before .before .before .before .before .before .before .before .args) .s .now) ((c .before .before .before .before .before .before .before .before .before .before .args) .rows .now) ((c .before .before .before .before .before .before .before .before .before .before .args) .site) e) ((c .before .before .stored-numbers .ensures)),
+)
 
 add-part-at : tie.Need-add-part-at
 add-part-at c = search needs
@@ -38,9 +39,10 @@ same-length-2 : tie.Need-same-length-2
 same-length-2 c = search needs
 
 returns-2 : tie.Need-returns-2
-returns-2 c = let e = rw ((c .before .before .before .before .before .before .before .column .ensures)) at (sym ((c .before .before .before .before .before .before .is-stored .ensures)) ∙ (c .before .before .before .before .before .if1 .left)) in
-    (rw (in-text ((c .before .before .before .before .before .before .before .before .before .before .before .args) .k) ((c .before .before .before .before .before .before .before .before .before .before .before .args) .most) ((c .before .before .before .before .before .before .before .before .before .before .before .args) .s .now) ((c .before .before .before .before .before .before .before .before .before .before .before .args) .rows .now) ((c .before .before .before .before .before .before .before .before .before .before .before .args) .site) e, ← (c .before .before .before .before .part-at .ensures)) ((c .before .before .numbers-in .ensures .0)),
-    rw (first-in-text ((c .before .before .before .before .before .before .before .before .before .before .before .args) .k) ((c .before .before .before .before .before .before .before .before .before .before .before .args) .most) ((c .before .before .before .before .before .before .before .before .before .before .before .args) .s .now) ((c .before .before .before .before .before .before .before .before .before .before .before .args) .rows .now) ((c .before .before .before .before .before .before .before .before .before .before .before .args) .site) e, ← (c .before .before .before .before .part-at .ensures)) ((c .before .before .numbers-in .ensures .1)))
+returns-2 c = let e = rw ((c .before .before .before .before .before .before .before .column .ensures)) at (sym ((c .before .before .before .before .before .before .is-stored .ensures)) ∙ (c .before .before .before .before .before .if1 .left)) in (
+  rw (in-text ((c .before .before .before .before .before .before .before .before .before .before .before .args) .k) ((c .before .before .before .before .before .before .before .before .before .before .before .args) .most) ((c .before .before .before .before .before .before .before .before .before .before .before .args) .s .now) ((c .before .before .before .before .before .before .before .before .before .before .before .args) .rows .now) ((c .before .before .before .before .before .before .before .before .before .before .before .args) .site) e, ← (c .before .before .before .before .part-at .ensures)) ((c .before .before .numbers-in .ensures .0)),
+  rw (first-in-text ((c .before .before .before .before .before .before .before .before .before .before .before .args) .k) ((c .before .before .before .before .before .before .before .before .before .before .before .args) .most) ((c .before .before .before .before .before .before .before .before .before .before .before .args) .s .now) ((c .before .before .before .before .before .before .before .before .before .before .before .args) .rows .now) ((c .before .before .before .before .before .before .before .before .before .before .before .args) .site) e, ← (c .before .before .before .before .part-at .ensures)) ((c .before .before .numbers-in .ensures .1)),
+)
 
 pub numbers-at-spec : {M : Type 1} → statement M
 numbers-at-spec =
