@@ -153,6 +153,7 @@ unfoldable pub TextRead : List ℕ → ℕ → TextAt → Type 0
 TextRead s at (text.Text p a v) = TextLines s at p a v
 TextRead s at text.Wrong = siteTextOf (siteGroup s at) ≡ refused 1
 
+-- the same after the ten lines
 abbrev pub TextStored : List ℕ → List ℕ → List ℕ → List ℕ → List ℕ → TextAt → Type 0
 TextStored s ad₀ ad pl₀ pl (text.Text p a v) = Stored s (v .ad) ad₀ ad × Stored s (v .pl) pl₀ pl
 TextStored s ad₀ ad pl₀ pl text.Wrong = SomeStored ad₀ ad × SomeStored pl₀ pl
