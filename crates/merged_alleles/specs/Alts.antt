@@ -72,13 +72,13 @@ sitesAt s rows found = map (siteAt s rows) found
 abbrev pub withEnds : List (List ℕ) → Bool → List Allele
 withEnds alts shown = map letters alts ++ (spanDelAlt shown ++ (nonRef ∷ []))
 
--- the first `len` bytes of a buffer are the text of these ALTs, n of them; what stands behind is open
-pub record AltsWritten (alts : List Allele) (d : List ℕ) (len n : ℕ) : Type 0 where
-  pub text : take len d ≡ writtenAlleles alts
+-- the first `len` bytes of a work buffer are the text of these ALTs, n of them; nothing is promised of what stands behind
+pub record AltsWritten (alts : List Allele) (work : List ℕ) (len n : ℕ) : Type 0 where
+  pub text : take len work ≡ writtenAlleles alts
   pub count : n ≡ length alts
   pub few : n ≤ 15
 
--- or there are over 15 (row 13: over 16 alleles)
+-- or there are over 15 (row 13: over 16 alleles), and nothing is promised of the work buffer
 unfoldable pub AltsLaid : List Allele → List ℕ → AltsAt → Type 0
-AltsLaid alts d (Alts len n) = AltsWritten alts d len n
-AltsLaid alts d TooMany = 15 < length alts
+AltsLaid alts work (Alts len n) = AltsWritten alts work len n
+AltsLaid alts work TooMany = 15 < length alts

@@ -227,7 +227,8 @@ fn put_ends(alts: &mut [u8], len: usize, n: usize, shown: bool) -> AltsAt
 // ---- all ALTs
 
 // Lays the ALTs of the record at a position: the letter ALTs, last sample first, none twice; `*` if a site shows it;
-// `<NON_REF>`. Over 15 are too many. Past the list, and where they are too many, what stands in the buffer is open.
+// `<NON_REF>`. Over 15 are too many. `alts` is a work buffer: its beginning is the ALTs' text (`AltsWritten`). Nothing is promised of
+// what stands behind it, or of the buffer where they are too many: an ALT is laid behind the list before it is looked for there.
 // `found-sound` of proofs/Sound.antt shows what is required of sites found in the table of a sound cohort.
 pub fn collect_target_alleles(
     s: &[u8],
