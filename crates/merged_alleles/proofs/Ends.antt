@@ -11,9 +11,9 @@ use Rattle.definitions.specs.Lists.{allOf, anyOf}
 use Rattle.definitions.specs.MergedAlleles.{mergedAlts, showsSpanDel, spanDelAlt}
 use Rattle.kv_write.specs.Laid.{Laid}
 use Rattle.laws.proofs.Fields.{Free, free-text}
-use Rattle.merged_alleles.proofs.Letters.{letters-kept}
-use Rattle.merged_alleles.proofs.Listing.{kept-too, listed-behind, text-behind}
-use Rattle.merged_alleles.specs.Alts.{AltsWritten, Listed, commaBehind, keepAll, listed, siteLetters, sitesAt, withEnds}
+use Rattle.merged_alleles.proofs.Letters.{letters-added}
+use Rattle.merged_alleles.proofs.Listing.{added-too, listed-behind, text-behind}
+use Rattle.merged_alleles.specs.Alts.{AltsWritten, Listed, addAll, commaBehind, listed, siteLetters, sitesAt, withEnds}
 
 star-free : Free comma (spelled spanDel)
 unfolding spelled text comma allOf
@@ -27,16 +27,16 @@ symbol-short : length (spelled nonRef) ≤ 256
 unfolding spelled text
 symbol-short = omega arith
 
-spelled-letters : (kept : List (List ℕ)) → map spelled (map letters kept) ≡ kept
+spelled-letters : (alts : List (List ℕ)) → map spelled (map letters alts) ≡ alts
 unfolding spelled
 spelled-letters [] = refl
-spelled-letters (f ∷ kept) = ap (λ (l : List (List ℕ)). f ∷ l) (spelled-letters kept)
+spelled-letters (f ∷ alts) = ap (λ (l : List (List ℕ)). f ∷ l) (spelled-letters alts)
 
-spelled-behind : (kept : List (List ℕ)) (as′ : List Allele) → map spelled (map letters kept ++ as′) ≡ kept ++ map spelled as′
-spelled-behind kept as′ = map-append spelled (map letters kept) as′ ∙ rw (spelled-letters kept)
+spelled-behind : (alts : List (List ℕ)) (as′ : List Allele) → map spelled (map letters alts ++ as′) ≡ alts ++ map spelled as′
+spelled-behind alts as′ = map-append spelled (map letters alts) as′ ∙ rw (spelled-letters alts)
 
-length-behind : (kept : List (List ℕ)) (as′ : List Allele) → length (map letters kept ++ as′) ≡ length kept + length as′
-length-behind kept as′ = length-append (map letters kept) as′ ∙ rw (length-map kept letters)
+length-behind : (alts : List (List ℕ)) (as′ : List Allele) → length (map letters alts ++ as′) ≡ length alts + length as′
+length-behind alts as′ = length-append (map letters alts) as′ ∙ rw (length-map alts letters)
 
 module _ {d : List ℕ} {len n : ℕ} (h : Listed d len n) where
   pub ended : {d′ : List ℕ} {last : ℕ} → Laid d len (commaBehind n ++ spelled nonRef) d′ last
@@ -53,7 +53,7 @@ module _ {d : List ℕ} {len n : ℕ} (h : Listed d len n) where
       → AltsWritten (withEnds (listed d len n) true) d″ last (n + 2)
   unfolding writtenAlleles spanDelAlt
   ended-shown few laid laid′ = record {
-    text = text-behind (kept-too h (spelled spanDel) laid star-short star-free few) (spelled nonRef) laid′ symbol-short
+    text = text-behind (added-too h (spelled spanDel) laid star-short star-free few) (spelled nonRef) laid′ symbol-short
         ∙ ap (λ (l : List (List ℕ)). joinedBy comma (l ++ (spelled nonRef ∷ []))) (listed-behind h (spelled spanDel) laid star-short star-free)
         ∙ ap (joinedBy comma) (append-assoc (listed d len n) (spelled spanDel ∷ []) (spelled nonRef ∷ [])
         ∙ sym (spelled-behind (listed d len n) (spanDel ∷ nonRef ∷ [])));
@@ -65,23 +65,23 @@ module _ {d : List ℕ} {len n : ℕ} (h : Listed d len n) where
   unfolding spanDelAlt
   one-too-many many = omega (arith, length-behind (listed d len n) (spanDel ∷ nonRef ∷ []), h .count)
 
-pub merged-kept : (s rows ref : List ℕ) (position : ℕ) (found : List ℕ)
+pub merged-added : (s rows ref : List ℕ) (position : ℕ) (found : List ℕ)
     → mergedAlts ref position (sitesAt s rows found)
-    ≡ withEnds (keepAll [] (flatMap (siteLetters s rows ref position) (reverse found)))
+    ≡ withEnds (addAll [] (flatMap (siteLetters s rows ref position) (reverse found)))
     (anyOf (showsSpanDel ref position) (sitesAt s rows found))
 unfolding mergedAlts
-merged-kept s rows ref position found = rw (letters-kept s rows ref position found)
+merged-added s rows ref position found = rw (letters-added s rows ref position found)
 
 -- with 15 letter ALTs there are over 15
-letters-too-many : (kept : List (List ℕ)) (shown : Bool) → 14 < length kept → 15 < length (withEnds kept shown)
+letters-too-many : (alts : List (List ℕ)) (shown : Bool) → 14 < length alts → 15 < length (withEnds alts shown)
 unfolding spanDelAlt
-letters-too-many kept true many = omega (arith, length-behind kept (spanDel ∷ nonRef ∷ []))
-letters-too-many kept false many = omega (arith, length-behind kept (nonRef ∷ []))
+letters-too-many alts true many = omega (arith, length-behind alts (spanDel ∷ nonRef ∷ []))
+letters-too-many alts false many = omega (arith, length-behind alts (nonRef ∷ []))
 
 pub merged-too-many : (s rows ref : List ℕ) (position : ℕ) (found : List ℕ)
-    → 14 < length (keepAll [] (flatMap (siteLetters s rows ref position) (reverse found)))
+    → 14 < length (addAll [] (flatMap (siteLetters s rows ref position) (reverse found)))
     → 15 < length (mergedAlts ref position (sitesAt s rows found))
 merged-too-many s rows ref position found many =
-    rw (merged-kept s rows ref position found)
-    (letters-too-many (keepAll [] (flatMap (siteLetters s rows ref position) (reverse found)))
+    rw (merged-added s rows ref position found)
+    (letters-too-many (addAll [] (flatMap (siteLetters s rows ref position) (reverse found)))
     (anyOf (showsSpanDel ref position) (sitesAt s rows found)) many)

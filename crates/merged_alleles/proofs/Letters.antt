@@ -14,8 +14,8 @@ use Rattle.definitions.specs.MergedAlleles.{extendedAllele, letterAllele, lette
 use Rattle.definitions.specs.MergedRef.{siteRef, startsAt}
 use Rattle.laws.proofs.Members.{filter-map}
 use Rattle.tables.specs.Tables.{alleleSpelled, column, partAt, refAltsSpelled, siteAt}
-use Rattle.merged_alleles.proofs.Keeping.{kept-distinct}
-use Rattle.merged_alleles.specs.Alts.{extendedLetters, keepAll, siteLetters, sitesAt}
+use Rattle.merged_alleles.proofs.Adding.{added-distinct}
+use Rattle.merged_alleles.specs.Alts.{addAll, extendedLetters, siteLetters, sitesAt}
 
 -- ---- one site
 
@@ -96,14 +96,14 @@ module _ (s rows ref : List ℕ) (position : ℕ) where
   each-site [] = refl
   each-site (x ∷ sites) = rw (site-letters s rows ref position x, each-site sites) (sym (map-append letters (siteLetters s rows ref position x) (flatMap (siteLetters s rows ref position) sites)))
 
-  pub letters-kept : (found : List ℕ)
-      → letterAlts ref position (sitesAt s rows found) ≡ map letters (keepAll [] (flatMap (siteLetters s rows ref position) (reverse found)))
+  pub letters-added : (found : List ℕ)
+      → letterAlts ref position (sitesAt s rows found) ≡ map letters (addAll [] (flatMap (siteLetters s rows ref position) (reverse found)))
   unfolding letterAlts
-  letters-kept found =
+  letters-added found =
       ap (λ (l : List Site). distinctBy sameAllele (flatMap (λ x. filterMap letterAllele (tail (remappedAlleles ref position x))) l)) (reverse-map (siteAt s rows) found)
       ∙ ap (distinctBy sameAllele) (each-site (reverse found))
       ∙ distinct-letters all
-      ∙ ap (map letters) (sym (kept-distinct all))
+      ∙ ap (map letters) (sym (added-distinct all))
     where
       all : List (List ℕ)
       all = flatMap (siteLetters s rows ref position) (reverse found)

@@ -1,4 +1,4 @@
-pub mod Keeping
+pub mod Adding
 pub mod Listing
 pub mod Letters
 pub mod Turns

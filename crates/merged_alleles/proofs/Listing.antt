@@ -138,24 +138,24 @@ module _ {d : List ℕ} {len n : ℕ} (h : Listed d len n) where
     fits : len + length (commaBehind n ++ alt) ≤ length d
     fits = omega (arith, inside, h .room)
 
-    -- a further ALT is laid, and not kept
+    -- a further ALT is laid, and not added
     pub listed-before : listed d′ len n ≡ listed d len n
     listed-before = listed-same d d′ len n (laid-before laid fits)
 
-    pub not-kept : Listed d′ len n
-    not-kept = record {
+    pub not-added : Listed d′ len n
+    not-added = record {
       room = rw (laid-length laid) (h .room);
       few = h .few;
       small = h .small;
       count = rw listed-before (h .count);
     }
 
-    -- and kept
+    -- and added
     pub listed-behind : Free comma alt → listed d′ next (n + 1) ≡ listed d len n ++ (alt ∷ [])
     listed-behind free = listed-more d′ next n ∙ ap (fieldsOf comma) (laid-behind laid fits) ∙ fields-from d len n alt (h .small) free
 
-    pub kept-too : Free comma alt → n < 14 → Listed d′ next (n + 1)
-    kept-too free few = record {
+    pub added-too : Free comma alt → n < 14 → Listed d′ next (n + 1)
+    added-too free few = record {
       room = rw (laid-length laid) (h .room);
       few = omega arith;
       small = omega (arith, laid .next, comma-short n, length-append (commaBehind n) alt, h .small);

@@ -16,7 +16,7 @@ use Rattle.definitions.specs.MergedRef.{siteRef, startsAt}
 use Rattle.laws.proofs.Alleles.{block-is}
 use Rattle.laws.proofs.Bytes.{same-flip}
 use Rattle.tables.specs.Tables.{alleleSpelled, column, partAt, refAltsSpelled, siteAt}
-use Rattle.merged_alleles.proofs.Keeping.{or-false, or-true}
+use Rattle.merged_alleles.proofs.Adding.{or-false, or-true}
 use Rattle.merged_alleles.specs.Alts.{sitesAt}
 
 -- a site that starts there

@@ -20,9 +20,9 @@ use Rattle.kv_write.specs.Laid.{Laid}
 use Rattle.laws.proofs.Every.{Every, every-append, every-drop, every-uncons}
 use Rattle.laws.proofs.Fields.{Free}
 use Rattle.tables.specs.Tables.{column, partAt}
-use Rattle.merged_alleles.proofs.Keeping.{keep-fresh, keep-old, kept-stays}
-use Rattle.merged_alleles.proofs.Listing.{inside, kept-too, laid-behind, listed-before, listed-behind, listed-same, not-kept}
-use Rattle.merged_alleles.specs.Alts.{Keeps, Listed, commaBehind, extendedLetters, keepAll, keepNew, listed, siteLetters}
+use Rattle.merged_alleles.proofs.Adding.{add-fresh, add-old, none-removed}
+use Rattle.merged_alleles.proofs.Listing.{added-too, inside, laid-behind, listed-before, listed-behind, listed-same, not-added}
+use Rattle.merged_alleles.specs.Alts.{Added, Listed, addAll, addNew, commaBehind, extendedLetters, listed, siteLetters}
 use Rattle.merged_alleles.specs.SoundSites.{ShortField}
 use Rattle.merged_alleles.specs.declared.AltsAt.the-variants.{Alts, TooMany}
 
@@ -75,27 +75,27 @@ module _ {d d₁ d₂ d₃ : List ℕ} {len n from middle next : ℕ} (h : Liste
     among = ap (λ (x : List ℕ). anyOf (sameBytes x) (listed d len n)) (sym candidate)
         ∙ ap (anyOf (sameBytes (drop from (take next d₃)))) (sym the-list) ∙ sym test
 
-    pub keeps-old : b ≡ true → Keeps (listed d len n) (alt ∷ []) d₃ (Alts len n)
-    unfolding Keeps
-    keeps-old t = (not-kept h alt all-laid alt-short, listed-before h alt all-laid alt-short ∙ sym (keep-old (listed d len n) alt (among ∙ t)))
+    pub adds-old : b ≡ true → Added (listed d len n) (alt ∷ []) d₃ (Alts len n)
+    unfolding Added
+    adds-old t = (not-added h alt all-laid alt-short, listed-before h alt all-laid alt-short ∙ sym (add-old (listed d len n) alt (among ∙ t)))
 
-    pub keeps-fresh : b ≡ false → n < 14 → Keeps (listed d len n) (alt ∷ []) d₃ (Alts next (n + 1))
-    unfolding Keeps
-    keeps-fresh t few = (
-      kept-too h alt all-laid alt-short alt-free few,
-      listed-behind h alt all-laid alt-short alt-free ∙ sym (keep-fresh (listed d len n) alt (among ∙ t)),
+    pub adds-fresh : b ≡ false → n < 14 → Added (listed d len n) (alt ∷ []) d₃ (Alts next (n + 1))
+    unfolding Added
+    adds-fresh t few = (
+      added-too h alt all-laid alt-short alt-free few,
+      listed-behind h alt all-laid alt-short alt-free ∙ sym (add-fresh (listed d len n) alt (among ∙ t)),
     )
 
-    pub keeps-no-more : b ≡ false → 14 ≤ n → Keeps (listed d len n) (alt ∷ []) d₃ TooMany
-    unfolding Keeps
-    keeps-no-more t many =
-        rw (keep-fresh (listed d len n) alt (among ∙ t)) (omega (arith, length-append (listed d len n) (alt ∷ []), h .count))
+    pub adds-no-more : b ≡ false → 14 ≤ n → Added (listed d len n) (alt ∷ []) d₃ TooMany
+    unfolding Added
+    adds-no-more t many =
+        rw (add-fresh (listed d len n) alt (among ∙ t)) (omega (arith, length-append (listed d len n) (alt ∷ []), h .count))
 
 -- ---- a field
 
-pub keeps-nothing : {d : List ℕ} {len n : ℕ} → Listed d len n → Keeps (listed d len n) [] d (Alts len n)
-unfolding Keeps
-keeps-nothing h = (h, refl)
+pub adds-nothing : {d : List ℕ} {len n : ℕ} → Listed d len n → Added (listed d len n) [] d (Alts len n)
+unfolding Added
+adds-nothing h = (h, refl)
 
 module _ (end f : List ℕ) where
   pub no-letters-star : sameBytes f (spelled spanDel) ≡ true → extendedLetters end f ≡ []
@@ -117,16 +117,16 @@ module _ (end f : List ℕ) where
 
 -- ---- one of several
 
--- the candidates kept so far, and those that are left, make the whole
-module _ (kept now rest whole : List (List ℕ)) (same : keepAll kept (now ++ rest) ≡ whole) where
-  split-off : keepAll (keepAll kept now) rest ≡ whole
-  split-off = sym (foldl-append keepNew kept now rest) ∙ same
+-- the ALTs so far, and the candidates that are left, make the whole
+module _ (alts now rest whole : List (List ℕ)) (same : addAll alts (now ++ rest) ≡ whole) where
+  split-off : addAll (addAll alts now) rest ≡ whole
+  split-off = sym (foldl-append addNew alts now rest) ∙ same
 
-  pub more-left : {after : List (List ℕ)} → after ≡ keepAll kept now → keepAll after rest ≡ whole
-  more-left e = ap (λ (k : List (List ℕ)). keepAll k rest) e ∙ split-off
+  pub more-left : {after : List (List ℕ)} → after ≡ addAll alts now → addAll after rest ≡ whole
+  more-left e = ap (λ (k : List (List ℕ)). addAll k rest) e ∙ split-off
 
-  pub already-too-many : 14 < length (keepAll kept now) → 14 < length whole
-  already-too-many many = omega (arith, kept-stays (keepAll kept now) rest, ap length split-off)
+  pub already-too-many : 14 < length (addAll alts now) → 14 < length whole
+  already-too-many many = omega (arith, none-removed (addAll alts now) rest, ap length split-off)
 
 -- ---- the fields of a site
 
@@ -138,7 +138,7 @@ module _ (list end : List ℕ) (whole : List (List ℕ)) where
     pub listing : Listed d len n
     pub within : at ≤ length list
     pub short : Every (λ f. length f ≤ maxSiteLetters) (fieldsOf 44 (drop at list))
-    pub same : keepAll (listed d len n) (lettersFrom at) ≡ whole
+    pub same : addAll (listed d len n) (lettersFrom at) ≡ whole
     pub sized : length d ≡ length d₀
 
   module _ {d₀ d : List ℕ} {len n at stop : ℕ} (left : FieldsLeft d₀ d len n at) (ends : stop ≡ at + fieldLength 44 (drop at list)) where
@@ -156,36 +156,36 @@ module _ (list end : List ℕ) (whole : List (List ℕ)) where
         let (fs, e) = field-there in
         record { short = every-uncons (subst (Every (λ f. length f ≤ maxSiteLetters)) e (left .short)) .0; free = field-has-none 44 list at stop ends }
 
-    -- what is left to keep, with this field in front
+    -- what is left to add, with this field in front
     from-here : (fs : List (List ℕ)) → fieldsOf 44 (drop at list) ≡ between list at stop ∷ fs
-        → keepAll (listed d len n) (extendedLetters end (between list at stop) ++ flatMap (extendedLetters end) fs) ≡ whole
+        → addAll (listed d len n) (extendedLetters end (between list at stop) ++ flatMap (extendedLetters end) fs) ≡ whole
     unfolding flatMap
-    from-here fs e = ap (λ (l : List (List ℕ)). keepAll (listed d len n) (flatMap (extendedLetters end) l)) (sym e) ∙ left .same
+    from-here fs e = ap (λ (l : List (List ℕ)). addAll (listed d len n) (flatMap (extendedLetters end) l)) (sym e) ∙ left .same
 
-    pub fields-too-many : 14 < length (keepAll (listed d len n) (extendedLetters end (between list at stop))) → 14 < length whole
+    pub fields-too-many : 14 < length (addAll (listed d len n) (extendedLetters end (between list at stop))) → 14 < length whole
     fields-too-many many =
         let (fs, e) = field-there in
         already-too-many (listed d len n) (extendedLetters end (between list at stop)) (flatMap (extendedLetters end) fs) whole
         (from-here fs e) many
 
-    module _ {d′ : List ℕ} {len′ n′ : ℕ} (kept : Keeps (listed d len n) (extendedLetters end (between list at stop)) d′ (Alts len′ n′)) where
+    module _ {d′ : List ℕ} {len′ n′ : ℕ} (added : Added (listed d len n) (extendedLetters end (between list at stop)) d′ (Alts len′ n′)) where
       pub fields-more : stop < length list → length d′ ≡ length d → FieldsLeft d₀ d′ len′ n′ (stop + 1)
-      unfolding Keeps
+      unfolding Added
       fields-more l sized = record {
-        listing = kept .0;
+        listing = added .0;
         within = omega arith;
         short = every-uncons (subst (Every (λ f. length f ≤ maxSiteLetters)) (field-first 44 list at stop ends l) (left .short)) .1;
         same = more-left (listed d len n) (extendedLetters end (between list at stop)) (lettersFrom (stop + 1)) whole
-            (from-here (fieldsOf 44 (drop (stop + 1) list)) (field-first 44 list at stop ends l)) (kept .1);
+            (from-here (fieldsOf 44 (drop (stop + 1) list)) (field-first 44 list at stop ends l)) (added .1);
         sized = sized ∙ left .sized;
       }
 
       pub fields-done : length list ≤ stop → Listed d′ len′ n′ × (listed d′ len′ n′ ≡ whole)
-      unfolding Keeps flatMap
+      unfolding Added flatMap
       fields-done l = (
-        kept .0,
+        added .0,
         more-left (listed d len n) (extendedLetters end (between list at stop)) [] whole
-            (from-here [] (field-last 44 list at stop ends (left .within) l)) (kept .1),
+            (from-here [] (field-last 44 list at stop ends (left .within) l)) (added .1),
       )
 
 -- ---- a site
@@ -220,7 +220,7 @@ module _ (s rows ref : List ℕ) (position : ℕ) (found : List ℕ) (whole : Li
   pub record SitesLeft (d₀ d : List ℕ) (len n left : ℕ) : Type 0 where
     pub listing : Listed d len n
     pub within : left ≤ length found
-    pub same : keepAll (listed d len n) (flatMap letters (reverse (take left found))) ≡ whole
+    pub same : addAll (listed d len n) (flatMap letters (reverse (take left found))) ≡ whole
     pub sized : length d ≡ length d₀
 
   module _ {d₀ d : List ℕ} {len n left : ℕ} (sites : SitesLeft d₀ d len n left) (some : 0 < left) where
@@ -233,21 +233,21 @@ module _ (s rows ref : List ℕ) (position : ℕ) (found : List ℕ) (whole : Li
         ∙ ap reverse (take-suc found (left - 1) 0 (omega (arith, sites .within)))
         ∙ reverse-append (take (left - 1) found) (site ∷ [])
 
-    from-last : keepAll (listed d len n) (letters site ++ flatMap letters (reverse (take (left - 1) found))) ≡ whole
+    from-last : addAll (listed d len n) (letters site ++ flatMap letters (reverse (take (left - 1) found))) ≡ whole
     unfolding flatMap
-    from-last = ap (λ (l : List ℕ). keepAll (listed d len n) (flatMap letters l)) (sym last-first) ∙ sites .same
+    from-last = ap (λ (l : List ℕ). addAll (listed d len n) (flatMap letters l)) (sym last-first) ∙ sites .same
 
-    pub sites-too-many : 14 < length (keepAll (listed d len n) (letters site)) → 14 < length whole
+    pub sites-too-many : 14 < length (addAll (listed d len n) (letters site)) → 14 < length whole
     sites-too-many =
         already-too-many (listed d len n) (letters site) (flatMap letters (reverse (take (left - 1) found))) whole from-last
 
-    pub sites-more : {d′ : List ℕ} {len′ n′ : ℕ} → Keeps (listed d len n) (letters site) d′ (Alts len′ n′) → length d′ ≡ length d
+    pub sites-more : {d′ : List ℕ} {len′ n′ : ℕ} → Added (listed d len n) (letters site) d′ (Alts len′ n′) → length d′ ≡ length d
         → SitesLeft d₀ d′ len′ n′ (left - 1)
-    unfolding Keeps
-    sites-more kept sized = record {
-      listing = kept .0;
+    unfolding Added
+    sites-more added sized = record {
+      listing = added .0;
       within = omega (arith, sites .within);
-      same = more-left (listed d len n) (letters site) (flatMap letters (reverse (take (left - 1) found))) whole from-last (kept .1);
+      same = more-left (listed d len n) (letters site) (flatMap letters (reverse (take (left - 1) found))) whole from-last (added .1);
       sized = sized ∙ sites .sized;
     }
 
@@ -256,15 +256,15 @@ module _ (s rows ref : List ℕ) (position : ℕ) (found : List ℕ) (whole : Li
   unfolding flatMap
   sites-done {d = d} {len = len} {n = n} {left = left} sites none = (
     sites .listing,
-    ap (λ (k : ℕ). keepAll (listed d len n) (flatMap letters (reverse (take k found)))) (let z : 0 ≡ left = omega arith in z) ∙ sites .same,
+    ap (λ (k : ℕ). addAll (listed d len n) (flatMap letters (reverse (take k found)))) (let z : 0 ≡ left = omega arith in z) ∙ sites .same,
   )
 
 pub sites-start : (s rows ref : List ℕ) (position : ℕ) (found d : List ℕ) → 4096 ≤ length d
-    → SitesLeft s rows ref position found (keepAll [] (flatMap (siteLetters s rows ref position) (reverse found))) d d 0 0 (length found)
+    → SitesLeft s rows ref position found (addAll [] (flatMap (siteLetters s rows ref position) (reverse found))) d d 0 0 (length found)
 unfolding listed
 sites-start s rows ref position found d room = record {
   listing = record { room = room; few = omega arith; small = omega arith; count = refl };
   within = omega arith;
-  same = ap (λ (l : List ℕ). keepAll [] (flatMap (siteLetters s rows ref position) (reverse l))) (take-all (length found) found (omega arith));
+  same = ap (λ (l : List ℕ). addAll [] (flatMap (siteLetters s rows ref position) (reverse l))) (take-all (length found) found (omega arith));
   sized = refl;
 }

@@ -14,15 +14,15 @@ use Rattle.tables.specs.Tables.{column, partAt, siteAt}
 use Rattle.merged_alleles.specs.declared.AltsAt.{AltsAt}
 use Rattle.merged_alleles.specs.declared.AltsAt.the-variants.{Alts, TooMany}
 
--- ---- ALTs kept by first occurrence
+-- ---- ALTs by first occurrence
 
--- an ALT behind those kept so far, unless it is among them
-unfoldable pub keepNew : List (List ℕ) → List ℕ → List (List ℕ)
-keepNew kept f = cond (anyOf (sameBytes f) kept) kept (kept ++ (f ∷ []))
+-- an ALT behind others, unless it is among them
+unfoldable pub addNew : List (List ℕ) → List ℕ → List (List ℕ)
+addNew alts f = cond (anyOf (sameBytes f) alts) alts (alts ++ (f ∷ []))
 
 -- the same for several, one after the other
-abbrev pub keepAll : List (List ℕ) → List (List ℕ) → List (List ℕ)
-keepAll = foldl keepNew
+abbrev pub addAll : List (List ℕ) → List (List ℕ) → List (List ℕ)
+addAll = foldl addNew
 
 -- ---- the list as it is laid
 
@@ -43,10 +43,10 @@ pub record Listed (d : List ℕ) (len n : ℕ) : Type 0 where
   pub small : len ≤ 257 * n
   pub count : length (listed d len n) ≡ n
 
--- these ALTs were kept behind others, or there are over 14
-unfoldable pub Keeps : List (List ℕ) → List (List ℕ) → List ℕ → AltsAt → Type 0
-Keeps kept fs d (Alts len n) = Listed d len n × (listed d len n ≡ keepAll kept fs)
-Keeps kept fs d TooMany = 14 < length (keepAll kept fs)
+-- these ALTs were added behind others, or there are over 14
+unfoldable pub Added : List (List ℕ) → List (List ℕ) → List ℕ → AltsAt → Type 0
+Added alts fs d (Alts len n) = Listed d len n × (listed d len n ≡ addAll alts fs)
+Added alts fs d TooMany = 14 < length (addAll alts fs)
 
 -- ---- the letter ALTs of a site
 
@@ -70,15 +70,15 @@ sitesAt s rows found = map (siteAt s rows) found
 
 -- behind letter ALTs: `*` if it is shown, and `<NON_REF>`
 abbrev pub withEnds : List (List ℕ) → Bool → List Allele
-withEnds kept shown = map letters kept ++ (spanDelAlt shown ++ (nonRef ∷ []))
+withEnds alts shown = map letters alts ++ (spanDelAlt shown ++ (nonRef ∷ []))
 
--- the first `len` bytes of a buffer are the text of these ALTs, n of them; what stands behind is open
-pub record AltsWritten (alts : List Allele) (d : List ℕ) (len n : ℕ) : Type 0 where
-  pub text : take len d ≡ writtenAlleles alts
+-- the first `len` bytes of a work buffer are the text of these ALTs, n of them; nothing is promised of what stands behind
+pub record AltsWritten (alts : List Allele) (work : List ℕ) (len n : ℕ) : Type 0 where
+  pub text : take len work ≡ writtenAlleles alts
   pub count : n ≡ length alts
   pub few : n ≤ 15
 
--- or there are over 15 (row 13: over 16 alleles)
+-- or there are over 15 (row 13: over 16 alleles), and nothing is promised of the work buffer
 unfoldable pub AltsLaid : List Allele → List ℕ → AltsAt → Type 0
-AltsLaid alts d (Alts len n) = AltsWritten alts d len n
-AltsLaid alts d TooMany = 15 < length alts
+AltsLaid alts work (Alts len n) = AltsWritten alts work len n
+AltsLaid alts work TooMany = 15 < length alts

@@ -1,4 +1,4 @@
-// The ALTs of the record at a position, laid as a list with commas into a lent buffer (row 13: over 16 alleles).
+// The ALTs of the record at a position, laid as a list with commas into the caller's buffer (row 13: over 16 alleles).
 // Sites stand in a table; those over the position are given by their numbers, in the order of samples.
 ghost use mathlib.Core.Path.{_≡_};
 ghost use mathlib.Core.List.{List, [], _++_, _∷_, flatMap, reverse};
@@ -11,7 +11,7 @@ ghost use Rattle.definitions.specs.MergedAlleles.{mergedAlts, showsSpanDel};
 ghost use Rattle.kv_write.specs.Laid.{Laid};
 ghost use Rattle.laws.proofs.Every.{Every};
 ghost use Rattle.tables.specs.Tables.{column, siteAt};
-ghost use Rattle.merged_alleles.specs.Alts.{AltsLaid, Keeps, Listed, commaBehind, extendedLetters, listed, siteLetters, sitesAt, withEnds};
+ghost use Rattle.merged_alleles.specs.Alts.{Added, AltsLaid, Listed, commaBehind, extendedLetters, listed, siteLetters, sitesAt, withEnds};
 ghost use Rattle.merged_alleles.specs.SoundSites.{ShortField, ShortFields, SoundRow, SoundSites};
 use bio_ids::GenomePosition;
 
@@ -54,10 +54,10 @@ fn is_listed(text: &[u8], len: usize, n: usize, from: usize) -> bool
     alleles::among_fields(&text[from..], &text[..len])
 }
 
-// Lays letters and the end of REF behind the list, and keeps them unless they are on it.
-fn keep_new(field: &[u8], end: &[u8], alts: &mut [u8], len: usize, n: usize) -> AltsAt
+// Lays letters and the end of REF behind the list, and adds them to it unless they are on it.
+fn add_allele(field: &[u8], end: &[u8], alts: &mut [u8], len: usize, n: usize) -> AltsAt
     requires { ⌜ Listed (now alts) len n × ShortField (now field) × ShortField (now end) ⌝ }
-    ensures { λ r. ⌜ Keeps (listed (now (alts .entry)) len n)
+    ensures { λ r. ⌜ Added (listed (now (alts .entry)) len n)
         ((now (field .entry) ++ now (end .entry)) ∷ [])
         (now (alts .exit)) r ⌝ }
 {
@@ -75,10 +75,10 @@ fn keep_new(field: &[u8], end: &[u8], alts: &mut [u8], len: usize, n: usize) -> 
 
 // ---- letter ALTs
 
-// Keeps an ALT of a site that starts at the position, if it is letters, extended by the end of REF that its own REF lacks.
+// Adds an ALT of a site that starts at the position, if it is letters, extended by the end of REF that its own REF lacks.
 fn extend_allele(field: &[u8], end: &[u8], alts: &mut [u8], len: usize, n: usize) -> AltsAt
     requires { ⌜ Listed (now alts) len n × ShortField (now field) × ShortField (now end) ⌝ }
-    ensures { λ r. ⌜ Keeps (listed (now (alts .entry)) len n)
+    ensures { λ r. ⌜ Added (listed (now (alts .entry)) len n)
         (extendedLetters (now (end .entry)) (now (field .entry)))
         (now (alts .exit)) r ⌝ }
 {
@@ -88,29 +88,29 @@ fn extend_allele(field: &[u8], end: &[u8], alts: &mut [u8], len: usize, n: usize
     if kv_text::same_bytes(field, b"<NON_REF>") {
         return AltsAt::Alts(len, n);
     }
-    keep_new(field, end, alts, len, n)
+    add_allele(field, end, alts, len, n)
 }
 
 // The same for each ALT of the site.
 fn extend_alleles(list: &[u8], end: &[u8], alts: &mut [u8], len: usize, n: usize) -> AltsAt
     requires { ⌜ Listed (now alts) len n × ShortFields (now list) × ShortField (now end) ⌝ }
-    ensures { λ r. ⌜ Keeps (listed (now (alts .entry)) len n)
+    ensures { λ r. ⌜ Added (listed (now (alts .entry)) len n)
         (flatMap (extendedLetters (now (end .entry))) (fieldsOf comma (now (list .entry))))
         (now (alts .exit)) r ⌝ }
 {
-    let mut kept = len;
+    let mut written = len;
     let mut count = n;
     let mut at = 0;
     loop {
         let stop = kv_text::field_end(list, at, b',');
-        let step = extend_allele(&list[at..stop], end, alts, kept, count);
+        let step = extend_allele(&list[at..stop], end, alts, written, count);
         let AltsAt::Alts(next, more) = step else {
             return AltsAt::TooMany;
         };
-        kept = next;
+        written = next;
         count = more;
         if list.len() <= stop {
-            return AltsAt::Alts(kept, count);
+            return AltsAt::Alts(written, count);
         }
         at = stop + 1;
     }
@@ -123,7 +123,7 @@ fn starts_at(rows: &[usize], site: usize, position: GenomePosition) -> bool
     tables::start_of(rows, site).get() == position.get()
 }
 
-// Keeps the letter ALTs of a site as they read at the position; one that starts earlier has none.
+// Adds the letter ALTs of a site as they read at the position; one that starts earlier has none.
 fn remap_alleles(
     s: &[u8],
     rows: &[usize],
@@ -135,7 +135,7 @@ fn remap_alleles(
     n: usize,
 ) -> AltsAt
     requires { ⌜ Listed (now alts) len n × SoundRow (now s) (now rows) site × ShortField (now reference) ⌝ }
-    ensures { λ r. ⌜ Keeps (listed (now (alts .entry)) len n)
+    ensures { λ r. ⌜ Added (listed (now (alts .entry)) len n)
         (siteLetters (now (s .entry)) (now (rows .entry)) (now (reference .entry)) (position .0) site)
         (now (alts .exit)) r ⌝ }
 {
@@ -148,7 +148,7 @@ fn remap_alleles(
     extend_alleles(list, end, alts, len, n)
 }
 
-// Keeps the letter ALTs of all sites, last sample first.
+// Adds the letter ALTs of all sites, last sample first.
 fn letter_alts(
     s: &[u8],
     rows: &[usize],
@@ -158,7 +158,7 @@ fn letter_alts(
     alts: &mut [u8],
 ) -> AltsAt
     requires { ⌜ (4096 ≤ length (now alts)) × SoundSites (now s) (now rows) (now found) (now reference) ⌝ }
-    ensures { λ r. ⌜ Keeps []
+    ensures { λ r. ⌜ Added []
         (flatMap (siteLetters (now (s .entry)) (now (rows .entry)) (now (reference .entry)) (position .0)) (reverse (now (found .entry))))
         (now (alts .exit)) r ⌝ }
 {
@@ -227,7 +227,8 @@ fn put_ends(alts: &mut [u8], len: usize, n: usize, shown: bool) -> AltsAt
 // ---- all ALTs
 
 // Lays the ALTs of the record at a position: the letter ALTs, last sample first, none twice; `*` if a site shows it;
-// `<NON_REF>`. Over 15 are too many. Past the list, and where they are too many, what stands in the buffer is open.
+// `<NON_REF>`. Over 15 are too many. `alts` is a work buffer: its beginning is the ALTs' text (`AltsWritten`). Nothing is promised of
+// what stands behind it, or of the buffer where they are too many: an ALT is laid behind the list before it is looked for there.
 // `found-sound` of proofs/Sound.antt shows what is required of sites found in the table of a sound cohort.
 pub fn collect_target_alleles(
     s: &[u8],

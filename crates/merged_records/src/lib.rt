@@ -1,11 +1,13 @@
 // The record at a position: the sites that cover it, REF and the ALTs, in lists that the caller lends.
+ghost use mathlib.Core.Path.{_≡_};
 ghost use Prim.Native.Nat.{_≤_};
 ghost use lib.ListN.{length, take};
+ghost use lib.Seq.{sets};
 ghost use Rattle.covering_sites.specs.Ended.{Ended};
 ghost use Rattle.merged_alleles.specs.SoundSites.{SoundSites};
 ghost use Rattle.merged_ref.specs.Answers.{refBytes};
 ghost use Rattle.merged_records.specs.Found.{AltsFound, Over, RecordFound, RecordRoom};
-ghost use Rattle.merged_records.specs.Loaded.{ContigRuns};
+ghost use Rattle.merged_records.specs.Loaded.{ContigRuns, coveringNumbers};
 use bio_ids::GenomePosition;
 use merged_alleles::AltsAt;
 use merged_ref::RefAt;
@@ -71,7 +73,8 @@ fn record_over<'a>(
 }
 
 // The record of a contig at a position, from the contig's sites in runs by sample, each searched from a place behind sites that ended
-// before the position.
+// before the position. `found` holds the numbers of the covering sites, whatever the answer, and is as it was behind them. `alts` is a work
+// buffer: of a record its beginning is the ALTs' text (`RecordTo`), and nothing is promised of the rest, as in `collect_target_alleles`.
 pub fn record_at<'a>(
     s: &'a [u8],
     rows: &[usize],
@@ -87,8 +90,10 @@ pub fn record_at<'a>(
     alts: &mut [u8],
 ) -> RecordAt
     requires { ⌜ ContigRuns (now s) (now rows) samples referenced (now reference) (now contig) (now chosen) (now bounds) × RecordRoom samples (now found) (now alts) × Ended (now rows) (now chosen) (now bounds) (now from) samples (position .0) ⌝ }
-    ensures { λ r. ⌜ ((at : ContigRuns (now (s .entry)) (now (rows .entry)) samples referenced (now (reference .entry)) (now (contig .entry)) (now (chosen .entry)) (now (bounds .entry)))
+    ensures answer { λ r. ⌜ ((at : ContigRuns (now (s .entry)) (now (rows .entry)) samples referenced (now (reference .entry)) (now (contig .entry)) (now (chosen .entry)) (now (bounds .entry)))
         → RecordFound (at .on) (position .0) (λ n. take n (now (found .exit))) (now (alts .exit)) r) ⌝ }
+    ensures sites { λ _. ⌜ ((at : ContigRuns (now (s .entry)) (now (rows .entry)) samples referenced (now (reference .entry)) (now (contig .entry)) (now (chosen .entry)) (now (bounds .entry)))
+        → now (found .exit) ≡ sets (now (found .entry)) 0 (coveringNumbers (at .on) (position .0))) ⌝ }
 {
     let n = covering_sites::covering_sites(rows, chosen, from, bounds, samples, position, found);
     if n == 0 {

@@ -16,16 +16,16 @@ ghost use Rattle.definitions.specs.Bytes.{comma, fieldsOf, sameBytes, text};
 ghost use Rattle.definitions.specs.MergedAlleles.{isAllele, perSampleMap, remappedAlleles};
 ghost use Rattle.tables.specs.Tables.{alleleSpelled, nameAt, siteAt};
 ghost use Rattle.sample_alleles.specs.Readings.{allelesIn, altNumber, eachOf, putWhere, readings, readsAs, refReading};
-ghost use Rattle.sample_alleles.specs.Fields.{AltsAt};
+ghost use Rattle.sample_alleles.specs.Fields.{AltsAt, AltsSplit};
 use bio_ids::AlleleIndex;
 use bio_ids::GenomePosition;
 
 // ---- the record's ALTs
 
-// Stores where each of the record's ALTs stands, by two numbers; the answer is how many they are.
+// Stores where each of the record's ALTs stands, by two numbers; the answer is how many they are. The table is as it was behind them.
 pub fn split_alts(alts: &[u8], fields: &mut [usize]) -> usize
     requires { ⌜ 2 * length (fieldsOf comma (now alts)) ≤ length (now fields) ⌝ }
-    ensures { λ r. ⌜ AltsAt (now (alts .entry)) (now (fields .exit)) r ⌝ }
+    ensures { λ r. ⌜ AltsSplit (now (alts .entry)) (now (fields .entry)) (now (fields .exit)) r ⌝ }
 {
     let mut at = 0;
     let mut count = 0;

@@ -31,15 +31,15 @@ part-requires c κs = search needs
 
 slice-reshare-prefix-lay-record : tie.Need-slice-reshare-prefix-lay-record
 unfolding RecordFound
-slice-reshare-prefix-lay-record c = let f = rw (c .before .before .before .here2 .given .1) at ((c .before .before .before .before .before .before .before .before .before .record-at .ensures) (c .before .before .before .before .before .before .before .before .before .before .before .before .before .before .before .before .before .before .before .before .before .before .before .before .before .before .before .pre .runs)) in front-within _ (f .all)
+slice-reshare-prefix-lay-record c = let f = rw (c .before .before .before .here2 .given .1) at ((c .before .before .before .before .before .before .before .before .before .record-at .ensures .0) (c .before .before .before .before .before .before .before .before .before .before .before .before .before .before .before .before .before .before .before .before .before .before .before .before .before .before .before .pre .runs)) in front-within _ (f .all)
 
 slice-aggregate-lay-record : tie.Need-slice-aggregate-lay-record
 unfolding RecordFound
-slice-aggregate-lay-record c = let f = rw (c .before .before .before .before .here2 .given .1) at ((c .before .before .before .before .before .before .before .before .before .before .record-at .ensures) (c .before .before .before .before .before .before .before .before .before .before .before .before .before .before .before .before .before .before .before .before .before .before .before .before .before .before .before .before .pre .runs)) in f .all
+slice-aggregate-lay-record c = let f = rw (c .before .before .before .before .here2 .given .1) at ((c .before .before .before .before .before .before .before .before .before .before .record-at .ensures .0) (c .before .before .before .before .before .before .before .before .before .before .before .before .before .before .before .before .before .before .before .before .before .before .before .before .before .before .before .before .pre .runs)) in f .all
 
 lay-record-requires : tie.Need-lay-record-requires
 unfolding RecordFound
-lay-record-requires c κs = let f = rw (c .before .before .before .before .before .before .before .here2 .given .1) at ((c .before .before .before .before .before .before .before .before .before .before .before .before .before .record-at .ensures) (c .before .before .before .before .before .before .before .before .before .before .before .before .before .before .before .before .before .before .before .before .before .before .before .before .before .before .before .before .before .before .before .pre .runs)) in
+lay-record-requires c κs = let f = rw (c .before .before .before .before .before .before .before .here2 .given .1) at ((c .before .before .before .before .before .before .before .before .before .before .before .before .before .record-at .ensures .0) (c .before .before .before .before .before .before .before .before .before .before .before .before .before .before .before .before .before .before .before .before .before .before .before .before .before .before .before .before .before .before .before .pre .runs)) in
     lay-ready (c .before .before .before .before .before .before .before .before .before .before .before .before .before .before .before .before .before .before .before .before .before .before .before .before .before .before .before .before .before .before .before .pre) (sym ((c .before .before .before .before .before .before .before .before .before .before .before .before .before .before .before .before .before .passes-clip .ensures) _ (c .before .before .before .before .before .before .before .before .before .before .before .before .before .before .before .before .before .before .before .before .before .before .before .before .before .before .before .before .before .before .before .pre .clip-given)) ∙ not-false _ (c .before .before .before .before .before .before .before .before .before .before .before .before .before .before .before .before .if1 .left)) _ _ _ _ _ _ f _ (c .before .before .before .before .part .ensures)
 
 same-length : tie.Need-same-length
@@ -50,7 +50,7 @@ same-length-2 c = search needs
 
 returns-2 : tie.Need-returns-2
 unfolding RecordFound
-returns-2 c = λ ready waiting d₀ bytes records h p. turn-bare ready waiting d₀ bytes records h (sym ((c .before .before .before .before .before .before .before .before .before .before .passes-clip .ensures) _ (ready .clip-given)) ∙ not-false _ (c .before .before .before .before .before .before .before .before .before .if1 .left)) (rw (c .enum-told .given .1) at ((c .before .before .before .before .before .before .record-at .ensures) (ready .runs))) _ _ p
+returns-2 c = λ ready waiting d₀ bytes records h p. turn-bare ready waiting d₀ bytes records h (sym ((c .before .before .before .before .before .before .before .before .before .before .passes-clip .ensures) _ (ready .clip-given)) ∙ not-false _ (c .before .before .before .before .before .before .before .before .before .if1 .left)) (rw (c .enum-told .given .1) at ((c .before .before .before .before .before .before .record-at .ensures .0) (ready .runs))) _ _ p
 
 same-length-3 : tie.Need-same-length-3
 same-length-3 c = search needs
@@ -60,7 +60,7 @@ same-length-4 c = search needs
 
 returns-3 : tie.Need-returns-3
 unfolding RecordFound
-returns-3 c = λ ready waiting d₀ bytes records h p. let f = rw (c .before .here .given .1) at ((c .before .before .before .before .before .before .before .record-at .ensures) (ready .runs)) in
+returns-3 c = λ ready waiting d₀ bytes records h p. let f = rw (c .before .here .given .1) at ((c .before .before .before .before .before .before .before .record-at .ensures .0) (ready .runs)) in
     turn-none ready waiting d₀ bytes records h (sym ((c .before .before .before .before .before .before .before .before .before .before .before .passes-clip .ensures) _ (ready .clip-given)) ∙ not-false _ (c .before .before .before .before .before .before .before .before .before .before .if1 .left)) _ (f .0) (f .1) _
 
 same-length-5 : tie.Need-same-length-5
@@ -80,7 +80,7 @@ same-length-9 c = search needs
 
 returns-4 : tie.Need-returns-4
 unfolding RecordFound
-returns-4 c = λ ready waiting d₀ bytes records h p. let f = rw (c .before .before .before .before .before .before .before .before .before .before .before .before .before .before .here2 .given .1) at ((c .before .before .before .before .before .before .before .before .before .before .before .before .before .before .before .before .before .before .before .before .record-at .ensures) (ready .runs)) in
+returns-4 c = λ ready waiting d₀ bytes records h p. let f = rw (c .before .before .before .before .before .before .before .before .before .before .before .before .before .before .here2 .given .1) at ((c .before .before .before .before .before .before .before .before .before .before .before .before .before .before .before .before .before .before .before .before .record-at .ensures .0) (ready .runs)) in
     let inside = sym ((c .before .before .before .before .before .before .before .before .before .before .before .before .before .before .before .before .before .before .before .before .before .before .before .before .passes-clip .ensures) _ (ready .clip-given)) ∙ not-false _ (c .before .before .before .before .before .before .before .before .before .before .before .before .before .before .before .before .before .before .before .before .before .before .before .if1 .left) in
     turn-laid ready waiting d₀ bytes records h inside _ _ _ _ _ _ f _ (c .before .before .before .before .before .before .before .before .before .before .before .part .ensures) _ _ _ ((c .before .before .before .before .before .before .lay-record .ensures) (lay-ready ready inside _ _ _ _ _ _ f _ (c .before .before .before .before .before .before .before .before .before .before .before .part .ensures)) waiting d₀ bytes records h p)
 

@@ -8,19 +8,19 @@ use native.Mathlib.Omega.{arith}
 use Rattle.definitions.specs.Bytes.{comma, fieldsOf}
 use Rattle.kv_text.proofs.Fields.{field-within}
 use Rattle.merged_alleles.proofs.Turns.{FieldsLeft, field-short, fields-done, fields-more, fields-too-many}
-use Rattle.merged_alleles.specs.Alts.{Keeps, extendedLetters, keepAll, listed}
+use Rattle.merged_alleles.specs.Alts.{Added, addAll, extendedLetters, listed}
 use Rattle.merged_alleles.proofs.extend_alleles.Statement.{statement}
 use Rattle.merged_alleles.proofs.extend_alleles.Tie as tie
 
 abbrev whole : List ℕ → List ℕ → List ℕ → ℕ → ℕ → List (List ℕ)
-whole list end alts len n = keepAll (listed alts len n) (flatMap (extendedLetters end) (fieldsOf comma list))
+whole list end alts len n = addAll (listed alts len n) (flatMap (extendedLetters end) (fieldsOf comma list))
 
 abbrev Inv-loop : tie.InvT-loop
-Inv-loop list end alts₀ len n kept₀ count₀ at₀ alts kept count at =
-    FieldsLeft list end (whole list end alts₀ kept₀ count₀) alts₀ alts kept count at
+Inv-loop list end alts₀ len n written₀ count₀ at₀ alts written count at =
+    FieldsLeft list end (whole list end alts₀ written₀ count₀) alts₀ alts written count at
 
 abbrev μ-loop : tie.MeasureT-loop
-μ-loop list end alts₀ len n kept₀ count₀ at₀ alts kept count at = length list - at
+μ-loop list end alts₀ len n written₀ count₀ at₀ alts written count at = length list - at
 
 loop-holds : tie.Need-loop-holds Inv-loop μ-loop
 unfolding comma
@@ -51,14 +51,14 @@ same-length : tie.Need-same-length Inv-loop μ-loop
 same-length c = (c .before .before .before .before .extend-allele .kept .1 .1 .0) ∙ (c .before .before .before .before .before .before .before .before .loop .inv .sized)
 
 returns : tie.Need-returns Inv-loop μ-loop
-unfolding Keeps
+unfolding Added
 returns c = fields-too-many _ _ _ (c .before .before .before .before .before .before .before .before .loop .inv) ((c .before .before .before .before .before .before .before .field-end .ensures)) (rw ((c .enum-told .given .1)) at ((c .before .before .before .before .extend-allele .ensures)))
 
 same-length-2 : tie.Need-same-length-2 Inv-loop μ-loop
 same-length-2 c = (c .before .before .before .before .before .before .extend-allele .kept .1 .1 .0) ∙ (c .before .before .before .before .before .before .before .before .before .before .loop .inv .sized)
 
 returns-2 : tie.Need-returns-2 Inv-loop μ-loop
-unfolding Keeps
+unfolding Added
 returns-2 c = fields-done _ _ _ (c .before .before .before .before .before .before .before .before .before .before .loop .inv) ((c .before .before .before .before .before .before .before .before .before .field-end .ensures)) (rw ((c .before .before .step .given .1)) at ((c .before .before .before .before .before .before .extend-allele .ensures))) (c .if1 .taken)
 
 add-at : tie.Need-add-at Inv-loop μ-loop
@@ -68,7 +68,7 @@ loop-less : tie.Need-loop-less Inv-loop μ-loop
 loop-less c = omega (arith, (c .before .before .before .before .before .before .before .before .before .field-end .ensures))
 
 loop-again : tie.Need-loop-again Inv-loop μ-loop
-unfolding Keeps
+unfolding Added
 loop-again c = fields-more _ _ _ (c .before .before .before .before .before .before .before .before .before .before .loop .inv) ((c .before .before .before .before .before .before .before .before .before .field-end .ensures)) (rw ((c .before .before .step .given .1)) at ((c .before .before .before .before .before .before .extend-allele .ensures))) (omega arith) ((c .before .before .before .before .before .before .extend-allele .kept .1 .1 .0))
 
 pub extend-alleles-spec : {M : Type 1} → statement M

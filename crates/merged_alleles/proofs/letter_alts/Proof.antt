@@ -6,12 +6,12 @@ use mathlib.Core.Path.{_∙_}
 use native.Mathlib.Omega.{arith}
 use Rattle.laws.proofs.Every.{every-at}
 use Rattle.merged_alleles.proofs.Turns.{SitesLeft, sites-done, sites-more, sites-start, sites-too-many}
-use Rattle.merged_alleles.specs.Alts.{Keeps, keepAll, siteLetters}
+use Rattle.merged_alleles.specs.Alts.{Added, addAll, siteLetters}
 use Rattle.merged_alleles.proofs.letter_alts.Statement.{statement}
 use Rattle.merged_alleles.proofs.letter_alts.Tie as tie
 
 abbrev whole : List ℕ → List ℕ → List ℕ → ℕ → List ℕ → List (List ℕ)
-whole s rows ref position found = keepAll [] (flatMap (siteLetters s rows ref position) (reverse found))
+whole s rows ref position found = addAll [] (flatMap (siteLetters s rows ref position) (reverse found))
 
 abbrev Inv-loop : tie.InvT-loop
 Inv-loop s rows found position reference alts₀ count len₀ n₀ left₀ alts len n left =
@@ -45,7 +45,7 @@ same-length : tie.Need-same-length Inv-loop μ-loop
 same-length c = (c .before .before .before .before .remap-alleles .kept .1 .1 .1 .1 .1 .0) ∙ (c .before .before .before .before .before .before .before .before .loop .inv .sized)
 
 returns : tie.Need-returns Inv-loop μ-loop
-unfolding Keeps
+unfolding Added
 returns c = sites-too-many _ _ _ _ _ _ (c .before .before .before .before .before .before .before .before .loop .inv) (c .before .before .before .before .before .before .before .loop-test .taken) (rw ((c .enum-told .given .1)) at ((c .before .before .before .before .remap-alleles .ensures)))
 
 sub-left : tie.Need-sub-left Inv-loop μ-loop
@@ -55,14 +55,14 @@ loop-less : tie.Need-loop-less Inv-loop μ-loop
 loop-less c = search needs
 
 loop-again : tie.Need-loop-again Inv-loop μ-loop
-unfolding Keeps
+unfolding Added
 loop-again c = sites-more _ _ _ _ _ _ (c .before .before .before .before .before .before .before .before .before .loop .inv) (c .before .before .before .before .before .before .before .before .loop-test .taken) (rw ((c .before .step .given .1)) at ((c .before .before .before .before .before .remap-alleles .ensures))) ((c .before .before .before .before .before .remap-alleles .kept .1 .1 .1 .1 .1 .0))
 
 same-length-2 : tie.Need-same-length-2 Inv-loop μ-loop
 same-length-2 c = (c .before .loop .inv .sized)
 
 returns-2 : tie.Need-returns-2 Inv-loop μ-loop
-unfolding Keeps
+unfolding Added
 returns-2 c = sites-done _ _ _ _ _ _ (c .before .loop .inv) (omega arith)
 
 pub letter-alts-spec : {M : Type 1} → statement M

@@ -2,7 +2,7 @@
 use borrow.Author.Needs.{needs}
 use borrow.Author.Tests.{not-false, not-true}
 use mathlib.Core.Path.{_∙_, sym}
-use Rattle.merged_alleles.proofs.Turns.{end-short, keeps-nothing, letters-there, no-letters-earlier}
+use Rattle.merged_alleles.proofs.Turns.{adds-nothing, end-short, letters-there, no-letters-earlier}
 use Rattle.merged_alleles.proofs.remap_alleles.Statement.{statement}
 use Rattle.merged_alleles.proofs.remap_alleles.Tie as tie
 
@@ -10,7 +10,7 @@ starts-at-requires : tie.Need-starts-at-requires
 starts-at-requires c κs = search needs
 
 returns : tie.Need-returns
-returns c = rw (no-letters-earlier _ _ _ _ _ (sym ((c .before .starts-at .ensures)) ∙ not-true _ (c .if1 .taken))) (keeps-nothing ((c .before .before .before .before .before .before .pre .0)))
+returns c = rw (no-letters-earlier _ _ _ _ _ (sym ((c .before .starts-at .ensures)) ∙ not-true _ (c .if1 .taken))) (adds-nothing ((c .before .before .before .before .before .before .pre .0)))
 
 reference-allele-requires : tie.Need-reference-allele-requires
 reference-allele-requires c κs = search needs

@@ -13,7 +13,10 @@ same-length c = search needs
 
 returns : tie.Need-returns
 unfolding RecordFound
-returns c = λ at. let f = (c .before .before .before .covering-sites .ensures) _ (at .in-runs) in none-covering (at .on) _ _ (c .if1 .taken) (f .count)
+returns c = (
+  λ at. let f = (c .before .before .before .covering-sites .ensures) _ (at .in-runs) in none-covering (at .on) _ _ (c .if1 .taken) (f .count),
+  λ at. ((c .before .before .before .covering-sites .ensures) _ (at .in-runs)) .stored,
+)
 
 slice-reshare-prefix-record-over : tie.Need-slice-reshare-prefix-record-over
 slice-reshare-prefix-record-over c = fits-in (c .before .before .before .before .before .before .before .before .before .before .before .before .before .before .pre .0 .on) _ _ _ _ (c .before .before .before .before .before .before .before .before .before .before .before .before .before .before .pre .1 .for-sites) ((c .before .before .before .covering-sites .ensures) _ (c .before .before .before .before .before .before .before .before .before .before .before .before .before .before .pre .0 .in-runs)) (c .before .before .before .covering-sites .kept .1 .1 .1 .1 .1 .1 .0)
@@ -32,8 +35,11 @@ same-length-3 c = search needs
 
 returns-2 : tie.Need-returns-2
 unfolding over-them
-returns-2 c = λ at. let f = (c .before .before .before .before .before .before .before .before .covering-sites .ensures) _ (at .in-runs) in
-    at-front (at .on) _ _ _ (exactly (at .on) _ _ _ _ (c .before .before .before .before .before .before .before .before .before .before .before .before .before .before .before .before .before .before .before .pre .1 .for-sites) f (c .before .before .before .before .before .before .before .before .covering-sites .kept .1 .1 .1 .1 .1 .1 .0)) _ _ ((c .before .before .record-over .ensures) (over-them (at .on) _ _ _ _ (c .before .before .before .before .before .before .before .before .before .before .before .before .before .before .before .before .before .before .before .pre .1 .for-sites) f (c .before .before .before .before .before .if1 .left)))
+returns-2 c = (
+  λ at. let f = (c .before .before .before .before .before .before .before .before .covering-sites .ensures) _ (at .in-runs) in
+      at-front (at .on) _ _ _ (exactly (at .on) _ _ _ _ (c .before .before .before .before .before .before .before .before .before .before .before .before .before .before .before .before .before .before .before .pre .1 .for-sites) f (c .before .before .before .before .before .before .before .before .covering-sites .kept .1 .1 .1 .1 .1 .1 .0)) _ _ ((c .before .before .record-over .ensures) (over-them (at .on) _ _ _ _ (c .before .before .before .before .before .before .before .before .before .before .before .before .before .before .before .before .before .before .before .pre .1 .for-sites) f (c .before .before .before .before .before .if1 .left))),
+  λ at. ((c .before .before .before .before .before .before .before .before .covering-sites .ensures) _ (at .in-runs)) .stored,
+)
 
 pub record-at-spec : {M : Type 1} → statement M
 record-at-spec =

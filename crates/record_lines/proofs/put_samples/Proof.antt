@@ -39,7 +39,7 @@ slice-aggregate-put-some-samples : tie.Need-slice-aggregate-put-some-samples Inv
 slice-aggregate-put-some-samples c = search needs
 
 put-some-samples-requires : tie.Need-put-some-samples-requires Inv-loop μ-loop
-put-some-samples-requires c κs = (record { sound = ((c .before .before .before .before .before .before .before .before .before .before .before .before .before .before .before .pre .sound)); few = ((c .before .before .before .before .before .before .before .before .before .before .before .before .before .before .before .pre .few)); some-samples = omega (arith, ((c .before .before .at-most-64 .ensures))); fits = room (flatMap printedSampleData _) _ (recast (lines-of-some _ _ (((c .before .before .at-most-64 .result))) (((c .before .before .before .new .ensures))) (omega (arith, ((c .before .before .at-most-64 .ensures))))) (((c .before .before .before .before .before .loop .inv)))) }, (c .before .before .before .before .before .before .before .split-alts .ensures))
+put-some-samples-requires c κs = (record { sound = ((c .before .before .before .before .before .before .before .before .before .before .before .before .before .before .before .pre .sound)); few = ((c .before .before .before .before .before .before .before .before .before .before .before .before .before .before .before .pre .few)); some-samples = omega (arith, ((c .before .before .at-most-64 .ensures))); fits = room (flatMap printedSampleData _) _ (recast (lines-of-some _ _ (((c .before .before .at-most-64 .result))) (((c .before .before .before .new .ensures))) (omega (arith, ((c .before .before .at-most-64 .ensures))))) (((c .before .before .before .before .before .loop .inv)))) }, (c .before .before .before .before .before .before .before .split-alts .ensures .places))
 
 add-sample : tie.Need-add-sample Inv-loop μ-loop
 add-sample c = search needs

@@ -45,7 +45,7 @@ add-count : tie.Need-add-count Inv-loop μ-loop
 add-count c = omega (arith, room-here _ _ (c .before .before .before .before .pre) ((c .before .loop .inv)))
 
 same-length : tie.Need-same-length Inv-loop μ-loop
-same-length c = simp length-set ((c .before .before .loop .inv .long))
+same-length c = search needs
 
 returns : tie.Need-returns Inv-loop μ-loop
 returns c = all-split _ _ (c .before .before .before .before .before .pre) ((c .before .before .loop .inv)) _ ((c .before .field-end .ensures)) refl ((c .if1 .taken))

@@ -2,9 +2,9 @@
 use borrow.Author.Needs.{needs}
 use native.Mathlib.Omega.{arith}
 use Rattle.merged_alleles.proofs.Listing.{comma-short}
-use Rattle.merged_alleles.proofs.Turns.{from-before, keeps-fresh, keeps-no-more, keeps-old, list-before, next-length, next-within}
-use Rattle.merged_alleles.proofs.keep_new.Statement.{statement}
-use Rattle.merged_alleles.proofs.keep_new.Tie as tie
+use Rattle.merged_alleles.proofs.Turns.{adds-fresh, adds-no-more, adds-old, from-before, list-before, next-length, next-within}
+use Rattle.merged_alleles.proofs.add_allele.Statement.{statement}
+use Rattle.merged_alleles.proofs.add_allele.Tie as tie
 
 put-comma-requires : tie.Need-put-comma-requires
 put-comma-requires c κs = omega (arith, (c .before .before .before .before .pre .0 .small), (c .before .before .before .before .pre .0 .few))
@@ -29,13 +29,13 @@ same-length : tie.Need-same-length
 same-length c = search needs
 
 returns : tie.Need-returns
-returns c = keeps-old ((c .before .before .before .before .before .before .before .before .before .before .before .before .before .before .before .before .before .before .pre .0)) _ _ ((c .before .before .before .before .before .before .before .before .before .before .before .before .before .before .before .before .before .before .pre .1)) ((c .before .before .before .before .before .before .before .before .before .before .before .before .before .before .before .before .before .before .pre .2)) ((c .before .before .before .before .before .before .before .before .before .before .before .before .before .put-comma .ensures)) ((c .before .before .before .before .before .before .before .before .before .put-bytes .ensures)) ((c .before .before .before .before .before .put-bytes2 .ensures)) ((c .before .is-listed .ensures)) (c .if1 .taken)
+returns c = adds-old ((c .before .before .before .before .before .before .before .before .before .before .before .before .before .before .before .before .before .before .pre .0)) _ _ ((c .before .before .before .before .before .before .before .before .before .before .before .before .before .before .before .before .before .before .pre .1)) ((c .before .before .before .before .before .before .before .before .before .before .before .before .before .before .before .before .before .before .pre .2)) ((c .before .before .before .before .before .before .before .before .before .before .before .before .before .put-comma .ensures)) ((c .before .before .before .before .before .before .before .before .before .put-bytes .ensures)) ((c .before .before .before .before .before .put-bytes2 .ensures)) ((c .before .is-listed .ensures)) (c .if1 .taken)
 
 same-length-2 : tie.Need-same-length-2
 same-length-2 c = search needs
 
 returns-2 : tie.Need-returns-2
-returns-2 c = keeps-no-more ((c .before .before .before .before .before .before .before .before .before .before .before .before .before .before .before .before .before .before .before .pre .0)) _ _ ((c .before .before .before .before .before .before .before .before .before .before .before .before .before .before .before .before .before .before .before .pre .1)) ((c .before .before .before .before .before .before .before .before .before .before .before .before .before .before .before .before .before .before .before .pre .2)) ((c .before .before .before .before .before .before .before .before .before .before .before .before .before .before .put-comma .ensures)) ((c .before .before .before .before .before .before .before .before .before .before .put-bytes .ensures)) ((c .before .before .before .before .before .before .put-bytes2 .ensures)) ((c .before .before .is-listed .ensures)) (c .before .if1 .left) (c .if2 .taken)
+returns-2 c = adds-no-more ((c .before .before .before .before .before .before .before .before .before .before .before .before .before .before .before .before .before .before .before .pre .0)) _ _ ((c .before .before .before .before .before .before .before .before .before .before .before .before .before .before .before .before .before .before .before .pre .1)) ((c .before .before .before .before .before .before .before .before .before .before .before .before .before .before .before .before .before .before .before .pre .2)) ((c .before .before .before .before .before .before .before .before .before .before .before .before .before .before .put-comma .ensures)) ((c .before .before .before .before .before .before .before .before .before .before .put-bytes .ensures)) ((c .before .before .before .before .before .before .put-bytes2 .ensures)) ((c .before .before .is-listed .ensures)) (c .before .if1 .left) (c .if2 .taken)
 
 add-t19 : tie.Need-add-t19
 add-t19 c = search needs
@@ -44,10 +44,10 @@ same-length-3 : tie.Need-same-length-3
 same-length-3 c = search needs
 
 returns-3 : tie.Need-returns-3
-returns-3 c = keeps-fresh ((c .before .before .before .before .before .before .before .before .before .before .before .before .before .before .before .before .before .before .before .pre .0)) _ _ ((c .before .before .before .before .before .before .before .before .before .before .before .before .before .before .before .before .before .before .before .pre .1)) ((c .before .before .before .before .before .before .before .before .before .before .before .before .before .before .before .before .before .before .before .pre .2)) ((c .before .before .before .before .before .before .before .before .before .before .before .before .before .before .put-comma .ensures)) ((c .before .before .before .before .before .before .before .before .before .before .put-bytes .ensures)) ((c .before .before .before .before .before .before .put-bytes2 .ensures)) ((c .before .before .is-listed .ensures)) (c .before .if1 .left) (c .if2 .left)
+returns-3 c = adds-fresh ((c .before .before .before .before .before .before .before .before .before .before .before .before .before .before .before .before .before .before .before .pre .0)) _ _ ((c .before .before .before .before .before .before .before .before .before .before .before .before .before .before .before .before .before .before .before .pre .1)) ((c .before .before .before .before .before .before .before .before .before .before .before .before .before .before .before .before .before .before .before .pre .2)) ((c .before .before .before .before .before .before .before .before .before .before .before .before .before .before .put-comma .ensures)) ((c .before .before .before .before .before .before .before .before .before .before .put-bytes .ensures)) ((c .before .before .before .before .before .before .put-bytes2 .ensures)) ((c .before .before .is-listed .ensures)) (c .before .if1 .left) (c .if2 .left)
 
-pub keep-new-spec : {M : Type 1} → statement M
-keep-new-spec =
+pub add-allele-spec : {M : Type 1} → statement M
+add-allele-spec =
     tie.close
     (tie.spec
     put-comma-requires
