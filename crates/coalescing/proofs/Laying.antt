@@ -51,4 +51,4 @@ module _ (s rows : List ℕ) (samples : ℕ) (reference contig : List ℕ) (posi
   pub record-samples-fit : {d d′ : List ℕ} {at′ : ℕ}
       → Laid d at (headOf contig position position (refBytes s rows reference place) alts) d′ at′
       → SamplesPrintable s rows samples found alts at′
-  record-samples-fit l = record { sound = h .sound; few = h .few; fits = omega (arith, h .fits, l .next) }
+  record-samples-fit l = record { sound = h .sound; few = h .few; few-samples = h .few-samples; fits = omega (arith, h .fits, l .next) }

@@ -8,6 +8,7 @@ use mathlib.Core.Path.{_≡_}
 use Rattle.definitions.specs.Alleles.{isBlock}
 use Rattle.definitions.specs.Bytes.{comma, fieldsOf}
 use Rattle.definitions.specs.Checked.{Checked, accepted}
+use Rattle.definitions.specs.Limits.{maxSamples}
 use Rattle.definitions.specs.Numbers.{maxNumber}
 use Rattle.definitions.specs.Printed.{printedRecord}
 use Rattle.definitions.specs.Records.{Record}
@@ -30,6 +31,7 @@ pub record RecordFits (s rows : List ℕ) (samples : ℕ) (reference contig : Li
   pub in-range : position ≤ maxNumber
   pub sound : Every SoundSite (map (siteAt s rows) found)
   pub few : length (fieldsOf comma alts) ≤ 15
+  pub few-samples : samples ≤ maxSamples
   pub fits : at + length (headOf contig position position (refBytes s rows reference place) alts) + mostData * samples < 2 ^ 64
 
 -- what the next block record asks: the one that is held back can be laid, and the new lines fit the buffer

@@ -83,6 +83,7 @@ module _ {s rows : List ℕ} {samples : ℕ} {reference contig : List ℕ} {firs
   printable k h = record {
     sound = found-are-sound (r .on) first (r .to);
     few = few-fields;
+    few-samples = r .on .loaded .few;
     fits = omega (arith, r .on .loaded .few);
   }
 
@@ -163,6 +164,7 @@ module _ {s rows : List ℕ} {samples : ℕ} {reference contig : List ℕ} {firs
     in-range = omega (arith, r .ordered, r .in-range);
     sound = found-are-sound (r .on) first (r .to);
     few = few-fields;
+    few-samples = r .on .loaded .few;
     fits = simp (length-append, head-length) (omega (
       arith,
       named,

@@ -62,7 +62,7 @@ fn spread(list: &[Found], count: usize, first: SampleIndex, own: &mut [usize])
     }
 }
 
-// `own_sites` for at most 64 sites.
+// The own site of each sample from `first` on that has an entry, for at most 64 sites.
 fn few_own_sites(rows: &[usize], sites: &[usize], first: SampleIndex, own: &mut [usize])
     requires { ⌜ length (now sites) ≤ 64 ⌝ }
     ensures { λ _. ⌜ now (own .exit) ≡ putAll (first .0) (map (foundOf (now (rows .entry))) (now (sites .entry))) (now (own .entry)) ⌝ }
@@ -82,11 +82,12 @@ fn last_from(end: usize) -> usize
     if 64 < end { end - 64 } else { 0 }
 }
 
-// The own site of each sample from `first` on that has an entry: the first of the sites that is the sample's. The entry of a
-// sample that has none is left as it is.
-pub fn own_sites(rows: &[usize], sites: &[usize], first: SampleIndex, own: &mut [usize])
-    ensures { λ _. ⌜ now (own .exit) ≡ ownSites (now (rows .entry)) (now (sites .entry)) (first .0) (now (own .entry)) ⌝ }
+// The own site of each sample that has an entry: the first of the sites that is the sample's. The entry of a sample that has
+// none is left as it is.
+pub fn own_sites(rows: &[usize], sites: &[usize], own: &mut [usize])
+    ensures { λ _. ⌜ now (own .exit) ≡ ownSites (now (rows .entry)) (now (sites .entry)) 0 (now (own .entry)) ⌝ }
 {
+    let first = SampleIndex::new(0);
     let mut end = sites.len();
     while 0 < end {
         let from = last_from(end);

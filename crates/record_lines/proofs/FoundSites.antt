@@ -1,32 +1,32 @@
--- A sample's site among those found, and the lines of the samples from one on.
-use Prim.Native.Nat.{_+_, _-_, _<_, _^_, _≤_, suc, zero, ℕ}
+-- A sample's site among those found, and the lines of the samples.
+use Prim.Native.Nat.{_+_, _<_, _^_, _≤_, suc, zero, ℕ}
 use borrow.Author.Tests.{le-ltb, lt-ltb, ltb-false, ltb-true}
 use lib.Dec.{eqb, ltb}
 use lib.ListN.{drop, drop-of-length-le, getD, length, length-map, length-replicate, replicate, take}
 use lib.Seq.{drop-cons, length-take-le}
 use mathlib.Core.Bool.{Bool, false, true}
-use mathlib.Core.List.{List, [], _++_, _∷_, flatMap, map, map-append}
+use mathlib.Core.List.{List, [], _++_, _∷_, flatMap, map}
 use mathlib.Core.Option.{Option, Option·getD, Option·map, none, some}
 use mathlib.Core.Path.{_∙_, _≡_, ap, refl, sym}
-use native.Mathlib.Nat.{add-zero, sub-zero}
 use native.Mathlib.Numerals.{add-one}
 use native.Mathlib.Omega.{arith}
 use Rattle.definitions.specs.Bytes.{comma, fieldsOf}
 use Rattle.definitions.specs.Cohort.{Site}
-use Rattle.definitions.specs.Genotypes.{SampleData, dataOfSample, missingData, siteData}
+use Rattle.definitions.specs.Genotypes.{dataOfSample, missingData, siteData}
+use Rattle.definitions.specs.Limits.{maxSamples}
 use Rattle.definitions.specs.Lists.{firstWhere, numbersFrom}
 use Rattle.definitions.specs.Printed.{printedSampleData}
 use Rattle.found_sites.proofs.OwnSites.{own-length}
 use Rattle.found_sites.specs.Own.{ownSite, ownSites}
 use Rattle.laws.proofs.Every.{Every, also, every-all, every-member, every-of-map, nothing}
-use Rattle.laws.proofs.Members.{first-found, first-map, flatMap-append, length-numbers, numbers-append}
+use Rattle.laws.proofs.Members.{first-found, first-map, length-numbers}
 use Rattle.laws.proofs.SampleDataSound.{sample-data-sound}
 use Rattle.laws.proofs.SoundInput.{SoundSite}
 use Rattle.record_laws.proofs.Lengths.{all-data-few}
 use Rattle.sample_alleles.specs.Readings.{allelesIn}
 use Rattle.tables.proofs.Parts.{column-past}
 use Rattle.tables.specs.Tables.{alleleSpelled, siteAt}
-use Rattle.record_lines.specs.Samples.{OwnPrintable, SamplePrintable, SamplesPrintable, SitePrintable, SomePrintable, dataFound, dataOwn, printedOwn, printedSamples, printedSome}
+use Rattle.record_lines.specs.Samples.{OwnPrintable, SamplePrintable, SamplesPrintable, SitePrintable, dataFound, dataOwn, printedOwn, printedSamples}
 
 -- ---- a sample by its site
 
@@ -97,25 +97,6 @@ module _ (s rows : List ℕ) (position : ℕ) (ref alts found : List ℕ) (sound
   own-sound zero (suc count) first h = absurd (omega arith)
   own-sound (suc n) (suc count) first h = also (data-of-own s rows position ref alts found sound first refl .1) (own-sound n count (suc first) (omega arith))
 
--- the front of the entries of 64 samples
-module _ {s rows : List ℕ} {first count : ℕ} {found : List ℕ} {position : ℕ} {ref alts : List ℕ} {at : ℕ} (p : SomePrintable s rows first count found position ref alts at)
-    {own : List ℕ} (e : own ≡ ownSites rows found first (replicate 64 (length rows))) where
-  pub some-count : count ≡ length (take count own)
-  some-count =
-      let long = ap length e ∙ own-length rows found first (replicate 64 (length rows)) ∙ length-replicate 64 (length rows) in
-      sym (length-take-le count own (omega (arith, p .some-samples)))
-
-  pub some-lines : printedOwn s rows position ref alts (take count own) ≡ printedSome s rows first count found position ref alts
-  unfolding printedOwn
-  some-lines = rw e (ap (flatMap printedSampleData) (own-data s rows position ref alts found (p .sound) 64 count first (p .some-samples)))
-
-  pub some-printable : OwnPrintable s rows (take count own) position ref alts at
-  some-printable = record {
-    sound = rw e (own-sound s rows position ref alts found (p .sound) 64 count first (p .some-samples));
-    few = p .few;
-    fits = rw some-lines (p .fits);
-  }
-
 -- ---- some samples by the numbers of their sites
 
 module _ (s rows : List ℕ) (position : ℕ) (ref alts own : List ℕ) where
@@ -130,44 +111,7 @@ module _ (s rows : List ℕ) (position : ℕ) (ref alts own : List ℕ) where
 
 -- ---- the samples
 
-module _ (data′ : ℕ → SampleData) (first count : ℕ) where
-  -- the lines of those from the x-th on
-  unfoldable pub linesFrom : ℕ → List ℕ
-  linesFrom x = flatMap printedSampleData (map data′ (numbersFrom (first + x) (count - x)))
-
-  pub lines-all : linesFrom 0 ≡ flatMap printedSampleData (map data′ (numbersFrom first count))
-  unfolding linesFrom
-  lines-all = rw (sub-zero, add-zero)
-
-  pub lines-next : (x : ℕ) → x < count → linesFrom x ≡ printedSampleData (data′ (first + x)) ++ linesFrom (x + 1)
-  unfolding linesFrom numbersFrom flatMap
-  lines-next x h =
-      let n : count - x ≡ suc (count - (x + 1)) = omega arith in
-      let m : suc (first + x) ≡ first + (x + 1) = omega arith in
-      rw n (rw m)
-
-  -- the lines of some of them, and of the others
-  lines-some : (x n : ℕ) → x + n ≤ count → linesFrom x ≡ flatMap printedSampleData (map data′ (numbersFrom (first + x) n)) ++ linesFrom (x + n)
-  unfolding linesFrom
-  lines-some x n h =
-      let m : count - x ≡ n + (count - (x + n)) = omega arith in
-      let k : first + (x + n) ≡ first + x + n = omega arith in
-      rw (m, k, numbers-append (first + x) n (count - (x + n)))
-      (ap (flatMap printedSampleData) (map-append data′ (numbersFrom (first + x) n) (numbersFrom (first + x + n) (count - (x + n))))
-      ∙ flatMap-append printedSampleData (map data′ (numbersFrom (first + x) n)) (map data′ (numbersFrom (first + x + n) (count - (x + n)))))
-
-  pub lines-none : (x : ℕ) → count ≤ x → linesFrom x ≡ []
-  unfolding linesFrom numbersFrom flatMap
-  lines-none x h = let n : count - x ≡ 0 = omega arith in rw n
-
--- of all samples, the lines of some from the x-th on
-pub lines-of-some : (data′ : ℕ → SampleData) (count n : ℕ) {x first : ℕ} → first ≡ x → x + n ≤ count
-    → linesFrom data′ 0 count x ≡ flatMap printedSampleData (map data′ (numbersFrom first n)) ++ linesFrom data′ 0 count (x + n)
-lines-of-some data′ count n {x} {first} e h =
-    let z : 0 + x ≡ first = omega arith in
-    lines-some data′ 0 count x n h ∙ rw z
-
--- the offset behind them fits
+-- the offset behind their lines fits
 pub samples-fit : {s rows : List ℕ} {samples : ℕ} {found alts : List ℕ} {at : ℕ} (position : ℕ) (ref : List ℕ)
     → SamplesPrintable s rows samples found alts at → at + length (printedSamples s rows samples found position ref alts) < 2 ^ 64
 samples-fit {s} {rows} {samples} {found} {alts} position ref p =
@@ -176,3 +120,22 @@ samples-fit {s} {rows} {samples} {found} {alts} position ref p =
     let few = all-data-few (suc (length (allelesIn alts))) {vs = map data′ (numbersFrom 0 samples)} (omega arith) (omega (arith, p .few))
     (every-of-map data′ (every-all (λ x. sample-data-sound ref (allelesIn alts) position (map (siteAt s rows) found) x (p .sound)) (numbersFrom 0 samples))) in
     omega (arith, p .fits, length-map (numbersFrom 0 samples) data′, length-numbers 0 samples)
+
+-- the front of the entries of as many samples as a cohort may have
+module _ {s rows : List ℕ} {samples : ℕ} {found alts : List ℕ} {at : ℕ} (p : SamplesPrintable s rows samples found alts at)
+    {own : List ℕ} (e : own ≡ ownSites rows found 0 (replicate maxSamples (length rows))) where
+  pub front-count : samples ≡ length (take samples own)
+  front-count =
+      let long = ap length e ∙ own-length rows found 0 (replicate maxSamples (length rows)) ∙ length-replicate maxSamples (length rows) in
+      sym (length-take-le samples own (omega (arith, p .few-samples)))
+
+  pub front-lines : (position : ℕ) (ref : List ℕ) → printedOwn s rows position ref alts (take samples own) ≡ printedSamples s rows samples found position ref alts
+  unfolding printedOwn
+  front-lines position ref = rw e (ap (flatMap printedSampleData) (own-data s rows position ref alts found (p .sound) maxSamples samples 0 (p .few-samples)))
+
+  pub front-printable : (position : ℕ) (ref : List ℕ) → OwnPrintable s rows (take samples own) position ref alts at
+  front-printable position ref = record {
+    sound = rw e (own-sound s rows position ref alts found (p .sound) maxSamples samples 0 (p .few-samples));
+    few = p .few;
+    fits = rw (front-lines position ref) (samples-fit position ref p);
+  }

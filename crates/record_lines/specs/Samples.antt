@@ -6,6 +6,7 @@ use mathlib.Core.Bool.{cond}
 use mathlib.Core.List.{List, flatMap, map}
 use Rattle.definitions.specs.Bytes.{comma, fieldsOf}
 use Rattle.definitions.specs.Genotypes.{SampleData, dataOfSample, missingData, siteData}
+use Rattle.definitions.specs.Limits.{maxSamples}
 use Rattle.definitions.specs.Lists.{numbersFrom}
 use Rattle.definitions.specs.Printed.{printedSampleData}
 use Rattle.laws.proofs.Every.{Every}
@@ -15,8 +16,7 @@ use Rattle.sample_alleles.specs.Readings.{allelesIn}
 use Rattle.tables.specs.Tables.{siteAt}
 
 -- the lines of a sample by its site; what is said of a sample by the number of its site, and of some samples by those numbers, where
--- a number past the table's is none; what is said of a sample by the sites that were found; and the lines of so many samples, from
--- one on and from the first on
+-- a number past the table's is none; what is said of a sample by the sites that were found; and the lines of so many samples
 abbrev pub printedSite : List ℕ → List ℕ → ℕ → ℕ → List ℕ → List ℕ → List ℕ
 printedSite s rows site position ref alts = printedSampleData (siteData ref (allelesIn alts) position (siteAt s rows site))
 
@@ -28,10 +28,6 @@ printedOwn s rows position ref alts own = flatMap printedSampleData (map (dataOw
 
 abbrev pub dataFound : List ℕ → List ℕ → List ℕ → ℕ → List ℕ → List ℕ → ℕ → SampleData
 dataFound s rows found position ref alts = dataOfSample ref (allelesIn alts) position (map (siteAt s rows) found)
-
-abbrev pub printedSome : List ℕ → List ℕ → ℕ → ℕ → List ℕ → ℕ → List ℕ → List ℕ → List ℕ
-printedSome s rows first count found position ref alts =
-    flatMap printedSampleData (map (dataFound s rows found position ref alts) (numbersFrom first count))
 
 abbrev pub printedSamples : List ℕ → List ℕ → ℕ → List ℕ → ℕ → List ℕ → List ℕ → List ℕ
 printedSamples s rows samples found position ref alts =
@@ -55,15 +51,9 @@ pub record OwnPrintable (s rows own : List ℕ) (position : ℕ) (ref alts : Lis
   pub few : length (fieldsOf comma alts) ≤ 15
   pub fits : at + length (printedOwn s rows position ref alts own) < 2 ^ 64
 
--- what `put_some_samples` asks
-pub record SomePrintable (s rows : List ℕ) (first count : ℕ) (found : List ℕ) (position : ℕ) (ref alts : List ℕ) (at : ℕ) : Type 0 where
-  pub sound : Every SoundSite (map (siteAt s rows) found)
-  pub few : length (fieldsOf comma alts) ≤ 15
-  pub some-samples : count ≤ 64
-  pub fits : at + length (printedSome s rows first count found position ref alts) < 2 ^ 64
-
--- what `put_samples` asks: no sample's lines are longer than `mostData`
+-- what `put_samples` asks: no more samples than a cohort may have; no sample's lines are longer than `mostData`
 pub record SamplesPrintable (s rows : List ℕ) (samples : ℕ) (found alts : List ℕ) (at : ℕ) : Type 0 where
   pub sound : Every SoundSite (map (siteAt s rows) found)
   pub few : length (fieldsOf comma alts) ≤ 15
+  pub few-samples : samples ≤ maxSamples
   pub fits : at + mostData * samples < 2 ^ 64

@@ -3,16 +3,15 @@
 // position. `reference` is REF of the record, and `alts` are its ALTs, with commas; `fields` says where each of the `alt_count` ALTs
 // stands there (`sample_alleles::split_alts`).
 ghost use mathlib.Core.Path.{_≡_};
-ghost use Prim.Native.Nat.{_≤_, min};
+ghost use Prim.Native.Nat.{_≤_};
 ghost use Rattle.definitions.specs.Numbers.{maxNumber};
 ghost use Rattle.definitions.specs.Printed.{printedSampleData};
 ghost use Rattle.kv_write.specs.Laid.{Laid};
 ghost use Rattle.kv_write.specs.Optional.{optionOf};
 ghost use Rattle.sample_alleles.specs.Fields.{AltsAt};
 ghost use Rattle.record_lines.specs.Head.{HeadFits, endFrom, headOf};
-ghost use Rattle.record_lines.specs.Samples.{OwnPrintable, SamplePrintable, SamplesPrintable, SitePrintable, SomePrintable, dataOwn, printedOwn, printedSamples, printedSite, printedSome};
+ghost use Rattle.record_lines.specs.Samples.{OwnPrintable, SamplePrintable, SamplesPrintable, SitePrintable, dataOwn, printedOwn, printedSamples, printedSite};
 use bio_ids::GenomePosition;
-use bio_ids::SampleIndex;
 use kv_write::OptionalNumber;
 
 // END of a record: its last position, if that is past its first.
@@ -171,51 +170,7 @@ fn put_own_samples(
     next
 }
 
-// Lays what the record says of each of so many samples from one on, at most 64.
-fn put_some_samples(
-    s: &[u8],
-    rows: &[usize],
-    first: SampleIndex,
-    count: usize,
-    found: &[usize],
-    position: GenomePosition,
-    reference: &[u8],
-    alts: &[u8],
-    fields: &[usize],
-    alt_count: usize,
-    out: &mut [u8],
-    at: usize,
-) -> usize
-    requires { ⌜ SomePrintable (now s) (now rows) (first .0) count (now found) (position .0) (now reference) (now alts) at
-        × AltsAt (now alts) (now fields) «alt_count» ⌝ }
-    ensures { λ r. ⌜ Laid (now (out .entry)) at
-        (printedSome (now (s .entry)) (now (rows .entry)) (first .0) count (now (found .entry)) (position .0) (now (reference .entry)) (now (alts .entry)))
-        (now (out .exit)) r ⌝ }
-{
-    let mut own = [rows.len(); 64];
-    found_sites::own_sites(rows, found, first, &mut own);
-    put_own_samples(
-        s,
-        rows,
-        &own[..count],
-        position,
-        reference,
-        alts,
-        fields,
-        alt_count,
-        out,
-        at,
-    )
-}
-
-// So many, but at most 64.
-fn at_most_64(count: usize) -> usize
-    ensures { λ r. ⌜ r ≡ min count 64 ⌝ }
-{
-    if count < 64 { count } else { 64 }
-}
-
-// Lays what the record says of each of so many samples.
+// Lays what the record says of each of so many samples, at most 64.
 pub fn put_samples(
     s: &[u8],
     rows: &[usize],
@@ -234,26 +189,18 @@ pub fn put_samples(
 {
     let mut fields = [0usize; 32];
     let alt_count = sample_alleles::split_alts(alts, &mut fields);
-    let mut next = at;
-    let mut sample = 0;
-    while sample < samples {
-        let first = SampleIndex::new(sample);
-        let count = at_most_64(samples - sample);
-        next = put_some_samples(
-            s,
-            rows,
-            first,
-            count,
-            found,
-            position,
-            reference,
-            alts,
-            &fields,
-            alt_count,
-            out,
-            next,
-        );
-        sample += count;
-    }
-    next
+    let mut own = [rows.len(); 64];
+    found_sites::own_sites(rows, found, &mut own);
+    put_own_samples(
+        s,
+        rows,
+        &own[..samples],
+        position,
+        reference,
+        alts,
+        &fields,
+        alt_count,
+        out,
+        at,
+    )
 }

@@ -6,10 +6,13 @@ use Rattle.found_sites.proofs.own_sites.Statement.{statement}
 use Rattle.found_sites.proofs.own_sites.Tie as tie
 
 abbrev Inv-loop : tie.InvT-loop
-Inv-loop rows sites first own₀ end₀ own end = Storing rows sites (first .0) own₀ own end
+Inv-loop rows sites own₀ first end₀ own end = Storing rows sites (first .0) own₀ own end
 
 abbrev μ-loop : tie.MeasureT-loop
-μ-loop rows sites first own₀ end₀ own end = end
+μ-loop rows sites own₀ first end₀ own end = end
+
+new-requires : tie.Need-new-requires Inv-loop μ-loop
+new-requires c κs = search needs
 
 loop-holds : tie.Need-loop-holds Inv-loop μ-loop
 loop-holds c = store-start _ _ _ _
@@ -42,7 +45,7 @@ same-length : tie.Need-same-length Inv-loop μ-loop
 same-length c = store-length ((c .before .loop .inv))
 
 returns : tie.Need-returns Inv-loop μ-loop
-returns c = store-end ((c .before .loop .inv)) ((c .loop-test .left))
+returns c = rw (c .before .before .new .ensures) at (store-end (c .before .loop .inv) (c .loop-test .left))
 
 pub own-sites-spec : {M : Type 1} → statement M
 own-sites-spec =
@@ -50,6 +53,7 @@ own-sites-spec =
     (tie.spec
     Inv-loop
     μ-loop
+    new-requires
     loop-holds
     last-from-requires
     mul-few-own-sites
