@@ -13,7 +13,7 @@ group-by-sample-requires : tie.Need-group-by-sample-requires
 group-by-sample-requires c κs = ((c .before .before .before .before .before .before .before .before .before .before .before .before .pre .1 .for-order), omega (arith, (c .before .before .before .before .before .before .before .before .before .before .before .before .pre .0 .loaded .few)))
 
 order-contigs-requires : tie.Need-order-contigs-requires
-order-contigs-requires c κs = (c .before .before .before .before .before .before .before .before .before .before .before .before .before .before .before .before .before .pre .1 .for-firsts)
+order-contigs-requires c κs = omega (arith, c .before .before .before .before .before .before .before .before .before .before .before .before .before .before .before .before .before .pre .1 .for-firsts)
 
 slice-reshare-prefix-combine-contigs : tie.Need-slice-reshare-prefix-combine-contigs
 slice-reshare-prefix-combine-contigs c = omega (arith, firsts-within ((c .before .before .before .before .before .before .before .before .before .before .before .before .before .before .before .before .before .before .before .before .pre .0)) ((c .before .before .before .before .before .before .before .before .before .before .before .before .before .before .before .before .before .before .before .before .pre .1 .for-firsts)) ((c .before .before .order-contigs .ensures) _ ((c .before .before .before .before .before .before .before .before .before .before .before .before .before .before .before .before .before .before .before .before .pre .0 .loaded .table)) ((c .before .before .before .before .before .before .before .before .before .before .before .before .before .before .before .before .before .before .before .before .pre .0 .all-sites))))
