@@ -35,7 +35,9 @@ use Rattle.laws.proofs.Tests.{all-three, clash}
 use Rattle.tables.proofs.Cleared.{scratch-same}
 use Rattle.tables.proofs.SameSites.{same-rows, same-sites}
 use Rattle.tables.specs.Tables.{nameAt, namesIn, siteAt, tableLength}
-use Rattle.combine_gvcfs.specs.Combined.{CohortHeld, Combined, TableWhole, TablesFit, TextsAnswered, TextsFit, textsOf}
+use Rattle.combine_gvcfs.specs.Combined.{CohortHeld, Combined, TableWhole, TablesFit, TextsAnswered, TextsFit, TriedWith, textsOf}
+use Rattle.combine_gvcfs.specs.declared.Tried.the-variants as tried
+use Rattle.combine_gvcfs.specs.declared.Tried.{Tried}
 
 -- ---- a text that may be left out
 
@@ -260,10 +262,10 @@ tables-fit places n o f c whole few = record {
   for-sites = λ sites h k. let fit = few sites h k in record { for-order = omega arith; for-firsts = omega arith; for-chosen = omega arith };
 }
 
--- a table for 256 sites
-pub short-fit : {names rows order firsts chosen : List ℕ} → length names ≡ 2 * maxSamples → length rows ≡ 5632 → length order ≡ 256 → length firsts ≡ 256
-    → length chosen ≡ 256 → TablesFit names rows order firsts chosen
-short-fit n r o f c = tables-fit 256 n o f c (inr (omega arith)) (λ sites h k. omega arith)
+-- a table for so many sites, with no rows for the groups of other texts
+pub short-fit : (places : ℕ) {names rows order firsts chosen : List ℕ} → places < maxSites → length names ≡ 2 * maxSamples → length rows ≡ places * 22
+    → length order ≡ places → length firsts ≡ places → length chosen ≡ places → TablesFit names rows order firsts chosen
+short-fit places few n r o f c = tables-fit places n o f c (inr (omega arith)) (λ sites h k. omega arith)
 
 -- a table for all
 pub long-fit : {names rows order firsts chosen : List ℕ} → length names ≡ 2 * maxSamples → length rows ≡ tableLength → length order ≡ maxSites
@@ -275,6 +277,13 @@ pub rows-short : {names₀ names rows₀ rows : List ℕ} → 2 * maxSamples ≤
 rows-short e u = ⊎-elim (λ h. absurd (omega arith)) (λ h. h) (u .no-room)
 
 -- the table for all has rows for all sites
+-- what a table of so many places gave, as what a longer one may give
+pub tried-longer : (texts : Texts) (scratch : ℕ) (out out′ : List ℕ) (places more : ℕ) (r : Tried) → more < maxSites * 22
+    → TriedWith texts scratch out out′ places r → TriedWith texts scratch out out′ more r
+unfolding TriedWith
+tried-longer texts scratch out out′ places more (tried.Done outcome) fit t = t
+tried-longer texts scratch out out′ places more tried.NoRoom fit t = (t .0, fit)
+
 pub full-table : {R : Type 0} (places : ℕ) → places ≡ tableLength → places < maxSites * 22 → R
 full-table places e h = absurd (omega arith)
 

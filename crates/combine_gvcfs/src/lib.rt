@@ -167,7 +167,41 @@ fn combine_with<'a>(
     }
 }
 
-// The same with tables for 256 sites, which cost less to clear.
+// The same with tables for 64 sites, which cost least to clear.
+fn combine_tiny<'a>(
+    cohort: &'a [u8],
+    clipped: bool,
+    clip: &[u8],
+    referenced: bool,
+    reference: &'a [u8],
+    scratch: &mut [u64],
+    out: &mut [u8],
+) -> Tried
+    requires { ⌜ TextsFit (now cohort) clipped (now clip) referenced (now reference) ⌝ }
+    ensures { λ r. ⌜ TriedWith (textsOf (now (cohort .entry)) clipped (now (clip .entry)) referenced (now (reference .entry))) (length (now (scratch .entry))) (now (out .entry)) (now (out .exit)) 1408 r ⌝ }
+{
+    let mut names = [0usize; 128];
+    let mut rows = [0usize; 1408];
+    let mut order = [0usize; 64];
+    let mut firsts = [0usize; 64];
+    let mut chosen = [0usize; 64];
+    combine_with(
+        cohort,
+        clipped,
+        clip,
+        referenced,
+        reference,
+        &mut names,
+        &mut rows,
+        &mut order,
+        &mut firsts,
+        &mut chosen,
+        scratch,
+        out,
+    )
+}
+
+// The same with tables for 256 sites.
 fn combine_short<'a>(
     cohort: &'a [u8],
     clipped: bool,
@@ -239,8 +273,7 @@ fn combine_long<'a>(
     }
 }
 
-// Whether the texts are so short that tables for 256 sites are tried first; a site group has at least 70 bytes. What is answered here
-// changes no list.
+// Whether the texts are so short that small tables are tried first. What is answered here changes no list.
 fn is_small(cohort: &[u8], clipped: bool, clip: &[u8], referenced: bool, reference: &[u8]) -> bool
     ensures { λ r. ⌜ r ≡ leb (length (now (cohort .entry))) 16384
         && atMost 1024 (onlyIf clipped (now (clip .entry)))
@@ -255,7 +288,30 @@ fn is_small(cohort: &[u8], clipped: bool, clip: &[u8], referenced: bool, referen
     has_at_most(referenced, reference, 1024)
 }
 
-// Writes the list of texts that are short enough: rows 1 to 14. If the tables for 256 sites have no room the others are taken.
+// Writes the list of short texts by way of small tables: a site group has at least 70 bytes, so 4,480 bytes hold at most 64, and
+// 16,384 at most 234. For other texts they have no room.
+fn combine_small<'a>(
+    cohort: &'a [u8],
+    clipped: bool,
+    clip: &[u8],
+    referenced: bool,
+    reference: &'a [u8],
+    scratch: &mut [u64],
+    out: &mut [u8],
+) -> Tried
+    requires { ⌜ TextsFit (now cohort) clipped (now clip) referenced (now reference) ⌝ }
+    ensures { λ r. ⌜ TriedWith (textsOf (now (cohort .entry)) clipped (now (clip .entry)) referenced (now (reference .entry))) (length (now (scratch .entry))) (now (out .entry)) (now (out .exit)) 5632 r ⌝ }
+{
+    if !is_small(cohort, clipped, clip, referenced, reference) {
+        return Tried::NoRoom;
+    }
+    if cohort.len() <= 4480 {
+        return combine_tiny(cohort, clipped, clip, referenced, reference, scratch, out);
+    }
+    combine_short(cohort, clipped, clip, referenced, reference, scratch, out)
+}
+
+// Writes the list of texts that are short enough: rows 1 to 14. If no small tables have room the others are taken.
 fn combine_fitting<'a>(
     cohort: &'a [u8],
     clipped: bool,
@@ -268,10 +324,7 @@ fn combine_fitting<'a>(
     requires { ⌜ TextsFit (now cohort) clipped (now clip) referenced (now reference) ⌝ }
     ensures { λ r. ⌜ TextsAnswered (textsOf (now (cohort .entry)) clipped (now (clip .entry)) referenced (now (reference .entry))) (length (now (scratch .entry))) (now (out .entry)) (now (out .exit)) r ⌝ }
 {
-    if !is_small(cohort, clipped, clip, referenced, reference) {
-        return combine_long(cohort, clipped, clip, referenced, reference, scratch, out);
-    }
-    let tried = combine_short(cohort, clipped, clip, referenced, reference, scratch, out);
+    let tried = combine_small(cohort, clipped, clip, referenced, reference, scratch, out);
     match tried {
         Tried::Done(outcome) => outcome,
         Tried::NoRoom => combine_long(cohort, clipped, clip, referenced, reference, scratch, out),

@@ -1,6 +1,7 @@
 -- The tables have room for 256 sites.
 use borrow.Author.Needs.{needs}
 use mathlib.Core.Path.{refl}
+use native.Mathlib.Omega.{arith}
 use Rattle.combine_gvcfs.proofs.Loading.{short-fit}
 use Rattle.combine_gvcfs.proofs.combine_short.Statement.{statement}
 use Rattle.combine_gvcfs.proofs.combine_short.Tie as tie
@@ -21,7 +22,7 @@ slice-aggregate-combine-with-5 : tie.Need-slice-aggregate-combine-with-5
 slice-aggregate-combine-with-5 c = search needs
 
 combine-with-requires : tie.Need-combine-with-requires
-combine-with-requires c κs = ((c .before .before .before .before .before .before .before .before .before .before .before .before .pre), short-fit refl refl refl refl refl)
+combine-with-requires c κs = ((c .before .before .before .before .before .before .before .before .before .before .before .before .pre), short-fit 256 (omega arith) refl refl refl refl refl)
 
 same-length : tie.Need-same-length
 same-length c = search needs
