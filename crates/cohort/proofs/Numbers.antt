@@ -1,14 +1,13 @@
 -- The numbers of a site's lists, put into its row: the table has the same sites.
 use Prim.Native.Nat.{_*_, _+_, _<_, _≤_, suc, zero, ℕ}
-use lib.ListN.{drop, getD, length}
+use lib.ListN.{length}
 use lib.Seq.{length-sets, sets}
 use mathlib.Core.Bool.{Bool}
-use mathlib.Core.List.{List, [], _∷_, map}
+use mathlib.Core.List.{List, [], _∷_}
 use mathlib.Core.Option.{Option, Option·getD, none, some}
 use mathlib.Core.Path.{_∙_, _≡_, ap, refl}
 use native.Mathlib.Omega.{arith}
 use Rattle.definitions.specs.Cohort.{Site}
-use Rattle.definitions.specs.Lists.{numbersFrom}
 use Rattle.definitions.specs.Numbers.{maxNumber, numberList}
 use Rattle.kv_text.specs.Fields.{between}
 use Rattle.laws.proofs.Decimals.{InRange}
@@ -21,8 +20,8 @@ use Rattle.site_groups.specs.declared.SitePlace.{SitePlace}
 use Rattle.site_groups.specs.declared.SiteValues.{SiteValues}
 use Rattle.tables.proofs.Stored.{map-same}
 use Rattle.tables.proofs.StoredLists.{AtFront, SameRows, Small, stored-ad, stored-pl}
-use Rattle.tables.specs.Tables.{adAt, column, partAt, plAt, siteAt, withNumbers}
-use Rattle.cohort.proofs.Rows.{Numbered, site-here}
+use Rattle.tables.specs.Tables.{partAt, siteAt, withNumbers}
+use Rattle.cohort.proofs.Rows.{site-here}
 use Rattle.cohort.proofs.Sites.{Reading, site-read}
 use Rattle.cohort.specs.Cohort.{contigNames, firstOn, rowOf, sitesIn}
 

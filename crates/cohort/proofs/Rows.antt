@@ -1,16 +1,13 @@
 -- A row stored behind the others: the table then has one site more.
-use Prim.Native.Nat.{_*_, _+_, _<_, _≤_, suc, zero, ℕ}
-use borrow.Author.Tests.{eq-eqb}
+use Prim.Native.Nat.{_*_, _+_, _<_, _≤_, suc, ℕ}
 use lib.Dec.{eqb}
-use lib.ListN.{drop, getD, length, length-map, set}
-use lib.Seq.{drop-drop, drop-set-lt, getD-set-other, getD-set-same, length-sets, lt-length-set, sets}
+use lib.ListN.{drop, getD, length, length-map}
+use lib.Seq.{drop-drop, sets}
 use mathlib.Core.Bool.{Bool, cond, false, true}
-use mathlib.Core.List.{List, [], _++_, _∷_, map, map-append, map-map, reverse}
+use mathlib.Core.List.{List, [], _++_, _∷_, map, map-map}
 use mathlib.Core.Option.{Option, Option·getD, Option·map, none, some}
 use mathlib.Core.Path.{_∙_, _≡_, ap, refl, sym}
 use native.Mathlib.Decide.{ℕ-discrete}
-use native.Mathlib.Nat.{add-zero, zero-add}
-use native.Mathlib.Numerals.{add-one}
 use native.Mathlib.Omega.{arith}
 use Rattle.definitions.specs.Alleles.{isBlock}
 use Rattle.definitions.specs.Bytes.{sameBytes}
@@ -19,8 +16,8 @@ use Rattle.definitions.specs.Lists.{indexWhere, numbersFrom}
 use Rattle.definitions.specs.Numbers.{numberList}
 use Rattle.kv_text.specs.Fields.{between}
 use Rattle.laws.proofs.Bytes.{same-refl}
-use Rattle.laws.proofs.Members.{length-numbers, numbers-append}
-use Rattle.laws.proofs.Tests.{not-none, some-same}
+use Rattle.laws.proofs.Members.{length-numbers}
+use Rattle.laws.proofs.Tests.{not-none}
 use Rattle.site_groups.specs.SiteGroups.{siteFrom}
 use Rattle.site_groups.specs.declared.SiteAlleles.{SiteAlleles}
 use Rattle.site_groups.specs.declared.SitePlace.{SitePlace}

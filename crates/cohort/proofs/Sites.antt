@@ -7,10 +7,8 @@ use mathlib.Core.Bool.{Bool}
 use mathlib.Core.List.{List, [], _++_, _∷_, reverse, reverse-append, reverse-reverse}
 use mathlib.Core.Path.{_∙_, _≡_, ap, refl, sym}
 use native.Mathlib.Omega.{arith}
-use Rattle.definitions.specs.Alleles.{isBlock}
-use Rattle.definitions.specs.Checked.{Checked, _>>=_, accepted, readEach, refused}
-use Rattle.definitions.specs.Cohort.{Site, checkedSite, siteLines, siteOf, siteTextOf}
-use Rattle.definitions.specs.Limits.{maxSites}
+use Rattle.definitions.specs.Checked.{Checked, accepted, readEach, refused}
+use Rattle.definitions.specs.Cohort.{Site, checkedSite, siteLines, siteOf}
 use Rattle.definitions.specs.Lines.{linesOf}
 use Rattle.definitions.specs.Lists.{groupsOf, numbersFrom}
 use Rattle.kv_text.proofs.Groups.{continued, continued-end, continued-next, continued-refused, continued-start, group-accepted, group-refused, groups-ended}

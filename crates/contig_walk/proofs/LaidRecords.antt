@@ -1,11 +1,11 @@
 -- The record of an interval as it is laid: its ALTs as text, its samples' lines, and what the steps of `coalescing` ask of it.
-use Prim.Native.Nat.{_*_, _+_, _<_, _^_, _≤_, suc, ℕ}
+use Prim.Native.Nat.{_+_, _^_, _≤_, suc, ℕ}
 use borrow.Author.Tests.{le-ltb}
 use lib.Dec.{eqb}
 use lib.ListN.{drop, length, length-append, length-map, take}
 use lib.Seq.{length-take-le, sets, take-at, take-length}
 use mathlib.Core.Bool.{Bool, _&&_, false, true}
-use mathlib.Core.List.{List, [], _++_, _∷_, flatMap, map}
+use mathlib.Core.List.{List, _++_, flatMap}
 use mathlib.Core.Option.{none}
 use mathlib.Core.Path.{_∙_, _≡_, ap, refl, subst, sym}
 use native.Mathlib.Nat.{zero-add}
@@ -16,7 +16,7 @@ use Rattle.coalescing.specs.declared.Pending.{Pending}
 use Rattle.definitions.specs.Alleles.{isBlock, onlyNonRef, writtenAlleles}
 use Rattle.definitions.specs.Bytes.{comma, fieldsOf, text}
 use Rattle.definitions.specs.Lists.{numbersFrom, onlyIf}
-use Rattle.definitions.specs.Numbers.{decimal, maxNumber, writtenOrMissing}
+use Rattle.definitions.specs.Numbers.{decimal, writtenOrMissing}
 use Rattle.definitions.specs.Printed.{printedSampleData}
 use Rattle.kv_write.proofs.Laying.{laid-length, sets-front}
 use Rattle.kv_write.specs.Laid.{Laid}
@@ -33,7 +33,7 @@ use Rattle.merged_records.specs.Loaded.{OnContig}
 use Rattle.merged_ref.specs.declared.RefAt.{RefAt}
 use Rattle.record_laws.proofs.Coalescing.{block-record, end-not-block}
 use Rattle.record_laws.proofs.DerivedData.{all-data-derived}
-use Rattle.record_laws.proofs.Lengths.{all-block-data-few, alleles-few, decimal-few, mostData}
+use Rattle.record_laws.proofs.Lengths.{all-block-data-few, alleles-few, decimal-few}
 use Rattle.record_laws.proofs.SamePrinted.{Derived}
 use Rattle.record_lines.proofs.Alleles.{alleles-in-written, written-count}
 use Rattle.record_lines.proofs.Head.{head-length, printed-record}

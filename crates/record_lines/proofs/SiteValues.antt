@@ -20,7 +20,6 @@ use Rattle.genotype_values.proofs.Said.{site-values}
 use Rattle.genotype_values.specs.Remapped.{Filled}
 use Rattle.genotype_values.specs.Values.{Printable, present, valuesOf}
 use Rattle.kv_text.proofs.Numbers.{first-numbers}
-use Rattle.kv_text.specs.Fields.{firstNumbers}
 use Rattle.laws.proofs.Every.{IfThere, if-there}
 use Rattle.laws.proofs.SoundInput.{SoundSite}
 use Rattle.laws.proofs.SoundValues.{Numbers, numbers-sound}

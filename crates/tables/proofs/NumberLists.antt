@@ -1,23 +1,19 @@
 -- Lists of numbers in a row: what is read of them, and that storing one in the row leaves what it is.
-use Prim.Native.Nat.{_%_, _*_, _+_, _/_, _<_, _≤_, suc, zero, ℕ}
+use Prim.Native.Nat.{_+_, _<_, _≤_, ℕ}
 use borrow.Author.Tests.{leb-true, ltb-true}
-use lib.Dec.{eqb, leb, ltb}
-use lib.ListN.{getD, length, length-map}
-use lib.Seq.{ext-getD, sets}
-use mathlib.Core.Bool.{Bool, cond, false, true}
-use mathlib.Core.List.{List, [], _∷_, map}
-use mathlib.Core.Option.{Option, Option·getD, none, some}
-use mathlib.Core.Path.{_∙_, _≡_, ap, refl, sym}
-use native.Mathlib.Nat.{add-zero}
-use native.Mathlib.Omega.{arith}
+use lib.Dec.{ltb}
+use lib.ListN.{length, length-map}
+use mathlib.Core.Bool.{false, true}
+use mathlib.Core.List.{List}
+use mathlib.Core.Option.{some}
+use mathlib.Core.Path.{_∙_, _≡_}
 use Rattle.definitions.specs.Bytes.{comma, fieldsOf}
 use Rattle.definitions.specs.Lists.{numbersFrom}
 use Rattle.definitions.specs.Numbers.{numberList}
 use Rattle.kv_text.specs.Fields.{firstNumbers}
 use Rattle.laws.proofs.Members.{length-numbers}
 use Rattle.laws.proofs.Tests.{both-of}
-use Rattle.tables.proofs.Stored.{get-behind, get-before, get-here}
-use Rattle.tables.specs.Tables.{column, firstNumbersAt, halfAt, isStored, listColumns, numbersAt, partAt, storedNumber, storedNumbers, wordOf}
+use Rattle.tables.specs.Tables.{column, firstNumbersAt, isStored, numbersAt, partAt, storedNumber, storedNumbers}
 
 -- ---- where a list stands
 

@@ -1,5 +1,5 @@
 -- Parts of a text, and the numbers of a row.
-use Prim.Native.Nat.{_*_, _+_, _-_, _<_, _≤_, suc, zero, ℕ}
+use Prim.Native.Nat.{_*_, _+_, _-_, _≤_, suc, zero, ℕ}
 use lib.ListN.{drop, drop-of-length-le, getD, length, length-drop, take}
 use lib.Seq.{take-all, take-nil}
 use mathlib.Core.List.{List, [], _∷_}

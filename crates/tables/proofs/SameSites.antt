@@ -1,17 +1,14 @@
 -- The site of a row is the same where its columns are, or where they say the same numbers; the rows of sites do not see what stands
 -- behind those of 4,096 sites.
 use Prim.Native.Nat.{_*_, _+_, _/_, _<_, _≤_, ℕ}
-use lib.Dec.{eqb}
 use lib.ListN.{getD, length}
 use mathlib.Core.Bool.{Bool, false, true}
 use mathlib.Core.List.{List, map}
 use mathlib.Core.Option.{Option, some}
 use mathlib.Core.Path.{_∙_, _≡_, ap, refl, sym}
 use native.Mathlib.Omega.{arith}
-use Rattle.definitions.specs.Alleles.{isBlock}
-use Rattle.definitions.specs.Bytes.{sameBytes}
 use Rattle.definitions.specs.Cohort.{Site}
-use Rattle.definitions.specs.Lists.{indexWhere, numbersFrom}
+use Rattle.definitions.specs.Lists.{numbersFrom}
 use Rattle.tables.proofs.NumberLists.{in-row, in-text, stored-few}
 use Rattle.tables.proofs.Stored.{map-same}
 use Rattle.tables.specs.Tables.{SiteRows, adAt, column, isStored, numbersAt, partAt, plAt, siteAt, storedNumber, storedNumbers}

@@ -1,11 +1,11 @@
 -- A list of numbers that is stored in its row stays the list that it was, and so do all sites.
-use Prim.Native.Nat.{_%_, _*_, _+_, _/_, _<_, _≤_, suc, zero, ℕ}
-use borrow.Author.Tests.{eq-eqb, eqb-true, eqb-false, le-leb, leb-true, leb-false, lt-ltb, ltb-false, ltb-true, ne-eqb}
+use Prim.Native.Nat.{_%_, _*_, _+_, _/_, _<_, _≤_, suc, ℕ}
+use borrow.Author.Tests.{eqb-true, eqb-false, le-leb, leb-true, leb-false, lt-ltb, ltb-false, ltb-true}
 use lib.Dec.{eqb, leb, ltb}
 use lib.ListN.{drop, getD, length, length-map, take}
-use lib.Seq.{ext-getD, length-sets, sets, take-at}
+use lib.Seq.{length-sets, sets, take-at}
 use mathlib.Core.Bool.{Bool, cond, false, true}
-use mathlib.Core.List.{List, [], _∷_, map}
+use mathlib.Core.List.{List, []}
 use mathlib.Core.Logic.{_⊎_, inl, inr}
 use mathlib.Core.Option.{Option, Option·getD, none, some}
 use mathlib.Core.Path.{_∙_, _≡_, ap, refl, sym}
@@ -13,10 +13,9 @@ use native.Mathlib.Nat.{add-mul-mod-self-right, add-mul-div-right, add-zero, div
 use native.Mathlib.Decide.{ℕ-discrete}
 use native.Mathlib.Omega.{arith}
 use Rattle.definitions.specs.Lists.{numbersFrom}
-use Rattle.definitions.specs.Numbers.{numberList}
 use Rattle.kv_write.proofs.Laying.{sets-front}
 use Rattle.laws.proofs.Members.{length-numbers}
-use Rattle.laws.proofs.Tests.{both, both-of}
+use Rattle.laws.proofs.Tests.{both}
 use Rattle.tables.proofs.NumberLists.{in-row, stored-few, stored-some}
 use Rattle.tables.proofs.SameSites.{same-columns, same-numbers, same-site-by}
 use Rattle.tables.proofs.Stored.{drop-sets, get-before, get-behind, get-here, map-numbers, map-same, numbers-all}

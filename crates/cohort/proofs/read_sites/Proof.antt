@@ -4,8 +4,8 @@ use borrow.Author.Needs.{needs}
 use lib.ListN.{length}
 use mathlib.Core.Path.{_∙_, _≡_, refl, sym}
 use native.Mathlib.Omega.{arith}
-use Rattle.cohort.proofs.Numbers.{ListsRead, numbers-read}
-use Rattle.cohort.proofs.Sites.{Reading, few-before, no-row, reading-start, site-refused, sites-end}
+use Rattle.cohort.proofs.Numbers.{numbers-read}
+use Rattle.cohort.proofs.Sites.{Reading, no-row, reading-start, site-refused, sites-end}
 use Rattle.site_groups.specs.SiteGroups.{SiteRead}
 use Rattle.cohort.proofs.read_sites.Statement.{statement}
 use Rattle.cohort.proofs.read_sites.Tie as tie

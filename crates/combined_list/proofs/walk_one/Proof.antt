@@ -2,7 +2,7 @@
 use borrow.Author.Needs.{needs}
 use lib.ListN.{length}
 use native.Mathlib.Omega.{arith}
-use Rattle.combined_list.proofs.OneContig.{all-places, collected, end-exactly, end-within, not-all-places, one-refused, one-walked, progress-low, taken-exactly, walk-ready}
+use Rattle.combined_list.proofs.OneContig.{all-places, collected, end-exactly, end-within, not-all-places, one-refused, one-walked, taken-exactly, walk-ready}
 use Rattle.combined_list.proofs.walk_one.Statement.{statement}
 use Rattle.combined_list.proofs.walk_one.Tie as tie
 

@@ -2,7 +2,6 @@
 use borrow.Author.Needs.{needs}
 use borrow.Author.Tests.{not-false, not-true}
 use mathlib.Core.Path.{_∙_, sym}
-use native.Mathlib.Omega.{arith}
 use Rattle.contig_walk.proofs.Turns.{front-within, lay-ready, turn-bare, turn-clipped, turn-laid, turn-none}
 use Rattle.merged_records.specs.Found.{RecordFound}
 use Rattle.contig_walk.proofs.walk_interval.Statement.{statement}

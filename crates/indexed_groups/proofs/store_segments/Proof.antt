@@ -1,15 +1,11 @@
 -- The loop's invariant: the groups are those of the rows so far, and behind them those from here on.
-use Prim.Native.Nat.{_-_, _≤_, ℕ}
+use Prim.Native.Nat.{_-_, _≤_}
 use borrow.Author.Needs.{needs}
 use lib.ListN.{length}
-use mathlib.Core.List.{List}
-use mathlib.Core.Path.{_∙_}
 use native.Mathlib.Omega.{arith}
 use Rattle.clip_and_reference.specs.Groups.{SegmentRead}
-use Rattle.definitions.specs.ClipAndReference.{segmentOf}
 use Rattle.indexed_groups.proofs.Storing.{none-stored, segment-stored}
 use Rattle.indexed_groups.specs.Indexed.{SegmentsStored}
-use Rattle.tables.specs.Tables.{segmentAt}
 use Rattle.indexed_groups.proofs.store_segments.Statement.{statement}
 use Rattle.indexed_groups.proofs.store_segments.Tie as tie
 

@@ -1,7 +1,6 @@
 -- Storing the numbers from here on comes to storing all.
 use Prim.Native.Nat.{_-_}
 use borrow.Author.Needs.{needs}
-use native.Mathlib.Nat.{zero-add}
 use native.Mathlib.Omega.{arith}
 use Rattle.tables.proofs.Stored.{Storing, storing-end, storing-start, storing-turn}
 use Rattle.tables.specs.Tables.{storedNumber, storedNumbers}
