@@ -13,7 +13,7 @@ use native.Mathlib.Omega.{arith}
 use Rattle.allele_subsetting_pl.proofs.Fitting.{fitting}
 use Rattle.allele_subsetting_pl.proofs.Subset.{likelihoods-not-above, subset-length, subset-picked}
 use Rattle.allele_subsetting_pl.specs.Kept.{absentLikelihood, altWith, altsWith}
-use Rattle.allele_subsetting_pl.specs.UnusedAlts.{AssignedKeep, Outputs, UnusedAltsAnswered, answerOf, listOf, outputs, subsetWithin, wholeRecord}
+use Rattle.allele_subsetting_pl.specs.UnusedAlts.{AssignedKeep, Outputs, UnusedAltsAnswered, listOf, outputs, subsetWithin, wholeRecord, writtenOf}
 use Rattle.allele_subsetting_pl.specs.declared.UnusedAltOutcome.{UnusedAltOutcome}
 use Rattle.allele_subsetting_pl.specs.declared.UnusedAltOutcome.the-variants as outcome
 use Rattle.definitions.specs.AlleleSubset.{UnusedAltSubset, alleleCountFits, altFields, assignedAlleles, lessGreatest, subsetFits, subsetLikelihoods, subsetTo, unusedAltSubset, unusedAltSubsetWithin}
@@ -31,7 +31,7 @@ use Rattle.laws.proofs.Tests.{all-three, both, both-of}
 use Rattle.likelihoods.proofs.Order.{notAbove}
 
 pub answered-refused : {subset : Checked UnusedAltSubset} {out : Outputs} {row : ℕ} → subset ≡ refused row → UnusedAltsAnswered subset out out (outcome.Refused row)
-unfolding answerOf listOf outputAfter _>>=_
+unfolding writtenOf listOf outputAfter _>>=_
 answered-refused e = rw e (record { answer = refl; alts = refl; likelihoods = refl; ad = refl })
 
 -- three lists that have room
@@ -49,7 +49,7 @@ pub record StoredSubset (s : UnusedAltSubset) (out out′ : Outputs) : Type 0 wh
 pub answered-written : {subset : Checked UnusedAltSubset} {s : UnusedAltSubset} {out out′ : Outputs} {a b d : ℕ} → subset ≡ accepted s
     → a ≡ length (s .alts) → b ≡ length (s .likelihoods) → d ≡ length (s .ad) → Room s out → StoredSubset s out out′
     → UnusedAltsAnswered subset out out′ (outcome.Written a b d)
-unfolding answerOf listOf outputAfter _>>=_
+unfolding writtenOf listOf outputAfter _>>=_
 answered-written {s = s} {out = out} e p q r room stored =
     rw e
     (record {

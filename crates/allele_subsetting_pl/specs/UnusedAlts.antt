@@ -12,20 +12,20 @@ use Rattle.definitions.specs.Checked.{Checked, _>>=_, _>>_, accepted, refused, 
 use Rattle.allele_subsetting_pl.specs.declared.UnusedAltOutcome.{UnusedAltOutcome}
 use Rattle.allele_subsetting_pl.specs.declared.UnusedAltOutcome.the-variants as outcome
 
--- the row that refuses the call, else 0, and how many values are written to each output
-pub record UnusedAltAnswer : Type 0 where
-  pub number : ℕ
+-- how many values are written to each output
+pub record UnusedAltLengths : Type 0 where
   pub alts : ℕ
   pub likelihoods : ℕ
   pub ad : ℕ
 
-abbrev pub outcomeAnswer : UnusedAltOutcome → UnusedAltAnswer
-outcomeAnswer (outcome.Written alts likelihoods ad) = record { number = 0; alts = alts; likelihoods = likelihoods; ad = ad }
-outcomeAnswer (outcome.Refused row) = record { number = row; alts = 0; likelihoods = 0; ad = 0 }
+-- so many values, or the row that refuses the call
+abbrev pub outcomeAnswer : UnusedAltOutcome → Checked UnusedAltLengths
+outcomeAnswer (outcome.Written alts likelihoods ad) = accepted (record { alts = alts; likelihoods = likelihoods; ad = ad })
+outcomeAnswer (outcome.Refused row) = refused row
 
-unfoldable pub answerOf : Checked UnusedAltSubset → UnusedAltAnswer
-answerOf (refused row) = record { number = row; alts = 0; likelihoods = 0; ad = 0 }
-answerOf (accepted s) = record { number = 0; alts = length (s .alts); likelihoods = length (s .likelihoods); ad = length (s .ad) }
+unfoldable pub writtenOf : Checked UnusedAltSubset → Checked UnusedAltLengths
+writtenOf (refused row) = refused row
+writtenOf (accepted s) = accepted (record { alts = length (s .alts); likelihoods = length (s .likelihoods); ad = length (s .ad) })
 
 -- one list of a subset that is accepted
 unfoldable pub listOf : {A : Type 0} → (UnusedAltSubset → List A) → Checked UnusedAltSubset → Checked (List A)
@@ -44,7 +44,7 @@ outputs alts likelihoods ad = record { alts = alts; likelihoods = likelihoods; a
 
 -- the answer is that of this subset, or of the row that refuses it, and so is what each output holds at the end
 pub record UnusedAltsAnswered (subset : Checked UnusedAltSubset) (before after : Outputs) (r : UnusedAltOutcome) : Type 0 where
-  pub answer : outcomeAnswer r ≡ answerOf subset
+  pub answer : outcomeAnswer r ≡ writtenOf subset
   pub alts : after .alts ≡ outputAfter (listOf (λ s. s .alts) subset) (before .alts)
   pub likelihoods : after .likelihoods ≡ outputAfter (listOf (λ s. s .likelihoods) subset) (before .likelihoods)
   pub ad : after .ad ≡ outputAfter (listOf (λ s. s .ad) subset) (before .ad)

@@ -1,6 +1,7 @@
 // The numbers of alleles, samples and positions, each a type of its own, so that none is taken for another.
 ghost use mathlib.Core.Path.{_≡_};
-ghost use Rattle.bio_ids.specs.Positions.{positionOf};
+ghost use lib.Dec.{leb};
+ghost use mathlib.Core.Bool.{_&&_};
 
 // Document 01, allele number: an allele in a record's list of at most 16, from 0, which is REF. A byte: no place of a pair wraps.
 pub struct AlleleIndex(u8);
@@ -45,12 +46,6 @@ impl SampleIndex {
 // Document 01, position: a base of a contig, from 1. The contig is named beside it.
 pub struct GenomePosition(u64);
 
-// What a number is as a position.
-pub enum Position {
-    At(GenomePosition),
-    NotAPosition,
-}
-
 impl GenomePosition {
     // Unchecked, for a number known to be at least 1.
     pub fn new_1based(pos: u64) -> Self
@@ -59,19 +54,33 @@ impl GenomePosition {
         Self(pos)
     }
 
-    pub fn try_new_1based(pos: u64) -> Position
-        ensures { λ r. ⌜ r ≡ positionOf pos ⌝ }
-    {
-        if pos == 0 {
-            Position::NotAPosition
-        } else {
-            Position::At(Self(pos))
-        }
-    }
-
     pub fn get(self) -> u64
         ensures { λ r. ⌜ r ≡ self .0 ⌝ }
     {
         self.0
+    }
+}
+
+// Positions of a contig from a first to a last one. The contig is named beside it.
+pub struct GenomeLoc {
+    pub start: GenomePosition,
+    pub end: GenomePosition,
+}
+
+impl GenomeLoc {
+    pub fn new(start: GenomePosition, end: GenomePosition) -> Self
+        ensures { λ r. ⌜ (r .start .0 ≡ start .0) × (r .end .0 ≡ end .0) ⌝ }
+    {
+        Self { start, end }
+    }
+
+    // Whether all positions of another are among these, for one that has some.
+    pub fn contains(self, other: GenomeLoc) -> bool
+        ensures { λ r. ⌜ r ≡ leb (self .start .0) (other .start .0) && leb (other .end .0) (self .end .0) ⌝ }
+    {
+        if self.start.get() <= other.start.get() {
+            return other.end.get() <= self.end.get();
+        }
+        false
     }
 }

@@ -10,7 +10,7 @@ use mathlib.Core.Path.{_≡_}
 use Rattle.answers.specs.Answered.{Answered, outcomeAnswer}
 use Rattle.answers.specs.declared.Outcome.{Outcome}
 use Rattle.cohort.specs.Cohort.{sitesIn}
-use Rattle.definitions.specs.Answers.{answerOf, outputAfter, scratchAfter}
+use Rattle.definitions.specs.Answers.{outputAfter, scratchAfter, writtenOf}
 use Rattle.definitions.specs.Checked.{accepted}
 use Rattle.definitions.specs.ClipAndReference.{LetterChoice}
 use Rattle.definitions.specs.Cohort.{cohortOf}
@@ -39,7 +39,7 @@ pub record TextsAnswered (texts : Texts) (scratch : ℕ) (out out′ : List ℕ)
 pub record Combined (texts : Texts) (scratch scratch′ out out′ : List ℕ) (r : Outcome) : Type 0 where
   pub choose : LetterChoice
   pub choice : ChoiceFor texts choose
-  pub answer : outcomeAnswer r ≡ answerOf (combinedList texts (length scratch) (length out) choose)
+  pub answer : outcomeAnswer r ≡ writtenOf (combinedList texts (length scratch) (length out) choose)
   pub output : out′ ≡ outputAfter (combinedList texts (length scratch) (length out) choose) out
   pub cleared : scratch′ ≡ scratchAfter scratch
 

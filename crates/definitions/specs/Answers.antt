@@ -2,7 +2,7 @@
 use Prim.Native.Nat.{ℕ}
 use lib.Dec.{leb}
 use lib.ListN.{drop, length}
-use mathlib.Core.Bool.{Bool, _&&_}
+use mathlib.Core.Bool.{Bool}
 use mathlib.Core.List.{List, [], _++_, map}
 use mathlib.Core.Option.{Option, Option·getD}
 use Rattle.definitions.specs.CalledList.{calledList}
@@ -16,7 +16,12 @@ use Rattle.definitions.specs.Numbers.{decimal}
 
 -- ---- a call
 
--- the number of the row that refuses a call, 0 for none, and how many values it wrote
+-- how many values a call writes, or the row that refuses it
+unfoldable pub writtenOf : {A : Type 0} → Checked (List A) → Checked ℕ
+writtenOf (refused n) = refused n
+writtenOf (accepted values) = accepted (length values)
+
+-- the same as two numbers, for C: that of the row that refuses the call, 0 for none, and how many values it wrote
 pub record Answer : Type 0 where
   pub number : ℕ
   pub written : ℕ
@@ -46,17 +51,30 @@ printedAnswer (accepted list) = list
 unfoldable pub fileFits : List ℕ → Bool
 fileFits s = leb (length s) programBytes
 
--- `combine`, by the contents of cohort.kv, clip.kv and reference.kv, each `none` if it is absent. An absent cohort.kv is an empty
--- text; a longer file is refused with 2, as a text that is too long.
-unfoldable pub combineProgram : Option (List ℕ) → Option (List ℕ) → Option (List ℕ) → LetterChoice → List ℕ
-combineProgram cohort clip reference choose =
-    printedAnswer (do
-      require 2 (missingOr fileFits cohort && missingOr fileFits clip && missingOr fileFits reference)
-      combinedList (record { cohort = Option·getD cohort []; clip = clip; reference = reference }) programScratch programBytes choose)
+-- what a program takes of a file with these contents, `none` if it is absent: a longer one is refused with 2, as a text that is too long
+unfoldable pub fileText : Option (List ℕ) → Checked (Option (List ℕ))
+fileText contents = do
+  require 2 (missingOr fileFits contents)
+  accepted contents
 
--- `call`, by the contents of combined.kv; absent, it is an empty text
+-- the list of cohort.kv, clip.kv and reference.kv, by what the program takes of each; an absent cohort.kv is an empty text
+unfoldable pub combinedFiles : Checked (Option (List ℕ)) → Checked (Option (List ℕ)) → Checked (Option (List ℕ)) → LetterChoice → Checked (List ℕ)
+combinedFiles cohort clip reference choose = do
+  c ← cohort
+  l ← clip
+  r ← reference
+  combinedList (record { cohort = Option·getD c []; clip = l; reference = r }) programScratch programBytes choose
+
+-- `combine`, by the contents of its three files, each `none` if it is absent
+unfoldable pub combineProgram : Option (List ℕ) → Option (List ℕ) → Option (List ℕ) → LetterChoice → List ℕ
+combineProgram cohort clip reference choose = printedAnswer (combinedFiles (fileText cohort) (fileText clip) (fileText reference) choose)
+
+-- the called list of combined.kv, by what the program takes of it; absent, it is an empty text
+unfoldable pub calledFile : Checked (Option (List ℕ)) → Checked (List ℕ)
+calledFile combined = do
+  c ← combined
+  calledList (Option·getD c []) programBytes
+
+-- `call`, by the contents of combined.kv, `none` if it is absent
 unfoldable pub callProgram : Option (List ℕ) → List ℕ
-callProgram combined =
-    printedAnswer (do
-      require 2 (missingOr fileFits combined)
-      calledList (Option·getD combined []) programBytes)
+callProgram combined = printedAnswer (calledFile (fileText combined))

@@ -4,27 +4,24 @@ use lib.ListN.{drop, length, take}
 use lib.Seq.{take-at}
 use mathlib.Core.List.{List}
 use mathlib.Core.Path.{_∙_, _≡_, ap, refl, sym}
-use native.Mathlib.Omega.{arith}
 use Rattle.answers.specs.declared.Outcome.the-variants.{Written}
 use Rattle.combine_gvcfs.specs.Combined.{Combined}
-use Rattle.definitions.specs.Answers.{Answer, answerOf, outputAfter}
+use Rattle.definitions.specs.Answers.{outputAfter, writtenOf}
 use Rattle.definitions.specs.Checked.{Checked, accepted, refused}
 use Rattle.definitions.specs.CombinedList.{Texts, combinedList}
-use Rattle.demands.proofs.RefusalNumbers.{refused-from-one}
+use Rattle.laws.proofs.Checked.{accepted-same, not-refused}
 
 module _ {t : Texts} {scratch scratch′ out out′ : List ℕ} {n : ℕ} (c : Combined t scratch scratch′ out out′ (Written n)) where
   abbrev answer : Checked (List ℕ)
   answer = combinedList t (length scratch) (length out) (c .choose)
 
   as-long : {list : List ℕ} → answer ≡ accepted list → n ≡ length list
-  unfolding answerOf
-  as-long e = ap (λ (x : Answer). x .written) (c .answer ∙ ap answerOf e)
+  unfolding writtenOf
+  as-long e = accepted-same (c .answer ∙ ap writtenOf e)
 
   written : (a : Checked (List ℕ)) → answer ≡ a → answer ≡ accepted (take n out′)
-  unfolding answerOf outputAfter
-  written (refused m) e =
-      let z : 0 ≡ m = ap (λ (x : Answer). x .number) (c .answer ∙ ap answerOf e) in
-      absurd (omega (arith, refused-from-one t (length scratch) (length out) (c .choose) m e))
+  unfolding outputAfter writtenOf
+  written (refused m) e = not-refused (sym (c .answer ∙ ap writtenOf e))
   written (accepted list) e =
       let output = c .output ∙ ap (λ (a : Checked (List ℕ)). outputAfter a out) e in
       e ∙ ap {B = Checked (List ℕ)} accepted (sym (rw output (take-at list (drop (length list) out) n (sym (as-long e)))))

@@ -4,7 +4,7 @@ ghost use mathlib.Core.List.{map};
 ghost use mathlib.Core.Path.{_≡_};
 ghost use lib.ListN.{length};
 ghost use Rattle.allele_subsetting_pl.specs.UnusedAlts.{UnusedAltsAnswered, outputs};
-ghost use Rattle.answers.specs.Answered.{Answered, outcomeAnswer};
+ghost use Rattle.answers.specs.Answered.{Answered};
 ghost use Rattle.combine_gvcfs.specs.Combined.{Combined, textsOf};
 ghost use Rattle.definitions.specs.AlleleSubset.{likelihoodSubset, unusedAltSubsetWithin};
 ghost use Rattle.definitions.specs.CalledGenotypes.{gqFromPl};
@@ -12,13 +12,13 @@ ghost use Rattle.definitions.specs.CalledList.{calledList};
 ghost use Rattle.definitions.specs.Checked.{within};
 ghost use Rattle.definitions.specs.Likelihoods.{log10FromPl};
 ghost use Rattle.definitions.specs.ReverseTrim.{trimmedAlleles};
-ghost use Rattle.wintabol.specs.Exported.{Exported, ExportedAlts, answer, answerAlts, outcomeAlts};
+ghost use Rattle.wintabol.specs.Exported.{Exported, ExportedAlts, answer, answerAlts, outcomeAlts, outcomeNumbers};
 use allele_subsetting_pl::UnusedAltOutcome;
 use answers::Outcome;
 
 // An outcome as two numbers.
 fn give(outcome: Outcome, written: &mut usize) -> usize
-    ensures { λ r. ⌜ outcomeAnswer outcome ≡ answer r (now (written .exit)) ⌝ }
+    ensures { λ r. ⌜ outcomeNumbers outcome ≡ answer r (now (written .exit)) ⌝ }
 {
     match outcome {
         Outcome::Written(count) => {
