@@ -7,14 +7,34 @@
 static uint8_t cohort[65536], combined[1 << 20], called[1 << 20];
 static uint64_t scratch[8192];
 
-int main(int count, char **words) {
-    FILE *file = count == 2 ? fopen(words[1], "rb") : NULL;
+/* Reads the file into the cohort's buffer; 0 and a line on standard error if it cannot be read whole. */
+static int read_cohort(const char *name, size_t *len) {
+    FILE *file = fopen(name, "rb");
     if (!file) {
+        perror(name);
+        return 0;
+    }
+    *len = fread(cohort, 1, sizeof cohort, file);
+    int longer = *len == sizeof cohort && fgetc(file) != EOF;
+    int failed = ferror(file);
+    if (failed) {
+        perror(name);
+    } else if (longer) {
+        fprintf(stderr, "%s: more than %zu bytes\n", name, sizeof cohort);
+    }
+    fclose(file);
+    return !failed && !longer;
+}
+
+int main(int count, char **words) {
+    if (count != 2) {
         fprintf(stderr, "usage: example COHORT\n");
         return 2;
     }
-    size_t len = fread(cohort, 1, sizeof cohort, file), combined_len, called_len;
-    fclose(file);
+    size_t len, combined_len, called_len;
+    if (!read_cohort(words[1], &len)) {
+        return 2;
+    }
     size_t row = wintabol_combine(cohort, len, false, cohort, 0, false, cohort, 0, scratch, 8192, combined, sizeof combined, &combined_len);
     if (row == 0) {
         row = wintabol_call(combined, combined_len, called, sizeof called, &called_len);
@@ -23,6 +43,9 @@ int main(int count, char **words) {
         printf("refused=%zu\n", row);
         return 1;
     }
-    fwrite(called, 1, called_len, stdout);
+    if (fwrite(called, 1, called_len, stdout) != called_len || fflush(stdout)) {
+        perror("standard output");
+        return 2;
+    }
     return 0;
 }
