@@ -5,7 +5,7 @@ use lib.Seq.{sets}
 use mathlib.Core.List.{List, []}
 use mathlib.Core.Option.{Option, Option·getD, bind, none, some}
 use mathlib.Core.Path.{_≡_}
-use Rattle.definitions.specs.Bytes.{comma, fieldsOf}
+use Rattle.definitions.specs.Bytes.{comma, fieldsOf, lineFeed}
 use Rattle.definitions.specs.Lines.{linesOf, valueOf}
 use Rattle.definitions.specs.Numbers.{numberList}
 use Rattle.kv_text.specs.Fields.{between, firstNumbers}
@@ -32,6 +32,7 @@ pub record LineTo {A : Type 0} (s : List ℕ) (at : ℕ) (key : List ℕ) (read 
   pub value : lineValue s at key read ≡ some a
   pub forward : at ≤ e
   pub within : e < length s
+  pub feed : getD s e 0 ≡ lineFeed
   pub rest : drop 1 (linesOf (drop at s)) ≡ linesOf (drop (e + 1) s)
 
 unfoldable pub LineReads : {A : Type 0} → List ℕ → ℕ → List ℕ → (List ℕ → Option A) → LineFound A → Type 0
