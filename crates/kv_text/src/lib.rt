@@ -1,6 +1,5 @@
 // Reading: fields, numbers, names, alleles and lines at an offset of a lent text. Every offset is taken; past the end there is nothing.
 ghost use mathlib.Core.Path.{_≡_};
-ghost use mathlib.Core.Option.{some};
 ghost use Prim.Native.Nat.{_+_};
 ghost use lib.Dec.{eqb};
 ghost use lib.ListN.{drop, length, set};
@@ -438,7 +437,7 @@ impl<'a> Reader<'a> {
 
 // The same for a text and an offset: the value of the line there. Its LF stands just before the reader that comes back.
 pub fn value_line(s: &[u8], at: usize, key: &[u8]) -> ValueAt
-    ensures { λ r. ⌜ LineReads (now (s .entry)) at (now (key .entry)) some (valueFound (now (s .entry)) r) × Ordered r ⌝ }
+    ensures { λ r. ⌜ ValueRead (now (s .entry)) at (now (key .entry)) r ⌝ }
 {
     let read = Reader::new(s, at).next_value(key);
     value_before(read.value, read.reader.offset())

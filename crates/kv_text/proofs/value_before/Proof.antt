@@ -1,8 +1,6 @@
 -- A value's line has an LF just before the offset that is asked for, so that offset is not 0.
 use borrow.Author.Needs.{needs}
 use native.Mathlib.Omega.{arith}
-use mathlib.Core.Path.{_≡_, ap}
-use Rattle.kv_text.specs.Lines.{NextBehind, valueBefore}
 use Rattle.kv_text.proofs.value_before.Statement.{statement}
 use Rattle.kv_text.proofs.value_before.Tie as tie
 

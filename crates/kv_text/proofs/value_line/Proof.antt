@@ -1,6 +1,9 @@
--- A walk of the MIR, by hand: the reader that `Reader::new` makes of the text and the offset is passed on to `next_value` with the key. Of what comes back, `offset` says where the reader stands, and `value_before` makes the answer of that and of the value's start.
--- All that is known of the four is that each meets its contract: the reader holds this text and this offset, the line there is read, and the reader that comes back stands behind its LF.
--- The text and the key are Copy: what they own is had twice, once kept whole for the exit, once for the callees. A callee with fewer lifetimes leaves the tokens of the others alone. In a local MIR erases the lifetime of a reader's type: the value is shown to have the type at `erased`.
+-- A walk of the MIR, by hand: the reader that `Reader::new` makes of the text and the offset is passed on to `next_value` with the key.
+-- Of what comes back, `offset` says where the reader stands, and `value_before` makes the answer of that and of the value's start.
+-- All that is known of the four is that each meets its contract: the reader holds this text and this offset, the line there is read,
+-- and the reader that comes back stands behind its LF.
+-- The text and the key are Copy: what they own is had twice, once kept whole for the exit, once for the callees. A callee with fewer
+-- lifetimes leaves the tokens of the others alone. In a local MIR erases the lifetime of a reader's type: the value has the type at `erased`.
 use mathlib.Core.Path.{_≡_, _∙_, refl, ap, subst, sym}
 use Prim.Native.Nat.{ℕ, _<_, _^_}
 use native.Mathlib.Omega.{arith}
@@ -35,7 +38,7 @@ use denote.Enum.Laws as EL
 use denote.Struct.At.{spelled}
 use denote.Struct.Declared.{Declared}
 use denote.Struct.Laws as LL
-use denote.Struct.Rest.{all-own, ownAt, own-open}
+use denote.Struct.Rest.{all-own, own-open}
 use denote.Struct.Values.{Values}
 use denote.Triple.Statement.{Contract, Triple}
 use denote.Triple.Call.{calls-at}

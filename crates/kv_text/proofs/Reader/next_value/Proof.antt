@@ -1,6 +1,8 @@
--- A walk of the MIR, by hand: the reader is taken apart, and `value_at` is called on its text, its offset and the key. All that is known of `value_at` is that it meets its contract.
--- What it says of the text and the offset, this one says of the reader: the result is put together of the value's start and of a reader with the same text and the offset that came back.
--- The reader and the key are Copy: what the reader owns is had three times, kept whole for the exit, for the callee, and inside the result; the lifetimes' tokens come back.
+-- A walk of the MIR, by hand: the reader is taken apart, and `value_at` is called on its text, its offset and the key. All that is known
+-- of `value_at` is that it meets its contract. The result is put together of the value's start and of a reader with the same text and
+-- the offset that came back.
+-- The reader and the key are Copy: what the reader owns is had three times, kept whole for the exit, for the callee, and inside the
+-- result; the lifetimes' tokens come back.
 use mathlib.Core.Path.{_≡_, refl, ap, subst}
 use Prim.Native.Nat.{ℕ, _<_, _^_}
 use mathlib.Core.List.{List, [], _∷_}
