@@ -60,7 +60,7 @@ module _ (s : List ℕ) (at : ℕ) (key : List ℕ) (e : ℕ) (ends : e ≡ at +
 
   pub line-with-key : e < length s → isThere (stripPrefix key (between s at e)) ≡ true
       → LineReads s at key some (readTo (between s (at + length key) e) e)
-  unfolding LineReads lineValue valueOf bind
+  unfolding LineReads lineValue valueOf bind lineFeed
   line-with-key h f =
       let w = is-there (stripPrefix key (between s at e)) f in
       let p = strip-prefix-back key (between s at e) (w .0) (w .1) in
@@ -70,6 +70,7 @@ module _ (s : List ℕ) (at : ℕ) (key : List ℕ) (e : ℕ) (ends : e ≡ at +
         value = rw (the-lines s at e ends h) (rw (w .1) (ap {B = Option (List ℕ)} some g));
         forward = field-forward 10 s at e ends;
         within = h;
+        feed = field-ended 10 s at e ends h;
         rest = rw (the-lines s at e ends h);
       }
 
@@ -100,6 +101,7 @@ module _ {A : Type 0} (s : List ℕ) (at : ℕ) (key : List ℕ) (read : List �
     value = on-value (valueOf key (getD (linesOf (drop at s)) 0 none)) (l .value) ∙ r;
     forward = l .forward;
     within = l .within;
+    feed = l .feed;
     rest = l .rest;
   }
 

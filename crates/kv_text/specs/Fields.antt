@@ -38,10 +38,20 @@ fieldLength separator s = length (firstField separator s)
 abbrev pub between : List ℕ → ℕ → ℕ → List ℕ
 between s a e = take (e - a) (drop a s)
 
+-- how many bytes fields have, each with its separator
+unfoldable pub separatedLength : List (List ℕ) → ℕ
+separatedLength [] = 0
+separatedLength (f ∷ fs) = length f + 1 + separatedLength fs
+
+-- where the field with this number begins: behind those before it
+unfoldable pub fieldStart : ℕ → ℕ → List ℕ → ℕ
+fieldStart separator n s = separatedLength (take n (fieldsOf separator s))
+
 -- where the field with this number stands, or that there are not so many
 unfoldable pub FieldFound : List ℕ → ℕ → ℕ → FieldAt → Type 0
 FieldFound s separator n (field.At a e) =
     (n < length (fieldsOf separator s)) × (getD (fieldsOf separator s) n [] ≡ between s a e) × (a ≤ e) × (e ≤ length s)
+    × (a ≡ fieldStart separator n s) × (e ≡ a + length (getD (fieldsOf separator s) n []))
 FieldFound s separator n field.Absent = length (fieldsOf separator s) ≤ n
 
 -- a number

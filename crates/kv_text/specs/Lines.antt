@@ -1,11 +1,11 @@
 -- What reading the line at an offset of a text finds.
-use Prim.Native.Nat.{_+_, _<_, _≤_, ℕ}
+use Prim.Native.Nat.{_+_, _-_, _<_, _≤_, ℕ}
 use lib.ListN.{drop, getD, length}
 use lib.Seq.{sets}
 use mathlib.Core.List.{List, []}
 use mathlib.Core.Option.{Option, Option·getD, bind, none, some}
 use mathlib.Core.Path.{_≡_}
-use Rattle.definitions.specs.Bytes.{comma, fieldsOf}
+use Rattle.definitions.specs.Bytes.{comma, fieldsOf, lineFeed}
 use Rattle.definitions.specs.Lines.{linesOf, valueOf}
 use Rattle.definitions.specs.Numbers.{numberList}
 use Rattle.kv_text.specs.Fields.{between, firstNumbers}
@@ -15,8 +15,11 @@ use Rattle.kv_text.specs.declared.NumberAt.{NumberAt}
 use Rattle.kv_text.specs.declared.NumberAt.the-variants as one
 use Rattle.kv_text.specs.declared.OptionalAt.{OptionalAt}
 use Rattle.kv_text.specs.declared.OptionalAt.the-variants as optional
+use Rattle.kv_text.specs.declared.Reader.{Reader}
 use Rattle.kv_text.specs.declared.ValueAt.{ValueAt}
 use Rattle.kv_text.specs.declared.ValueAt.the-variants as value
+use Rattle.kv_text.specs.declared.ValueStart.{ValueStart}
+use Rattle.kv_text.specs.declared.ValueStart.the-variants as start
 
 -- nothing, or what was read and where its LF stands
 pub data LineFound (A : Type 0) : Type 0 where
@@ -32,6 +35,7 @@ pub record LineTo {A : Type 0} (s : List ℕ) (at : ℕ) (key : List ℕ) (read 
   pub value : lineValue s at key read ≡ some a
   pub forward : at ≤ e
   pub within : e < length s
+  pub feed : getD s e 0 ≡ lineFeed
   pub rest : drop 1 (linesOf (drop at s)) ≡ linesOf (drop (e + 1) s)
 
 unfoldable pub LineReads : {A : Type 0} → List ℕ → ℕ → List ℕ → (List ℕ → Option A) → LineFound A → Type 0
@@ -52,6 +56,29 @@ valueFound s value.Absent = unread
 abbrev pub Ordered : ValueAt → Type 0
 Ordered (value.At a e) = a ≤ e
 Ordered value.Absent = Unit {0}
+
+-- the value of the line at an offset, with this key
+abbrev pub ValueRead : List ℕ → ℕ → List ℕ → ValueAt → Type 0
+ValueRead s at key v = LineReads s at key some (valueFound s v) × Ordered v
+
+-- where a value stands that begins there, with its line's LF just before `next`
+abbrev pub valueBefore : ValueStart → ℕ → ValueAt
+valueBefore (start.At a) next = value.At a (next - 1)
+valueBefore start.Absent next = value.Absent
+
+-- there is an offset before `next`, if there is a value
+abbrev pub NextBehind : ValueStart → ℕ → Type 0
+NextBehind (start.At a) next = 0 < next
+NextBehind start.Absent next = Unit {0}
+
+-- where the text goes on after the line at an offset: behind the LF, or where it was
+abbrev pub behindLine : ℕ → ValueAt → ℕ
+behindLine at (value.At a e) = e + 1
+behindLine at value.Absent = at
+
+-- a reader, moved there
+abbrev pub movedBehind : Reader → ValueAt → Reader
+movedBehind r v = record { text = r .text; at = behindLine (r .at) v }
 
 abbrev pub numberFound : NumberAt → LineFound ℕ
 numberFound (one.Found n e) = readTo n e

@@ -1,6 +1,5 @@
 // Reading: fields, numbers, names, alleles and lines at an offset of a lent text. Every offset is taken; past the end there is nothing.
 ghost use mathlib.Core.Path.{_≡_};
-ghost use mathlib.Core.Option.{some};
 ghost use Prim.Native.Nat.{_+_};
 ghost use lib.Dec.{eqb};
 ghost use lib.ListN.{drop, length, set};
@@ -10,7 +9,7 @@ ghost use Rattle.definitions.specs.Bytes.{comma, compareBytes, fieldsOf, sameBy
 ghost use Rattle.definitions.specs.Lists.{isThere};
 ghost use Rattle.definitions.specs.Numbers.{isDigit, isNameByte, name, number, numberList, orMissing};
 ghost use Rattle.kv_text.specs.Fields.{FieldFound, alleleRead, digitsRead, fieldLength, firstNumbers, numberRead, numbersRead, orderOf};
-ghost use Rattle.kv_text.specs.Lines.{LineReads, ListStored, Ordered, listCount, listFound, numberFound, optionalFound, valueFound};
+ghost use Rattle.kv_text.specs.Lines.{LineReads, ListStored, NextBehind, Ordered, ValueRead, behindLine, listCount, listFound, movedBehind, numberFound, optionalFound, valueBefore, valueFound};
 
 // ---- bytes
 
@@ -348,24 +347,62 @@ pub enum ValueAt {
     Absent,
 }
 
+// Where the value of a line begins.
+pub enum ValueStart {
+    At(usize),
+    Absent,
+}
+
+// What reading a line gives: where its value begins, and where the text goes on.
+struct LineRead {
+    value: ValueStart,
+    next: usize,
+}
+
 // The work of `Reader::next_value`, on its text and its offset.
-fn value_at(s: &[u8], at: usize, key: &[u8]) -> ValueAt
-    ensures { λ r. ⌜ LineReads (now (s .entry)) at (now (key .entry)) some (valueFound (now (s .entry)) r) × Ordered r ⌝ }
+fn value_at(s: &[u8], at: usize, key: &[u8]) -> LineRead
+    ensures { λ r. ⌜ ValueRead (now (s .entry)) at (now (key .entry)) (valueBefore (r .value) (r .next)) × (r .next ≡ behindLine at (valueBefore (r .value) (r .next))) ⌝ }
 {
     let end = field_end(s, at, b'\n');
     if end >= s.len() {
-        return ValueAt::Absent;
+        return LineRead {
+            value: ValueStart::Absent,
+            next: at,
+        };
     }
     if !has_key(&s[at..end], key) {
-        return ValueAt::Absent;
+        return LineRead {
+            value: ValueStart::Absent,
+            next: at,
+        };
     }
-    ValueAt::At(at + key.len(), end)
+    LineRead {
+        value: ValueStart::At(at + key.len()),
+        next: end + 1,
+    }
+}
+
+// Where a value stands, whose line has its LF just before an offset.
+fn value_before(value: ValueStart, next: usize) -> ValueAt
+    requires { ⌜ NextBehind value next ⌝ }
+    ensures { λ r. ⌜ r ≡ valueBefore value next ⌝ }
+{
+    match value {
+        ValueStart::At(a) => ValueAt::At(a, next - 1),
+        ValueStart::Absent => ValueAt::Absent,
+    }
 }
 
 // A lent text and an offset of it, any offset: every line is read through one.
 pub struct Reader<'a> {
     pub text: &'a [u8],
     pub at: usize,
+}
+
+// Where the value of a line begins, and the reader, moved behind the line's LF; without a value it stays where it stood.
+pub struct NextValue<'a> {
+    pub value: ValueStart,
+    pub reader: Reader<'a>,
 }
 
 impl<'a> Reader<'a> {
@@ -384,18 +421,26 @@ impl<'a> Reader<'a> {
     }
 
     // The value of the line where the reader stands, which must have this key; keys are given with their `=`.
-    pub fn next_value(self, key: &[u8]) -> ValueAt
-        ensures { λ r. ⌜ LineReads (now (self .entry .text)) (self .entry .at) (now (key .entry)) some (valueFound (now (self .entry .text)) r) × Ordered r ⌝ }
+    pub fn next_value(self, key: &[u8]) -> NextValue<'a>
+        ensures { λ r. ⌜ ValueRead (now (self .entry .text)) (self .entry .at) (now (key .entry)) (valueBefore (r .value) (r .reader .at)) × (r .reader ≡ movedBehind (self .entry) (valueBefore (r .value) (r .reader .at))) ⌝ }
     {
-        value_at(self.text, self.at, key)
+        let line = value_at(self.text, self.at, key);
+        NextValue {
+            value: line.value,
+            reader: Reader {
+                text: self.text,
+                at: line.next,
+            },
+        }
     }
 }
 
-// The same for a text and an offset: the value of the line there.
+// The same for a text and an offset: the value of the line there. Its LF stands just before the reader that comes back.
 pub fn value_line(s: &[u8], at: usize, key: &[u8]) -> ValueAt
-    ensures { λ r. ⌜ LineReads (now (s .entry)) at (now (key .entry)) some (valueFound (now (s .entry)) r) × Ordered r ⌝ }
+    ensures { λ r. ⌜ ValueRead (now (s .entry)) at (now (key .entry)) r ⌝ }
 {
-    Reader::new(s, at).next_value(key)
+    let read = Reader::new(s, at).next_value(key);
+    value_before(read.value, read.reader.offset())
 }
 
 // A number, and where its line ends.
