@@ -1,19 +1,22 @@
 -- The groups of a text from an offset on: what check_clip and check_reference know in their loops, and what their callers know behind them.
 use Prim.Native.Nat.{_<_, _≤_, ℕ}
-use lib.ListN.{drop, length}
+use lib.ListN.{drop, length, take}
 use mathlib.Core.Bool.{false, true}
 use mathlib.Core.List.{List, [], _∷_}
 use mathlib.Core.Option.{some}
 use mathlib.Core.Path.{_∙_, _≡_, ap, refl, sym}
+use native.Mathlib.Decide.{decLt}
 use native.Mathlib.Omega.{arith}
 use Rattle.definitions.specs.Checked.{Checked, _>>=_, accepted, isAccepted, readEach, refused, refusedAs}
-use Rattle.definitions.specs.ClipAndReference.{ReferenceSegment, Span, optionalGroups, segmentOf, spanOf}
+use Rattle.definitions.specs.ClipAndReference.{optionalGroups}
 use Rattle.definitions.specs.Lines.{Line, linesOf}
-use Rattle.definitions.specs.Lists.{groupsOf}
+use Rattle.definitions.specs.Lists.{groupsFrom, groupsOf}
 use Rattle.kv_text.proofs.Groups.{group-accepted, group-refused, groups-ended}
 use Rattle.laws.proofs.Checked.{accepted-same, after-then, not-refused}
+use Rattle.laws.proofs.Groups.{groups-cons}
+use Rattle.laws.proofs.Lines.{lines-end}
 use Rattle.laws.proofs.Tests.{clash}
-use Rattle.clip_and_reference.specs.Groups.{GroupFaulty, GroupTo}
+use Rattle.clip_and_reference.specs.Groups.{GroupFaulty, GroupTo, GroupsFrom, groupsAt, groupsRead, inFront, readBefore}
 
 module _ {A : Type 0} (read : List Line → Checked A) where
   -- a group is read without those before it
@@ -27,10 +30,6 @@ module _ {A : Type 0} (read : List Line → Checked A) where
           ≡ (c >>= λ a. readEach (λ _. read) (a ∷ []) gs >>= λ rest. accepted (a ∷ rest))
       go (refused n) same = refl
       go (accepted a) same = rw (same a)
-
--- what the groups from an offset on read as
-unfoldable pub groupsAt : {A : Type 0} → (List Line → Checked A) → List ℕ → ℕ → Checked (List A)
-groupsAt read s at = readEach (λ _. read) [] (groupsOf 3 (linesOf (drop at s)))
 
 module _ {A : Type 0} (read : List Line → Checked A) (s : List ℕ) where
   at-faulty : (at : ℕ) (f : GroupFaulty s at read) → at < length s → groupsAt read s at ≡ refused (f .0)
@@ -87,16 +86,6 @@ module _ {A : Type 0} (read : List Line → Checked A) (s : List ℕ) where
 
 -- ---- for callers
 
--- the groups of the text from an offset on are these
-pub record GroupsFrom {A : Type 0} (read : List Line → Checked A) (s : List ℕ) (at : ℕ) (groups : List A) : Type 0 where
-  pub all : groupsAt read s at ≡ accepted groups
-
-abbrev pub SpansFrom : List ℕ → ℕ → List Span → Type 0
-SpansFrom = GroupsFrom spanOf
-
-abbrev pub SegmentsFrom : List ℕ → ℕ → List ReferenceSegment → Type 0
-SegmentsFrom = GroupsFrom segmentOf
-
 module _ {A : Type 0} (read : List Line → Checked A) (s : List ℕ) where
   -- A text in order has groups, which are those from offset 0 on. Any other is refused with 9.
   pub in-order : isAccepted (optionalGroups read (some s)) ≡ true
@@ -129,3 +118,53 @@ module _ {A : Type 0} (read : List Line → Checked A) (s : List ℕ) where
 
     pub no-more : length s ≤ at → groups ≡ []
     no-more h = sym (accepted-same (sym (at-end read s at h) ∙ from .all))
+
+-- ---- the groups up to the first faulty one
+
+module _ {A : Type 0} (read : List Line → Checked A) where
+  -- all of them, if none is faulty
+  read-before : (gs : List (List Line)) (l : List A) → readEach (λ _. read) [] gs ≡ accepted l → readBefore read gs ≡ l
+  unfolding readEach readBefore inFront _>>=_
+  read-before [] l e = accepted-same e
+  read-before (g ∷ gs) l e = go (read g) e (λ rest. read-before gs rest)
+    where
+      go : (c : Checked A) → (c >>= λ a. readEach (λ _. read) (a ∷ []) gs >>= λ rest. accepted (a ∷ rest)) ≡ accepted l
+          → ((rest : List A) → readEach (λ _. read) [] gs ≡ accepted rest → readBefore read gs ≡ rest)
+          → inFront c (readBefore read gs) ≡ l
+      go (refused n) e later = not-refused e
+      go (accepted a) e later = after-then _ _ e λ rest f same.
+          ap (λ (r : List A). a ∷ r) (later rest (sym (read-alone read (a ∷ []) gs) ∙ f)) ∙ accepted-same same
+
+module _ {A : Type 0} (read : List Line → Checked A) (s : List ℕ) where
+  -- a text that goes on has a group
+  some-group : (at : ℕ) → at < length s
+      → groupsOf 3 (linesOf (drop at s)) ≡ take 3 (linesOf (drop at s)) ∷ groupsOf 3 (drop 3 (linesOf (drop at s)))
+  unfolding readEach groupsOf groupsFrom
+  some-group at h = go (linesOf (drop at s)) (group-refused 3 (omega arith) (λ _ _. refused 0) [] s at 0 h refl)
+    where
+      go : (lines : List Line) → readEach {A = A} (λ _ _. refused 0) [] (groupsOf 3 lines) ≡ refused 0
+          → groupsOf 3 lines ≡ take 3 lines ∷ groupsOf 3 (drop 3 lines)
+      go [] e = not-refused (sym e)
+      go (x ∷ lines) e = groups-cons 3 (x ∷ lines) (omega arith) (omega arith)
+
+  pub read-end : (at : ℕ) → length s ≤ at → groupsRead read s at ≡ []
+  unfolding groupsRead readBefore groupsOf groupsFrom
+  read-end at h = rw (lines-end s at h)
+
+  pub read-group : {at : ℕ} {a : A} {next : ℕ} → GroupTo s at read a next → groupsRead read s at ≡ a ∷ groupsRead read s next
+  unfolding groupsRead readBefore inFront
+  read-group {at} g =
+      let h : at < length s = omega (arith, g .forward, g .within) in
+      rw (some-group at h, g .value, g .rest)
+
+  pub read-faulty : (at : ℕ) → GroupFaulty s at read → groupsRead read s at ≡ []
+  unfolding groupsRead readBefore inFront
+  read-faulty at f = go (decLt at (length s))
+    where
+      go : Dec (at < length s) → groupsRead read s at ≡ []
+      go (yes h) = rw (some-group at h, f .1)
+      go (no h) = read-end at (omega arith)
+
+  pub all-read : {at : ℕ} {groups : List A} → GroupsFrom read s at groups → groupsRead read s at ≡ groups
+  unfolding groupsRead groupsAt
+  all-read {at} {groups} from = read-before read (groupsOf 3 (linesOf (drop at s))) groups (from .all)

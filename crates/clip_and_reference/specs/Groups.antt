@@ -1,11 +1,12 @@
 -- What reading the group of three lines at an offset of clip.kv or reference.kv finds.
 use Prim.Native.Nat.{_<_, _≤_, ℕ}
 use lib.ListN.{drop, length, take}
-use mathlib.Core.List.{List}
+use mathlib.Core.List.{List, [], _∷_}
 use mathlib.Core.Path.{_≡_}
-use Rattle.definitions.specs.Checked.{Checked, accepted, refused}
-use Rattle.definitions.specs.ClipAndReference.{segmentOf, spanOf}
+use Rattle.definitions.specs.Checked.{Checked, accepted, readEach, refused}
+use Rattle.definitions.specs.ClipAndReference.{ReferenceSegment, Span, segmentOf, spanOf}
 use Rattle.definitions.specs.Lines.{Line, linesOf}
+use Rattle.definitions.specs.Lists.{groupsOf}
 use Rattle.kv_text.specs.Fields.{between}
 use Rattle.clip_and_reference.specs.declared.SegmentAt.{SegmentAt}
 use Rattle.clip_and_reference.specs.declared.SegmentAt.the-variants as segment
@@ -23,6 +24,44 @@ pub record GroupTo {A : Type 0} (s : List ℕ) (at : ℕ) (read : List Line → 
   pub forward : at < next
   pub within : next ≤ length s
 
+-- ---- the groups of a text
+
+-- a group in front of those behind it; none if it is refused
+unfoldable pub inFront : {A : Type 0} → Checked A → List A → List A
+inFront (refused n) rest = []
+inFront (accepted a) rest = a ∷ rest
+
+-- groups of lines as they read, up to the first that is refused
+unfoldable pub readBefore : {A : Type 0} → (List Line → Checked A) → List (List Line) → List A
+readBefore read [] = []
+readBefore read (g ∷ gs) = inFront (read g) (readBefore read gs)
+
+-- the groups of a text from an offset on, up to the first faulty one
+unfoldable pub groupsRead : {A : Type 0} → (List Line → Checked A) → List ℕ → ℕ → List A
+groupsRead read s at = readBefore read (groupsOf 3 (linesOf (drop at s)))
+
+abbrev pub spansRead : List ℕ → ℕ → List Span
+spansRead = groupsRead spanOf
+
+abbrev pub segmentsRead : List ℕ → ℕ → List ReferenceSegment
+segmentsRead = groupsRead segmentOf
+
+-- what the groups from an offset on read as
+unfoldable pub groupsAt : {A : Type 0} → (List Line → Checked A) → List ℕ → ℕ → Checked (List A)
+groupsAt read s at = readEach (λ _. read) [] (groupsOf 3 (linesOf (drop at s)))
+
+-- none of them is faulty, and they are these
+pub record GroupsFrom {A : Type 0} (read : List Line → Checked A) (s : List ℕ) (at : ℕ) (groups : List A) : Type 0 where
+  pub all : groupsAt read s at ≡ accepted groups
+
+abbrev pub SpansFrom : List ℕ → ℕ → List Span → Type 0
+SpansFrom = GroupsFrom spanOf
+
+abbrev pub SegmentsFrom : List ℕ → ℕ → List ReferenceSegment → Type 0
+SegmentsFrom = GroupsFrom segmentOf
+
+-- ---- one group
+
 -- a part of a text
 pub record PartOf (s : List ℕ) (a e : ℕ) : Type 0 where
   pub forward : a ≤ e
@@ -31,12 +70,12 @@ pub record PartOf (s : List ℕ) (a e : ℕ) : Type 0 where
 -- the answers
 unfoldable pub SpanRead : List ℕ → ℕ → SpanAt → Type 0
 SpanRead s at span.Faulty = GroupFaulty s at spanOf
-SpanRead s at (span.Span contigAt contigEnd start end next) =
-    GroupTo s at spanOf (record { contig = between s contigAt contigEnd; start = start; end = end }) next
+SpanRead s at (span.Span contigAt contigEnd loc next) =
+    GroupTo s at spanOf (record { contig = between s contigAt contigEnd; start = loc .start .0; end = loc .end .0 }) next
     × PartOf s contigAt contigEnd
 
 unfoldable pub SegmentRead : List ℕ → ℕ → SegmentAt → Type 0
 SegmentRead s at segment.Faulty = GroupFaulty s at segmentOf
 SegmentRead s at (segment.Segment contigAt contigEnd first basesAt basesEnd next) =
-    GroupTo s at segmentOf (record { contig = between s contigAt contigEnd; first = first; bases = between s basesAt basesEnd }) next
+    GroupTo s at segmentOf (record { contig = between s contigAt contigEnd; first = first .0; bases = between s basesAt basesEnd }) next
     × PartOf s contigAt contigEnd × PartOf s basesAt basesEnd

@@ -7,6 +7,8 @@ ghost use Rattle.definitions.specs.ClipAndReference.{optionalGroups, segmentOf,
 ghost use Rattle.definitions.specs.Numbers.{maxNumber};
 ghost use Rattle.kv_text.specs.Lines.{LineReads, Ordered, valueFound};
 ghost use Rattle.clip_and_reference.specs.Groups.{SegmentRead, SpanRead};
+use bio_ids::GenomeLoc;
+use bio_ids::GenomePosition;
 use kv_text::NumberAt;
 use kv_text::ValueAt;
 
@@ -17,8 +19,7 @@ pub enum SpanAt {
     Span {
         contig_at: usize,
         contig_end: usize,
-        start: u32,
-        end: u32,
+        loc: GenomeLoc,
         next: usize,
     },
     Faulty,
@@ -47,11 +48,13 @@ pub fn span_at(s: &[u8], at: usize) -> SpanAt
         return SpanAt::Faulty;
     }
     let next = end_end + 1;
+    let first = GenomePosition::new_1based(start as u64);
+    let last = GenomePosition::new_1based(end as u64);
+    let loc = GenomeLoc::new(first, last);
     SpanAt::Span {
         contig_at,
         contig_end,
-        start,
-        end,
+        loc,
         next,
     }
 }
@@ -92,7 +95,7 @@ pub enum SegmentAt {
     Segment {
         contig_at: usize,
         contig_end: usize,
-        first: u32,
+        first: GenomePosition,
         bases_at: usize,
         bases_end: usize,
         next: usize,
@@ -109,20 +112,21 @@ pub fn segment_at(s: &[u8], at: usize) -> SegmentAt
         return SegmentAt::Faulty;
     };
     let from = kv_text::number_line(s, contig_end + 1, b"first=");
-    let NumberAt::Found(first, first_end) = from else {
+    let NumberAt::Found(number, first_end) = from else {
         return SegmentAt::Faulty;
     };
     let letters = letters_line(s, first_end + 1, b"bases=");
     let ValueAt::At(bases_at, bases_end) = letters else {
         return SegmentAt::Faulty;
     };
-    if first < 1 {
+    if number < 1 {
         return SegmentAt::Faulty;
     }
-    if 2147483648 < (first as usize) + (bases_end - bases_at) {
+    if 2147483648 < (number as usize) + (bases_end - bases_at) {
         return SegmentAt::Faulty;
     }
     let next = bases_end + 1;
+    let first = GenomePosition::new_1based(number as u64);
     SegmentAt::Segment {
         contig_at,
         contig_end,

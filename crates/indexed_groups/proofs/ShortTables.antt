@@ -13,7 +13,7 @@ use Rattle.indexed_groups.specs.Indexed.{GroupsIndexed, SegmentsIndexed,
 
 none-indexed : {A : Type 0} (read : List Line → Checked A) (s : List ℕ) (rowAt : ℕ → A) → GroupsIndexed read s rowAt 0 0
 unfolding numbersFrom
-none-indexed read s rowAt = record { few = omega arith; split = λ groups from. (groups, from, refl) }
+none-indexed read s rowAt = record { few = omega arith; split = refl }
 
 module _ (s rows : List ℕ) (short : length rows ≤ countsAt) where
   pub no-segment-rows : SegmentsIndexed s rows

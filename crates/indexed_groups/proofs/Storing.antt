@@ -1,70 +1,87 @@
 -- The loop that gives groups their rows, and the numbers stored behind it.
 use Prim.Native.Nat.{_*_, _+_, _<_, _≤_, ℕ}
-use lib.ListN.{getD, length, length-set, set}
+use borrow.Author.Tests.{le-leb, leb-true}
+use lib.Dec.{leb}
+use lib.ListN.{getD, length, length-append, length-map, length-set, set}
 use lib.Seq.{getD-set-other, getD-set-same, length-sets, sets}
+use mathlib.Core.Bool.{Bool, cond, false, true}
 use mathlib.Core.List.{List, [], _++_, _∷_, append-assoc, map}
 use mathlib.Core.Path.{_∙_, _≡_, ap, refl, sym}
 use native.Mathlib.Omega.{arith}
-use Rattle.clip_and_reference.proofs.Groups.{first-group}
-use Rattle.clip_and_reference.specs.Groups.{GroupTo}
+use Rattle.clip_and_reference.proofs.Groups.{read-faulty, read-group}
+use Rattle.clip_and_reference.specs.Groups.{GroupFaulty, GroupTo, groupsRead}
 use Rattle.definitions.specs.Checked.{Checked}
 use Rattle.definitions.specs.ClipAndReference.{segmentOf, spanOf}
 use Rattle.definitions.specs.Lines.{Line}
 use Rattle.definitions.specs.Lists.{numbersFrom}
 use Rattle.kv_text.specs.Fields.{between}
+use Rattle.laws.proofs.Members.{length-numbers}
 use Rattle.tables.proofs.Stored.{get-before, get-behind, get-here, map-same, one-more}
+use Rattle.clip_and_reference.specs.Groups.{segmentsRead, spansRead}
 use Rattle.tables.specs.Tables.{segmentAt, segmentColumn, spanAt, spanColumn}
-use Rattle.indexed_groups.specs.Indexed.{GroupsIndexed, GroupsStored, OnlyBetween, SegmentsIndexed, SegmentsOnly, SegmentsStored, SpansIndexed, SpansOnly, SpansStored}
+use Rattle.indexed_groups.specs.Indexed.{GroupsIndexed, GroupsStored, OnlyBetween, SegmentsGiven, SegmentsIndexed, SegmentsOnly, SegmentsStored, SpansGiven, SpansIndexed, SpansOnly, SpansStored, rowsFor}
 
 -- ---- rows
 
 -- groups have the same rows in a table whose rows are the same
 pub indexed-same : {A : Type 0} {read : List Line → Checked A} {s : List ℕ} {f g : ℕ → A} {count next : ℕ}
     → ((i : ℕ) → i < count → f i ≡ g i) → GroupsIndexed read s f count next → GroupsIndexed read s g count next
-indexed-same {f = f} {g = g} {count = count} same x = record {
+indexed-same {read = read} {s = s} {f = f} {g = g} {count = count} {next = next} same x = record {
   few = x .few;
-  split = λ groups from.
-      let (rest, later, e) = x .split groups from in
-      (rest, later, e ∙ ap (λ (l : List _). l ++ rest) (map-same f g 0 count (λ i h. same i (omega arith))));
+  split = x .split ∙ ap (λ (l : List _). l ++ groupsRead read s next) (map-same f g 0 count (λ i h. same i (omega arith)));
 }
 
-module _ {A : Type 0} (read : List Line → Checked A) (s : List ℕ) (rowAt : List ℕ → ℕ → A) (from to : ℕ) where
-  abbrev Storing : List ℕ → List ℕ → ℕ → ℕ → Type 0
-  Storing = GroupsStored read s rowAt from to
+module _ {A : Type 0} (read : List Line → Checked A) (s : List ℕ) (rowAt : List ℕ → ℕ → A) (from : ℕ) where
+  abbrev Storing : ℕ → List ℕ → List ℕ → ℕ → ℕ → Type 0
+  Storing to = GroupsStored read s rowAt from to
 
-  unchanged : (rows : List ℕ) → OnlyBetween from to rows rows
-  unchanged rows = record { long = refl; before = λ j h. refl; behind = λ j h. refl }
-
-  pub none-stored : (rows : List ℕ) → Storing rows rows 0 0
-  none-stored rows = record {
-    only = unchanged rows;
-    indexed = record { few = omega arith; split = λ groups from. (groups, from, unfold numbersFrom in refl) };
+  pub none-stored : (to : ℕ) (rows : List ℕ) → Storing to rows rows 0 0
+  unfolding numbersFrom
+  none-stored to rows = record {
+    only = record { long = refl; before = λ j h. refl; behind = λ j h. refl };
+    indexed = record { few = omega arith; split = refl };
   }
 
   -- one group more
-  pub stored-more : {rows₀ rows after : List ℕ} {count at next : ℕ} {g : A} → Storing rows₀ rows count at → count < 1024 → GroupTo s at read g next
-      → OnlyBetween from to rows after → ((i : ℕ) → i < count → rowAt rows i ≡ rowAt after i) → rowAt after count ≡ g
-      → Storing rows₀ after (count + 1) next
-  stored-more {rows = rows} {after = after} {count = count} {at = at} {next = next} {g = g} inv few to only same here = record {
+  pub stored-more : {to to′ : ℕ} {rows₀ rows after : List ℕ} {count at next : ℕ} {g : A} → from ≤ to → to ≤ to′
+      → Storing to rows₀ rows count at → count < 1024 → GroupTo s at read g next
+      → OnlyBetween to to′ rows after → ((i : ℕ) → i < count → rowAt rows i ≡ rowAt after i) → rowAt after count ≡ g
+      → Storing to′ rows₀ after (count + 1) next
+  stored-more {rows = rows} {after = after} {count = count} {next = next} {g = g} low high inv few group only same here = record {
     only = record {
       long = only .long ∙ inv .only .long;
-      before = λ j h. only .before j h ∙ inv .only .before j h;
-      behind = λ j h. only .behind j h ∙ inv .only .behind j h;
+      before = λ j h. only .before j (omega arith) ∙ inv .only .before j h;
+      behind = λ j h. only .behind j h ∙ inv .only .behind j (omega arith);
     };
-    indexed = record {
-      few = omega arith;
-      split = λ groups from.
-          let (rest, later, e) = inv .indexed .split groups from in
-          let (others, f, behind) = first-group read s later g next to in
-          (others, behind, e ∙ joined rest others f);
-    };
+    indexed = record { few = omega arith; split = inv .indexed .split ∙ rw (read-group read s group) joined };
   }
     where
-      joined : (rest others : List A) → rest ≡ g ∷ others
-          → map (rowAt rows) (numbersFrom 0 count) ++ rest ≡ map (rowAt after) (numbersFrom 0 (count + 1)) ++ others
-      joined rest others f =
-          rw (f, map-same (rowAt rows) (rowAt after) 0 count (λ i h. same i (omega arith)), one-more (rowAt after) count, here)
-          (sym (append-assoc (map (rowAt after) (numbersFrom 0 count)) (g ∷ []) others))
+      joined : map (rowAt rows) (numbersFrom 0 count) ++ (g ∷ groupsRead read s next)
+          ≡ map (rowAt after) (numbersFrom 0 (count + 1)) ++ groupsRead read s next
+      joined =
+          rw (map-same (rowAt rows) (rowAt after) 0 count (λ i h. same i (omega arith)), one-more (rowAt after) count, here)
+          (sym (append-assoc (map (rowAt after) (numbersFrom 0 count)) (g ∷ []) (groupsRead read s next)))
+
+-- how many groups have rows behind the loop
+module _ {A : Type 0} (read : List Line → Checked A) (s : List ℕ) {rowAt : ℕ → A} {count at : ℕ} (x : GroupsIndexed read s rowAt count at) where
+  all-long : length (groupsRead read s 0) ≡ count + length (groupsRead read s at)
+  all-long =
+      ap length (x .split) ∙ length-append (map rowAt (numbersFrom 0 count)) (groupsRead read s at)
+      ∙ ap (λ (n : ℕ). n + length (groupsRead read s at)) (length-map (numbersFrom 0 count) rowAt ∙ length-numbers 0 count)
+
+  pub counted-all : GroupFaulty s at read → count ≡ rowsFor (groupsRead read s 0)
+  unfolding rowsFor
+  counted-all f =
+      let e : length (groupsRead read s 0) ≡ count = omega (arith, all-long, ap length (read-faulty read s at f)) in
+      rw (e, le-leb count 1024 (x .few))
+
+  pub counted-most : 1024 ≤ count → count ≡ rowsFor (groupsRead read s 0)
+  unfolding rowsFor
+  counted-most h = go (leb (length (groupsRead read s 0)) 1024) refl
+    where
+      go : (b : Bool) → leb (length (groupsRead read s 0)) 1024 ≡ b → count ≡ cond b (length (groupsRead read s 0)) 1024
+      go true e = omega (arith, all-long, leb-true (length (groupsRead read s 0)) 1024 e, x .few)
+      go false e = omega (arith, x .few)
 
 -- ---- a row stored
 
@@ -96,8 +113,8 @@ module _ (reference rows : List ℕ) (count contigAt contigEnd first basesAt bas
       → SegmentsStored reference rows₀ after₅ (count + 1) next
   unfolding segmentAt
   segment-stored inv to =
-      stored-more segmentOf reference (segmentAt reference) 90112 95232 inv few to
-      (only-row rows row₅ (90112 + count * 5) (omega arith) 90112 95232 (omega arith) (omega arith))
+      stored-more segmentOf reference (segmentAt reference) 90112 (omega arith) (omega arith) inv few to
+      (only-row rows row₅ (90112 + count * 5) (omega arith) (90112 + count * 5) (90112 + (count + 1) * 5) (omega arith) (omega arith))
       (λ i h. rw (
         segment-before 0 i (omega arith) h,
         segment-before 1 i (omega arith) h,
@@ -133,8 +150,8 @@ module _ (clip rows : List ℕ) (count contigAt contigEnd start end : ℕ) (few 
       → SpansStored clip rows₀ after₄ (count + 1) next
   unfolding spanAt
   span-stored inv to =
-      stored-more spanOf clip (spanAt clip) 95232 99328 inv few to
-      (only-row rows row₄ (95232 + count * 4) (omega arith) 95232 99328 (omega arith) (omega arith))
+      stored-more spanOf clip (spanAt clip) 95232 (omega arith) (omega arith) inv few to
+      (only-row rows row₄ (95232 + count * 4) (omega arith) (95232 + count * 4) (95232 + (count + 1) * 4) (omega arith) (omega arith))
       (λ i h. rw (
         span-before 0 i (omega arith) h,
         span-before 1 i (omega arith) h,
@@ -199,46 +216,110 @@ module _ (rows : List ℕ) (p q a b : ℕ) (apart : p < q) (room : q < length ro
   same-long : length both ≡ length rows
   same-long = length-set (set rows p a) q b ∙ length-set rows p a
 
-module _ {rows₀ rows : List ℕ} {count next : ℕ} where
-  module _ {reference : List ℕ} (x : SegmentsStored reference rows₀ rows count next) (room : 99332 ≤ length rows) where
+module _ {rows₀ rows : List ℕ} {count next : ℕ} (room : 99332 ≤ length rows) where
+  module _ {reference : List ℕ} (x : SegmentsStored reference rows₀ rows count next) where
     segments-other : (j : ℕ) → (j ≡ 99328 → ⊥) → (j ≡ 99330 → ⊥) → getD (set (set rows 99328 count) 99330 next) j 0 ≡ getD rows j 0
     segments-other = other rows 99328 99330 count next (omega arith) (omega arith)
 
-    pub segments-only : SegmentsOnly rows₀ (set (set rows 99328 count) 99330 next)
-    segments-only = record {
-      long = same-long rows 99328 99330 count next (omega arith) (omega arith) ∙ x .only .long;
-      sites = λ j h. segments-other j (λ e. absurd (omega arith)) (λ e. absurd (omega arith)) ∙ x .only .before j h;
-      spans = λ j h k. segments-other j (λ e. absurd (omega arith)) (λ e. absurd (omega arith)) ∙ x .only .behind j h;
-      span-count = segments-other 99329 (λ e. absurd (omega arith)) (λ e. absurd (omega arith)) ∙ x .only .behind 99329 (omega arith);
-      spans-next = segments-other 99331 (λ e. absurd (omega arith)) (λ e. absurd (omega arith)) ∙ x .only .behind 99331 (omega arith);
-    }
+    -- a number behind the rows that is not one of the two
+    segments-behind : (j : ℕ) → 90112 + count * 5 ≤ j → (j ≡ 99328 → ⊥) → (j ≡ 99330 → ⊥)
+        → getD (set (set rows 99328 count) 99330 next) j 0 ≡ getD rows₀ j 0
+    segments-behind j h p q = segments-other j p q ∙ x .only .behind j h
 
-    pub segments-indexed : SegmentsIndexed reference (set (set rows 99328 count) 99330 next)
+    segments-count : getD (set (set rows 99328 count) 99330 next) 99328 0 ≡ count
+    segments-count = first-of rows 99328 99330 count next (omega arith) (omega arith)
+
+    segments-only : SegmentsOnly rows₀ (set (set rows 99328 count) 99330 next)
+    segments-only =
+        let few = x .indexed .few in
+        record {
+          long = same-long rows 99328 99330 count next (omega arith) (omega arith) ∙ x .only .long;
+          sites = λ j h. segments-other j (λ e. absurd (omega arith)) (λ e. absurd (omega arith)) ∙ x .only .before j h;
+          spans = λ j h k. segments-behind j (omega arith) (λ e. absurd (omega arith)) (λ e. absurd (omega arith));
+          unused = λ j h k. segments-behind j (rw segments-count at h) (λ e. absurd (omega arith)) (λ e. absurd (omega arith));
+          span-count = segments-behind 99329 (omega arith) (λ e. absurd (omega arith)) (λ e. absurd (omega arith));
+          spans-next = segments-behind 99331 (omega arith) (λ e. absurd (omega arith)) (λ e. absurd (omega arith));
+          past = λ j h. segments-behind j (omega arith) (λ e. absurd (omega arith)) (λ e. absurd (omega arith));
+        }
+
+    segments-indexed : SegmentsIndexed reference (set (set rows 99328 count) 99330 next)
     segments-indexed =
-        rw (first-of rows 99328 99330 count next (omega arith) (omega arith), second-of rows 99328 99330 count next (omega arith) (omega arith))
+        rw (segments-count, second-of rows 99328 99330 count next (omega arith) (omega arith))
         (indexed-same (same-segments rows (set (set rows 99328 count) 99330 next) reference count (x .indexed .few)
         (λ j h. segments-other j (λ e. absurd (omega arith)) (λ e. absurd (omega arith)))) (x .indexed))
 
-  module _ {clip : List ℕ} (x : SpansStored clip rows₀ rows count next) (room : 99332 ≤ length rows) where
+    pub segments-given : count ≡ rowsFor (segmentsRead reference 0) → SegmentsGiven reference rows₀ (set (set rows 99328 count) 99330 next)
+    segments-given all = record {
+      only = segments-only;
+      short = λ h. absurd (omega (arith, x .only .long));
+      indexed = λ _. segments-indexed;
+      counted = λ _. segments-count ∙ all;
+    }
+
+  module _ {clip : List ℕ} (x : SpansStored clip rows₀ rows count next) where
     spans-other : (j : ℕ) → (j ≡ 99329 → ⊥) → (j ≡ 99331 → ⊥) → getD (set (set rows 99329 count) 99331 next) j 0 ≡ getD rows j 0
     spans-other = other rows 99329 99331 count next (omega arith) (omega arith)
 
-    pub spans-only : SpansOnly rows₀ (set (set rows 99329 count) 99331 next)
-    spans-only = record {
-      long = same-long rows 99329 99331 count next (omega arith) (omega arith) ∙ x .only .long;
-      sites-segments = λ j h. spans-other j (λ e. absurd (omega arith)) (λ e. absurd (omega arith)) ∙ x .only .before j h;
-      segment-count = spans-other 99328 (λ e. absurd (omega arith)) (λ e. absurd (omega arith)) ∙ x .only .behind 99328 (omega arith);
-      segments-next = spans-other 99330 (λ e. absurd (omega arith)) (λ e. absurd (omega arith)) ∙ x .only .behind 99330 (omega arith);
-    }
+    spans-behind : (j : ℕ) → 95232 + count * 4 ≤ j → (j ≡ 99329 → ⊥) → (j ≡ 99331 → ⊥)
+        → getD (set (set rows 99329 count) 99331 next) j 0 ≡ getD rows₀ j 0
+    spans-behind j h p q = spans-other j p q ∙ x .only .behind j h
 
-    pub spans-indexed : SpansIndexed clip (set (set rows 99329 count) 99331 next)
+    spans-count : getD (set (set rows 99329 count) 99331 next) 99329 0 ≡ count
+    spans-count = first-of rows 99329 99331 count next (omega arith) (omega arith)
+
+    spans-only : SpansOnly rows₀ (set (set rows 99329 count) 99331 next)
+    spans-only =
+        let few = x .indexed .few in
+        record {
+          long = same-long rows 99329 99331 count next (omega arith) (omega arith) ∙ x .only .long;
+          sites-segments = λ j h. spans-other j (λ e. absurd (omega arith)) (λ e. absurd (omega arith)) ∙ x .only .before j h;
+          unused = λ j h k. spans-behind j (rw spans-count at h) (λ e. absurd (omega arith)) (λ e. absurd (omega arith));
+          segment-count = spans-behind 99328 (omega arith) (λ e. absurd (omega arith)) (λ e. absurd (omega arith));
+          segments-next = spans-behind 99330 (omega arith) (λ e. absurd (omega arith)) (λ e. absurd (omega arith));
+          past = λ j h. spans-behind j (omega arith) (λ e. absurd (omega arith)) (λ e. absurd (omega arith));
+        }
+
+    spans-indexed : SpansIndexed clip (set (set rows 99329 count) 99331 next)
     spans-indexed =
-        rw (first-of rows 99329 99331 count next (omega arith) (omega arith), second-of rows 99329 99331 count next (omega arith) (omega arith))
+        rw (spans-count, second-of rows 99329 99331 count next (omega arith) (omega arith))
         (indexed-same (same-spans rows (set (set rows 99329 count) 99331 next) clip count (x .indexed .few)
         (λ j h k. spans-other j (λ e. absurd (omega arith)) (λ e. absurd (omega arith)))) (x .indexed))
 
+    pub spans-given : count ≡ rowsFor (spansRead clip 0) → SpansGiven clip rows₀ (set (set rows 99329 count) 99331 next)
+    spans-given all = record {
+      only = spans-only;
+      short = λ h. absurd (omega (arith, x .only .long));
+      indexed = λ _. spans-indexed;
+      counted = λ _. spans-count ∙ all;
+    }
+
+-- a table that is too short, or has no text to store, is as it was
 pub segments-unchanged : (rows : List ℕ) → SegmentsOnly rows rows
-segments-unchanged rows = record { long = refl; sites = λ j h. refl; spans = λ j h k. refl; span-count = refl; spans-next = refl }
+segments-unchanged rows = record {
+  long = refl;
+  sites = λ j h. refl;
+  spans = λ j h k. refl;
+  unused = λ j h k. refl;
+  span-count = refl;
+  spans-next = refl;
+  past = λ j h. refl;
+}
 
 pub spans-unchanged : (rows : List ℕ) → SpansOnly rows rows
-spans-unchanged rows = record { long = refl; sites-segments = λ j h. refl; segment-count = refl; segments-next = refl }
+spans-unchanged rows = record {
+  long = refl;
+  sites-segments = λ j h. refl;
+  unused = λ j h k. refl;
+  segment-count = refl;
+  segments-next = refl;
+  past = λ j h. refl;
+}
+
+module _ (s rows : List ℕ) (short : length rows < 99332) where
+  pub no-segments-given : SegmentsGiven s rows rows
+  no-segments-given =
+      record { only = segments-unchanged rows; short = λ _. refl; indexed = λ h. absurd (omega arith); counted = λ h. absurd (omega arith) }
+
+  pub no-spans-given : SpansGiven s rows rows
+  no-spans-given =
+      record { only = spans-unchanged rows; short = λ _. refl; indexed = λ h. absurd (omega arith); counted = λ h. absurd (omega arith) }

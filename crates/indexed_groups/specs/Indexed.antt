@@ -1,20 +1,25 @@
 -- What it means that the first groups of a text have rows in the table, and what else of the table is changed.
-use Prim.Native.Nat.{_+_, _<_, _≤_, ℕ}
+use Prim.Native.Nat.{_*_, _+_, _<_, _≤_, ℕ}
+use lib.Dec.{leb}
 use lib.ListN.{getD, length}
+use mathlib.Core.Bool.{cond}
 use mathlib.Core.List.{List, _++_, map}
 use mathlib.Core.Path.{_≡_}
-use Rattle.clip_and_reference.proofs.Groups.{GroupsFrom}
+use Rattle.clip_and_reference.specs.Groups.{groupsRead, segmentsRead, spansRead}
 use Rattle.definitions.specs.Checked.{Checked}
 use Rattle.definitions.specs.ClipAndReference.{segmentOf, spanOf}
 use Rattle.definitions.specs.Lines.{Line}
 use Rattle.definitions.specs.Lists.{numbersFrom}
-use Rattle.tables.specs.Tables.{countsAt, segmentAt, segmentCount, segmentsAt, segmentsNext, spanAt, spanCount, spansAt, spansNext}
+use Rattle.tables.specs.Tables.{countsAt, segmentAt, segmentCount, segmentsAt, segmentsNext, spanAt, spanCount, spansAt, spansNext, tableLength}
 
--- the groups of a text in order are those of so many rows, 1,024 at most, and behind them those from the offset `next` on
+-- the groups of a text, up to the first faulty one, are those of so many rows, 1,024 at most, and behind them those from `next` on
 pub record GroupsIndexed {A : Type 0} (read : List Line → Checked A) (s : List ℕ) (rowAt : ℕ → A) (count next : ℕ) : Type 0 where
   pub few : count ≤ 1024
-  pub split : (groups : List A) → GroupsFrom read s 0 groups
-      → (rest : List A) × GroupsFrom read s next rest × (groups ≡ map rowAt (numbersFrom 0 count) ++ rest)
+  pub split : groupsRead read s 0 ≡ map rowAt (numbersFrom 0 count) ++ groupsRead read s next
+
+-- how many of these groups get rows: all, but 1,024 at most
+unfoldable pub rowsFor : {A : Type 0} → List A → ℕ
+rowsFor groups = cond (leb (length groups) 1024) (length groups) 1024
 
 abbrev pub SegmentsIndexed : List ℕ → List ℕ → Type 0
 SegmentsIndexed reference rows = GroupsIndexed segmentOf reference (segmentAt reference rows) (segmentCount rows) (segmentsNext rows)
@@ -28,20 +33,39 @@ pub record OnlyBetween (from to : ℕ) (rows after : List ℕ) : Type 0 where
   pub before : (j : ℕ) → j < from → getD after j 0 ≡ getD rows j 0
   pub behind : (j : ℕ) → to ≤ j → getD after j 0 ≡ getD rows j 0
 
--- only the numbers about segments are changed
+-- ---- what of the table is changed
+
+-- only the numbers about segments: as many rows as it says, and the two numbers behind them
 pub record SegmentsOnly (rows after : List ℕ) : Type 0 where
   pub long : length after ≡ length rows
   pub sites : (j : ℕ) → j < segmentsAt → getD after j 0 ≡ getD rows j 0
   pub spans : (j : ℕ) → spansAt ≤ j → j < countsAt → getD after j 0 ≡ getD rows j 0
+  pub unused : (j : ℕ) → segmentsAt + segmentCount after * 5 ≤ j → j < spansAt → getD after j 0 ≡ getD rows j 0
   pub span-count : spanCount after ≡ spanCount rows
   pub spans-next : spansNext after ≡ spansNext rows
+  pub past : (j : ℕ) → tableLength ≤ j → getD after j 0 ≡ getD rows j 0
 
--- only the numbers about spans are changed
+-- only the numbers about spans
 pub record SpansOnly (rows after : List ℕ) : Type 0 where
   pub long : length after ≡ length rows
   pub sites-segments : (j : ℕ) → j < spansAt → getD after j 0 ≡ getD rows j 0
+  pub unused : (j : ℕ) → spansAt + spanCount after * 4 ≤ j → j < countsAt → getD after j 0 ≡ getD rows j 0
   pub segment-count : segmentCount after ≡ segmentCount rows
   pub segments-next : segmentsNext after ≡ segmentsNext rows
+  pub past : (j : ℕ) → tableLength ≤ j → getD after j 0 ≡ getD rows j 0
+
+-- a table after the groups of a text got their rows; one that has no room for all rows is as it was
+pub record SegmentsGiven (reference rows after : List ℕ) : Type 0 where
+  pub only : SegmentsOnly rows after
+  pub short : length rows < tableLength → after ≡ rows
+  pub indexed : tableLength ≤ length rows → SegmentsIndexed reference after
+  pub counted : tableLength ≤ length rows → segmentCount after ≡ rowsFor (segmentsRead reference 0)
+
+pub record SpansGiven (clip rows after : List ℕ) : Type 0 where
+  pub only : SpansOnly rows after
+  pub short : length rows < tableLength → after ≡ rows
+  pub indexed : tableLength ≤ length rows → SpansIndexed clip after
+  pub counted : tableLength ≤ length rows → spanCount after ≡ rowsFor (spansRead clip 0)
 
 -- the rows of so many groups are stored, and nothing else is changed
 pub record GroupsStored {A : Type 0} (read : List Line → Checked A) (s : List ℕ) (rowAt : List ℕ → ℕ → A) (from to : ℕ)
@@ -50,7 +74,8 @@ pub record GroupsStored {A : Type 0} (read : List Line → Checked A) (s : List 
   pub indexed : GroupsIndexed read s (rowAt after) count next
 
 abbrev pub SegmentsStored : List ℕ → List ℕ → List ℕ → ℕ → ℕ → Type 0
-SegmentsStored reference = GroupsStored segmentOf reference (segmentAt reference) segmentsAt spansAt
+SegmentsStored reference rows after count =
+    GroupsStored segmentOf reference (segmentAt reference) segmentsAt (segmentsAt + count * 5) rows after count
 
 abbrev pub SpansStored : List ℕ → List ℕ → List ℕ → ℕ → ℕ → Type 0
-SpansStored clip = GroupsStored spanOf clip (spanAt clip) spansAt countsAt
+SpansStored clip rows after count = GroupsStored spanOf clip (spanAt clip) spansAt (spansAt + count * 4) rows after count

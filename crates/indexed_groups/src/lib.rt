@@ -1,8 +1,10 @@
 // The first 1,024 segments of reference.kv and the first 1,024 spans of clip.kv as rows of the table, read once for each call.
 ghost use Prim.Native.Nat.{_≤_};
 ghost use lib.ListN.{length};
+ghost use mathlib.Core.Path.{_≡_};
+ghost use Rattle.clip_and_reference.specs.Groups.{segmentsRead, spansRead};
 ghost use Rattle.tables.specs.Tables.{tableLength};
-ghost use Rattle.indexed_groups.specs.Indexed.{SegmentsIndexed, SegmentsOnly, SegmentsStored, SpansIndexed, SpansOnly, SpansStored};
+ghost use Rattle.indexed_groups.specs.Indexed.{SegmentsGiven, SegmentsStored, SpansGiven, SpansStored, rowsFor};
 use clip_and_reference::SegmentAt;
 use clip_and_reference::SpanAt;
 
@@ -17,7 +19,8 @@ pub struct Stored {
 // Stores the rows of the first segments, 1,024 at most.
 fn store_segments(reference: &[u8], rows: &mut [usize]) -> Stored
     requires { ⌜ tableLength ≤ length (now rows) ⌝ }
-    ensures { λ r. ⌜ SegmentsStored (now (reference .entry)) (now (rows .entry)) (now (rows .exit)) (r .count) (r .next) ⌝ }
+    ensures stored { λ r. ⌜ SegmentsStored (now (reference .entry)) (now (rows .entry)) (now (rows .exit)) (r .count) (r .next) ⌝ }
+    ensures counted { λ r. ⌜ r .count ≡ rowsFor (segmentsRead (now (reference .entry)) 0) ⌝ }
 {
     let mut at = 0;
     let mut count = 0;
@@ -34,7 +37,8 @@ fn store_segments(reference: &[u8], rows: &mut [usize]) -> Stored
         else {
             return Stored { count, next: at };
         };
-        let row = [contig_at, contig_end, first as usize, bases_at, bases_end];
+        let position = first.get() as usize;
+        let row = [contig_at, contig_end, position, bases_at, bases_end];
         tables::store_row(rows, 90112 + count * 5, &row);
         count += 1;
         at = next;
@@ -44,8 +48,7 @@ fn store_segments(reference: &[u8], rows: &mut [usize]) -> Stored
 
 // Gives the first 1,024 segments of the reference their rows, in a table that has room for all rows; any other table stays as it was.
 pub fn index_segments(reference: &[u8], rows: &mut [usize])
-    ensures others { λ _. ⌜ SegmentsOnly (now (rows .entry)) (now (rows .exit)) ⌝ }
-    ensures indexed { λ _. ⌜ (tableLength ≤ length (now (rows .entry)) → SegmentsIndexed (now (reference .entry)) (now (rows .exit))) ⌝ }
+    ensures { λ _. ⌜ SegmentsGiven (now (reference .entry)) (now (rows .entry)) (now (rows .exit)) ⌝ }
 {
     if rows.len() < 99332 {
         return;
@@ -60,7 +63,8 @@ pub fn index_segments(reference: &[u8], rows: &mut [usize])
 // Stores the rows of the first spans, 1,024 at most.
 fn store_spans(clip: &[u8], rows: &mut [usize]) -> Stored
     requires { ⌜ tableLength ≤ length (now rows) ⌝ }
-    ensures { λ r. ⌜ SpansStored (now (clip .entry)) (now (rows .entry)) (now (rows .exit)) (r .count) (r .next) ⌝ }
+    ensures stored { λ r. ⌜ SpansStored (now (clip .entry)) (now (rows .entry)) (now (rows .exit)) (r .count) (r .next) ⌝ }
+    ensures counted { λ r. ⌜ r .count ≡ rowsFor (spansRead (now (clip .entry)) 0) ⌝ }
 {
     let mut at = 0;
     let mut count = 0;
@@ -69,14 +73,15 @@ fn store_spans(clip: &[u8], rows: &mut [usize]) -> Stored
         let SpanAt::Span {
             contig_at,
             contig_end,
-            start,
-            end,
+            loc,
             next,
         } = group
         else {
             return Stored { count, next: at };
         };
-        let row = [contig_at, contig_end, start as usize, end as usize];
+        let start = loc.start.get() as usize;
+        let end = loc.end.get() as usize;
+        let row = [contig_at, contig_end, start, end];
         tables::store_row(rows, 95232 + count * 4, &row);
         count += 1;
         at = next;
@@ -86,8 +91,7 @@ fn store_spans(clip: &[u8], rows: &mut [usize]) -> Stored
 
 // Gives the first 1,024 spans of the clip their rows, in a table that has room for all rows; any other table stays as it was.
 pub fn index_spans(clip: &[u8], rows: &mut [usize])
-    ensures others { λ _. ⌜ SpansOnly (now (rows .entry)) (now (rows .exit)) ⌝ }
-    ensures indexed { λ _. ⌜ (tableLength ≤ length (now (rows .entry)) → SpansIndexed (now (clip .entry)) (now (rows .exit))) ⌝ }
+    ensures { λ _. ⌜ SpansGiven (now (clip .entry)) (now (rows .entry)) (now (rows .exit)) ⌝ }
 {
     if rows.len() < 99332 {
         return;

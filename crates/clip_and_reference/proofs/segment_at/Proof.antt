@@ -119,15 +119,29 @@ returns-5 c = let l = rw (c .before .before .before .before .before .before .bef
     out-of-order referenceGroup _ _ _ _ (l .0) _ _ m _ _ (n .0) (past-the-end _ _ _ _ _ (n .0) (n .1) _ (omega (arith, c .if2 .taken)))
 
 add-next : tie.Need-add-next
-add-next c = let n = rw (c .before .before .before .letters .given .1) at (c .before .before .before .before .before .letters-line .ensures) in omega (arith, line-within _ _ _ (lettersOf maxNumber) _ _ (n .0))
+add-next c =
+    let n = rw (c .before .before .before .letters .given .1) at (c .before .before .before .before .before .letters-line .ensures) in
+    omega (arith, line-within _ _ _ (lettersOf maxNumber) _ _ (n .0))
+
+cast-new-1based : tie.Need-cast-new-1based
+cast-new-1based c = search needs
+
+new-1based-requires : tie.Need-new-1based-requires
+new-1based-requires c κs = search needs
 
 returns-6 : tie.Need-returns-6
 unfolding keyOf text SegmentRead segmentOf threeLines
-returns-6 c = let l = rw (c .before .before .before .before .before .before .before .before .before .before .before .before .before .name .given .1) at (c .before .before .before .before .before .before .before .before .before .before .before .before .before .before .before .name-line .ensures) in
-    let m = rw (c .before .before .before .before .before .before .before .before .from .given .1) at (c .before .before .before .before .before .before .before .before .before .before .number-line .ensures) in
-    let n = rw (c .before .before .before .letters .given .1) at (c .before .before .before .before .before .letters-line .ensures) in (
-      group-read referenceGroup _ _ _ _ (l .0) _ _ m _ _ (n .0) (omega (arith, c .before .if1 .left))
-          (not-past _ _ _ _ _ (n .0) (n .1) _ (omega (arith, c .if2 .left))),
+returns-6 c =
+    let at-ifs = c .before in
+    let at-letters = at-ifs .before .before .before in
+    let at-from = at-letters .before .before .before .before .before in
+    let at-name = at-from .before .before .before .before .before in
+    let l = rw (at-name .name .given .1) at (at-name .before .before .name-line .ensures) in
+    let m = rw (at-from .from .given .1) at (at-from .before .before .number-line .ensures) in
+    let n = rw (at-letters .letters .given .1) at (at-letters .before .before .letters-line .ensures) in
+    let read = group-read referenceGroup _ _ _ _ (l .0) _ _ m _ _ (n .0) (omega (arith, at-ifs .before .if1 .left))
+    (not-past _ _ _ _ _ (n .0) (n .1) _ (omega (arith, at-ifs .if2 .left))) in (
+      rw (c .new-1based .ensures) read,
       part-of (l .1) (line-within _ _ _ name _ _ (l .0)),
       bases-part _ _ _ _ _ (n .0) (n .1),
     )
@@ -159,4 +173,6 @@ segment-at-spec =
     add-if2
     returns-5
     add-next
+    cast-new-1based
+    new-1based-requires
     returns-6)

@@ -1,5 +1,6 @@
 -- Three lines: a contig, and two numbers in order.
 use borrow.Author.Needs.{needs}
+use mathlib.Core.Path.{_∙_}
 use native.Mathlib.Omega.{arith}
 use Rattle.clip_and_reference.proofs.ThreeLines.{clipGroup, first-unread, group-read, number-zero, out-of-order, part-of, second-unread, third-unread, threeLines}
 use Rattle.clip_and_reference.specs.Groups.{SpanRead}
@@ -83,16 +84,39 @@ returns-5 c = let l = rw (c .before .before .before .before .before .before .bef
     out-of-order clipGroup _ _ _ _ (l .0) _ _ m _ _ n (omega (arith, c .if2 .taken))
 
 add-next : tie.Need-add-next
-add-next c = let n = rw (c .before .before .before .to .given .1) at (c .before .before .before .before .before .number-line2 .ensures) in omega (arith, line-within _ _ _ number _ _ n)
+add-next c =
+    let n = rw (c .before .before .before .to .given .1) at (c .before .before .before .before .before .number-line2 .ensures) in
+    omega (arith, line-within _ _ _ number _ _ n)
+
+cast-new-1based : tie.Need-cast-new-1based
+cast-new-1based c = search needs
+
+new-1based-requires : tie.Need-new-1based-requires
+new-1based-requires c κs = search needs
+
+cast-new-1based-2 : tie.Need-cast-new-1based-2
+cast-new-1based-2 c = search needs
+
+new-1based-requires-2 : tie.Need-new-1based-requires-2
+new-1based-requires-2 c κs = search needs
+
+new-requires : tie.Need-new-requires
+new-requires c κs = search needs
 
 returns-6 : tie.Need-returns-6
 unfolding keyOf text SpanRead spanOf threeLines
-returns-6 c = let l = rw (c .before .before .before .before .before .before .before .before .before .before .before .before .before .name .given .1) at (c .before .before .before .before .before .before .before .before .before .before .before .before .before .before .before .name-line .ensures) in
-    let m = rw (c .before .before .before .before .before .before .before .before .from .given .1) at (c .before .before .before .before .before .before .before .before .before .before .number-line .ensures) in
-    let n = rw (c .before .before .before .to .given .1) at (c .before .before .before .before .before .number-line2 .ensures) in (
-      group-read clipGroup _ _ _ _ (l .0) _ _ m _ _ n (omega (arith, c .before .if1 .left)) (omega (arith, c .if2 .left)),
-      part-of (l .1) (line-within _ _ _ name _ _ (l .0)),
-    )
+returns-6 c =
+    let at-ifs = c .before .before .before in
+    let at-to = at-ifs .before .before .before in
+    let at-from = at-to .before .before .before .before .before in
+    let at-name = at-from .before .before .before .before .before in
+    let l = rw (at-name .name .given .1) at (at-name .before .before .name-line .ensures) in
+    let m = rw (at-from .from .given .1) at (at-from .before .before .number-line .ensures) in
+    let n = rw (at-to .to .given .1) at (at-to .before .before .number-line2 .ensures) in
+    let read = group-read clipGroup _ _ _ _ (l .0) _ _ m _ _ n (omega (arith, at-ifs .before .if1 .left)) (omega (arith, at-ifs .if2 .left)) in
+    let is-start = c .new .ensures .0 ∙ c .before .before .new-1based .ensures in
+    let is-end = c .new .ensures .1 ∙ c .before .new-1based2 .ensures in
+    (rw (is-start, is-end) read, part-of (l .1) (line-within _ _ _ name _ _ (l .0)))
 
 pub span-at-spec : {M : Type 1} → statement M
 span-at-spec =
@@ -118,4 +142,9 @@ span-at-spec =
     returns-4
     returns-5
     add-next
+    cast-new-1based
+    new-1based-requires
+    cast-new-1based-2
+    new-1based-requires-2
+    new-requires
     returns-6)

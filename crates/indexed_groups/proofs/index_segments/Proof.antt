@@ -3,12 +3,12 @@ use Prim.Native.Nat.{_≤_}
 use borrow.Author.Needs.{needs}
 use lib.ListN.{length, length-set}
 use native.Mathlib.Omega.{arith}
-use Rattle.indexed_groups.proofs.Storing.{segments-indexed, segments-only, segments-unchanged}
+use Rattle.indexed_groups.proofs.Storing.{no-segments-given, segments-given}
 use Rattle.indexed_groups.proofs.index_segments.Statement.{statement}
 use Rattle.indexed_groups.proofs.index_segments.Tie as tie
 
 returns : tie.Need-returns
-returns c = (segments-unchanged _, λ long. absurd (omega (arith, (c .if1 .taken))))
+returns c = no-segments-given _ _ (c .if1 .taken)
 
 store-segments-requires : tie.Need-store-segments-requires
 store-segments-requires c κs = search needs
@@ -23,8 +23,10 @@ same-length : tie.Need-same-length
 same-length c = simp length-set ((c .before .before .store-segments .kept .1 .0))
 
 returns-2 : tie.Need-returns-2
-returns-2 c = let room : 99332 ≤ length ((c .before .before .store-segments .last .1 .0)) = omega (arith, (c .before .before .before .before .if1 .left), (c .before .before .store-segments .kept .1 .0)) in
-    (segments-only ((c .before .before .store-segments .ensures)) room, λ long. segments-indexed ((c .before .before .store-segments .ensures)) room)
+returns-2 c =
+    let room : 99332 ≤ length (c .before .before .store-segments .last .1 .0) =
+    omega (arith, c .before .before .before .before .if1 .left, c .before .before .store-segments .kept .1 .0) in
+    segments-given room (c .before .before .store-segments .ensures .0) (c .before .before .store-segments .ensures .1)
 
 pub index-segments-spec : {M : Type 1} → statement M
 index-segments-spec =

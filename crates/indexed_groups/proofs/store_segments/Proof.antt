@@ -4,7 +4,7 @@ use borrow.Author.Needs.{needs}
 use lib.ListN.{length}
 use native.Mathlib.Omega.{arith}
 use Rattle.clip_and_reference.specs.Groups.{SegmentRead}
-use Rattle.indexed_groups.proofs.Storing.{none-stored, segment-stored}
+use Rattle.indexed_groups.proofs.Storing.{counted-all, counted-most, none-stored, segment-stored}
 use Rattle.indexed_groups.specs.Indexed.{SegmentsStored}
 use Rattle.indexed_groups.proofs.store_segments.Statement.{statement}
 use Rattle.indexed_groups.proofs.store_segments.Tie as tie
@@ -28,13 +28,16 @@ enum-told : tie.Need-enum-told Inv-loop μ-loop
 enum-told c = search needs
 
 same-length : tie.Need-same-length Inv-loop μ-loop
-same-length c = (c .before .before .before .before .loop .inv .only .long)
+same-length c = c .before .before .before .before .loop .inv .only .long
 
 returns : tie.Need-returns Inv-loop μ-loop
-returns c = (c .before .before .before .before .loop .inv)
+unfolding SegmentRead
+returns c =
+    let inv = c .before .before .before .before .loop .inv in
+    (inv, counted-all _ _ (inv .indexed) (rw (c .enum-told .given .1) at (c .before .before .segment-at .ensures)))
 
-cast-store-row : tie.Need-cast-store-row Inv-loop μ-loop
-cast-store-row c = search needs
+get-requires : tie.Need-get-requires Inv-loop μ-loop
+get-requires c κs = search needs
 
 mul-store-row : tie.Need-mul-store-row Inv-loop μ-loop
 mul-store-row c = search needs
@@ -46,25 +49,31 @@ slice-aggregate-store-row : tie.Need-slice-aggregate-store-row Inv-loop μ-loop
 slice-aggregate-store-row c = search needs
 
 store-row-requires : tie.Need-store-row-requires Inv-loop μ-loop
-store-row-requires c κs = omega (arith, (c .before .before .before .before .before .before .before .before .before .before .pre), (c .before .before .before .before .before .before .before .loop .inv .only .long), (c .before .before .before .before .before .before .loop-test .taken))
+store-row-requires c κs =
+    omega (arith, c .before .before .before .before .before .before .before .before .before .before .before .pre, c .before .before .before .before .before .before .before .before .loop .inv .only .long, c .before .before .before .before .before .before .before .loop-test .taken)
 
 add-count : tie.Need-add-count Inv-loop μ-loop
-add-count c = omega (arith, (c .before .before .before .before .before .before .before .before .before .loop-test .taken))
+add-count c = omega (arith, c .before .before .before .before .before .before .before .before .before .before .loop-test .taken)
 
 loop-less : tie.Need-loop-less Inv-loop μ-loop
-loop-less c = omega (arith, (c .before .before .before .before .before .before .before .before .before .loop-test .taken))
+loop-less c = omega (arith, c .before .before .before .before .before .before .before .before .before .before .loop-test .taken)
 
 loop-again : tie.Need-loop-again Inv-loop μ-loop
 unfolding SegmentRead
-loop-again c = let g = rw ((c .before .before .before .before .before .before .group .given .1)) at ((c .before .before .before .before .before .before .before .before .segment-at .ensures)) in
-    let room : 99332 ≤ length ((c .before .before .before .before .before .before .before .before .before .before .loop .rows)) = omega (arith, (c .before .before .before .before .before .before .before .before .before .before .before .before .before .pre), (c .before .before .before .before .before .before .before .before .before .before .loop .inv .only .long)) in
-    rw ((c .before .before .store-row .ensures)) (segment-stored _ _ _ _ _ _ _ _ ((c .before .before .before .before .before .before .before .before .before .loop-test .taken)) room ((c .before .before .before .before .before .before .before .before .before .before .loop .inv)) (g .0))
+loop-again c =
+    let at-loop = c .before .before .before .before .before .before .before .before .before .before .before in
+    let at-group = c .before .before .before .before .before .before .before in
+    let inv = at-loop .loop .inv in
+    let g = rw (at-group .group .given .1) at (at-group .before .before .segment-at .ensures) in
+    let group = rw (← c .before .before .before .before .before .get .ensures) at (g .0) in
+    let room : 99332 ≤ length (at-loop .loop .rows) = omega (arith, at-loop .before .before .before .pre, inv .only .long) in
+    rw (c .before .before .store-row .ensures) (segment-stored _ _ _ _ _ _ _ _ (c .before .before .before .before .before .before .before .before .before .before .loop-test .taken) room inv group)
 
 same-length-2 : tie.Need-same-length-2 Inv-loop μ-loop
-same-length-2 c = (c .before .loop .inv .only .long)
+same-length-2 c = c .before .loop .inv .only .long
 
 returns-2 : tie.Need-returns-2 Inv-loop μ-loop
-returns-2 c = (c .before .loop .inv)
+returns-2 c = let inv = c .before .loop .inv in (inv, counted-most _ _ (inv .indexed) (c .loop-test .left))
 
 pub store-segments-spec : {M : Type 1} → statement M
 store-segments-spec =
@@ -78,7 +87,7 @@ store-segments-spec =
     enum-told
     same-length
     returns
-    cast-store-row
+    get-requires
     mul-store-row
     add-store-row
     slice-aggregate-store-row
