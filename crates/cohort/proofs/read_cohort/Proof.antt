@@ -20,8 +20,10 @@ same-length-2 c = search needs
 
 returns : tie.Need-returns
 unfolding CohortAt cohortAnswer
-returns c = (rw (lt-ltb _ 128 (c .before .before .before .before .before .before .before .if1 .taken)),
-    record { no-room = inl (omega (arith, (c .before .before .before .before .before .before .before .if1 .taken))); names-cleared = (c .before .before .before .before .clear-tables .ensures .1); rows-cleared = (c .before .before .before .before .clear-tables .ensures .0) })
+returns c = (
+  rw (lt-ltb _ 128 (c .before .before .before .before .before .before .before .if1 .taken)),
+  record { no-room = inl (omega (arith, (c .before .before .before .before .before .before .before .if1 .taken))); names-cleared = (c .before .before .before .before .clear-tables .ensures .1); rows-cleared = (c .before .before .before .before .clear-tables .ensures .0) },
+)
 
 read-fitting-requires : tie.Need-read-fitting-requires
 read-fitting-requires c κs = omega (arith, (c .before .before .if1 .left))
@@ -60,12 +62,14 @@ same-length-6 c = search needs
 
 returns-3 : tie.Need-returns-3
 unfolding CohortAt CohortFitting cohortAnswer
-returns-3 c = let r = rw (c .before .before .before .before .before .before .before .enum-told .given .1) at (c .before .before .before .before .before .before .before .before .before .before .before .before .before .read-fitting .ensures) in
-    (rw (le-ltb _ 128 (c .before .before .before .before .before .before .before .before .before .before .before .before .before .before .before .before .if1 .left)) (r .0), record {
-      no-room = inr (r .1);
-      names-cleared = (c .before .before .before .before .clear-tables2 .ensures .1) ∙ scratch-same _ _ (c .before .before .before .before .before .before .before .before .before .before .before .before .before .read-fitting .kept .1 .0);
-      rows-cleared = (c .before .before .before .before .clear-tables2 .ensures .0) ∙ scratch-same _ _ (c .before .before .before .before .before .before .before .before .before .before .before .before .before .read-fitting .kept .1 .1 .0);
-    })
+returns-3 c = let r = rw (c .before .before .before .before .before .before .before .enum-told .given .1) at (c .before .before .before .before .before .before .before .before .before .before .before .before .before .read-fitting .ensures) in (
+  rw (le-ltb _ 128 (c .before .before .before .before .before .before .before .before .before .before .before .before .before .before .before .before .if1 .left)) (r .0),
+  record {
+    no-room = inr (r .1);
+    names-cleared = (c .before .before .before .before .clear-tables2 .ensures .1) ∙ scratch-same _ _ (c .before .before .before .before .before .before .before .before .before .before .before .before .before .read-fitting .kept .1 .0);
+    rows-cleared = (c .before .before .before .before .clear-tables2 .ensures .0) ∙ scratch-same _ _ (c .before .before .before .before .before .before .before .before .before .before .before .before .before .read-fitting .kept .1 .1 .0);
+  },
+)
 
 same-length-7 : tie.Need-same-length-7
 same-length-7 c = search needs
@@ -75,13 +79,15 @@ same-length-8 c = search needs
 
 returns-4 : tie.Need-returns-4
 unfolding CohortAt CohortFitting cohortAnswer
-returns-4 c = let r = rw (c .before .before .before .before .before .before .before .before .read2 .given .1) at (c .before .before .before .before .before .before .before .before .before .before .before .before .before .before .read-fitting .ensures) in
-    (rw (le-ltb _ 128 (c .before .before .before .before .before .before .before .before .before .before .before .before .before .before .before .before .before .if1 .left)) (r .0), record {
-      room = omega (arith, (c .before .before .before .before .before .before .before .before .before .before .before .before .before .before .before .before .before .if1 .left));
-      value = r .1;
-      names-cleared = (c .before .before .before .before .clear-tables3 .ensures .1) ∙ scratch-same _ _ (c .before .before .before .before .before .before .before .before .before .before .before .before .before .before .read-fitting .kept .1 .0);
-      rows-cleared = (c .before .before .before .before .clear-tables3 .ensures .0) ∙ scratch-same _ _ (c .before .before .before .before .before .before .before .before .before .before .before .before .before .before .read-fitting .kept .1 .1 .0);
-    })
+returns-4 c = let r = rw (c .before .before .before .before .before .before .before .before .read2 .given .1) at (c .before .before .before .before .before .before .before .before .before .before .before .before .before .before .read-fitting .ensures) in (
+  rw (le-ltb _ 128 (c .before .before .before .before .before .before .before .before .before .before .before .before .before .before .before .before .before .if1 .left)) (r .0),
+  record {
+    room = omega (arith, (c .before .before .before .before .before .before .before .before .before .before .before .before .before .before .before .before .before .if1 .left));
+    value = r .1;
+    names-cleared = (c .before .before .before .before .clear-tables3 .ensures .1) ∙ scratch-same _ _ (c .before .before .before .before .before .before .before .before .before .before .before .before .before .before .read-fitting .kept .1 .0);
+    rows-cleared = (c .before .before .before .before .clear-tables3 .ensures .0) ∙ scratch-same _ _ (c .before .before .before .before .before .before .before .before .before .before .before .before .before .before .read-fitting .kept .1 .1 .0);
+  },
+)
 
 pub read-cohort-spec : {M : Type 1} → statement M
 read-cohort-spec =

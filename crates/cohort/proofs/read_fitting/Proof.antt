@@ -71,9 +71,10 @@ same-length-6 c = search needs
 returns-5 : tie.Need-returns-5
 unfolding CohortFitting Header SitesRead
 returns-5 c = let h = rw (c .before .before .before .before .before .before .before .before .header2 .given .1) at (c .before .before .before .before .before .before .before .before .before .before .before .before .read-samples .ensures) in
-    let r = rw (c .before .sites .given .1) at (c .before .before .before .before .before .read-sites .ensures) in
-    (sites-said _ (c .before .before .before .before .before .before .before .before .before .before .before .before .before .before .if1 .left) _ _ _ (h .value) (h .behind) _ _ (r .0 _ (names-count _ _ _)),
-    sites-refused _ (c .before .before .before .before .before .before .before .before .before .before .before .before .before .before .if1 .left) _ _ _ (h .value) (h .behind) _ (r .1 _ (names-count _ _ _)))
+    let r = rw (c .before .sites .given .1) at (c .before .before .before .before .before .read-sites .ensures) in (
+      sites-said _ (c .before .before .before .before .before .before .before .before .before .before .before .before .before .before .if1 .left) _ _ _ (h .value) (h .behind) _ _ (r .0 _ (names-count _ _ _)),
+      sites-refused _ (c .before .before .before .before .before .before .before .before .before .before .before .before .before .before .if1 .left) _ _ _ (h .value) (h .behind) _ (r .1 _ (names-count _ _ _)),
+    )
 
 same-length-7 : tie.Need-same-length-7
 same-length-7 c = search needs
@@ -84,17 +85,19 @@ same-length-8 c = search needs
 returns-6 : tie.Need-returns-6
 unfolding CohortFitting Header SitesRead
 returns-6 c = let h = rw (c .before .before .before .before .before .before .before .before .header2 .given .1) at (c .before .before .before .before .before .before .before .before .before .before .before .before .read-samples .ensures) in
-    let (answer, r) = rw (c .before .sites2 .given .1) at (c .before .before .before .before .before .read-sites .ensures) in
-    (sites-said _ (c .before .before .before .before .before .before .before .before .before .before .before .before .before .before .if1 .left) _ _ _ (h .value) (h .behind) _ _ (answer _ (names-count _ _ _)), record {
-      room = record { for-names = (c .before .before .before .before .before .before .before .before .before .before .before .before .before .before .before .before .before .before .pre); for-rows = r .room };
-      value = all-read _ (c .before .before .before .before .before .before .before .before .before .before .before .before .before .before .if1 .left) _ _ _ (h .value) (h .behind) _ (r .value _ (names-count _ _ _));
-      table = r .table;
-      some-sample = h .not-none;
-      few-samples = h .few;
-      few-sites = r .few;
-      names-rest = h .rest;
-      rows-rest = r .rest;
-    })
+    let (answer, r) = rw (c .before .sites2 .given .1) at (c .before .before .before .before .before .read-sites .ensures) in (
+      sites-said _ (c .before .before .before .before .before .before .before .before .before .before .before .before .before .before .if1 .left) _ _ _ (h .value) (h .behind) _ _ (answer _ (names-count _ _ _)),
+      record {
+        room = record { for-names = (c .before .before .before .before .before .before .before .before .before .before .before .before .before .before .before .before .before .before .pre); for-rows = r .room };
+        value = all-read _ (c .before .before .before .before .before .before .before .before .before .before .before .before .before .before .if1 .left) _ _ _ (h .value) (h .behind) _ (r .value _ (names-count _ _ _));
+        table = r .table;
+        some-sample = h .not-none;
+        few-samples = h .few;
+        few-sites = r .few;
+        names-rest = h .rest;
+        rows-rest = r .rest;
+      },
+    )
 
 pub read-fitting-spec : {M : Type 1} → statement M
 read-fitting-spec =

@@ -53,9 +53,10 @@ same-length-2 c = (c .before .before .before .before .before .before .before .be
 
 returns-2 : tie.Need-returns-2 Inv-loop μ-loop
 unfolding SiteRead
-returns-2 c = let to = (rw (c .before .before .group2 .given .1) at (c .before .before .before .before .before .before .site-at .ensures)) .0 in
-    (no-row-answer _ _ _ _ _ _ _ (c .before .before .before .before .before .before .before .before .before .before .loop .inv .0) (c .before .before .before .before .before .before .before .before .before .loop-test .taken) _ _ _ _ to (omega (arith, (c .if1 .taken))),
-    no-row _ _ _ _ _ _ _ (c .before .before .before .before .before .before .before .before .before .before .loop .inv .0) (c .before .before .before .before .before .before .before .before .before .loop-test .taken) (to .value) (omega (arith, (c .if1 .taken))))
+returns-2 c = let to = (rw (c .before .before .group2 .given .1) at (c .before .before .before .before .before .before .site-at .ensures)) .0 in (
+  no-row-answer _ _ _ _ _ _ _ (c .before .before .before .before .before .before .before .before .before .before .loop .inv .0) (c .before .before .before .before .before .before .before .before .before .loop-test .taken) _ _ _ _ to (omega (arith, (c .if1 .taken))),
+  no-row _ _ _ _ _ _ _ (c .before .before .before .before .before .before .before .before .before .before .loop .inv .0) (c .before .before .before .before .before .before .before .before .before .loop-test .taken) (to .value) (omega (arith, (c .if1 .taken))),
+)
 
 part-requires : tie.Need-part-requires Inv-loop μ-loop
 part-requires c κs = search needs
