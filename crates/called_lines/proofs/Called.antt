@@ -26,7 +26,7 @@ use Rattle.laws.proofs.Fields.{fields-cons}
 use Rattle.laws.proofs.Tests.{both-of}
 use Rattle.record_lines.proofs.Head.{contigLine, posLine, refLine}
 use Rattle.tables.specs.Tables.{alleleSpelled, refAltsSpelled}
-use Rattle.called_lines.specs.Rows.{CalledRecordFits, Entries, SamplesPrintable, altLine, calledHead, calledSample, calledSamples, rowData, rowRecord}
+use Rattle.called_lines.specs.Rows.{CalledHeadFits, CalledRecordFits, Entries, SamplesPrintable, altLine, calledHead, calledSample, calledSamples, rowData, rowRecord}
 
 -- ---- the lines before the samples'
 
@@ -134,8 +134,11 @@ module _ (s contig : List ℕ) (pos : ℕ) (ref alts rows : List ℕ) (samples :
       fits-both : at + length (calledHead contig pos ref alts ++ calledSamples s alleles x rows samples) < 2 ^ 64
       fits-both = rw (called-printed (pre .count) number) at (pre .fits)
 
-      pub head-fits : at + length (calledHead contig pos ref alts) < 2 ^ 64
-      head-fits = fits-first at (calledHead contig pos ref alts) (calledSamples s alleles x rows samples) fits-both
+      pub head-fits : CalledHeadFits contig pos ref alts at
+      head-fits = record {
+        position = pre .position;
+        fits = fits-first at (calledHead contig pos ref alts) (calledSamples s alleles x rows samples) fits-both;
+      }
 
       pub samples-printable : {d d′ : List ℕ} {at′ : ℕ} → Laid d at (calledHead contig pos ref alts) d′ at′
           → SamplesPrintable s alleles x rows samples at′

@@ -185,6 +185,7 @@ module _ {s contig : List ℕ} {pos : ℕ} {ref alts rows : List ℕ} {samples :
   called-fits sound few count room =
       let n = rw (same .sameAlleles, alleles-count ref alts) at count in
       record {
+        position = rw (← same .samePos) (sound .in-range);
         count = n;
         few = omega (arith, count, sound .alleles .at-most);
         counts = counts sound;

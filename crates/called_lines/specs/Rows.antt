@@ -12,7 +12,7 @@ use Rattle.definitions.specs.Genotypes.{SampleData}
 use Rattle.definitions.specs.Lines.{line}
 use Rattle.definitions.specs.ListReader.{countsFit}
 use Rattle.definitions.specs.Lists.{allOf, filterBy, numbersFrom}
-use Rattle.definitions.specs.Numbers.{decimal}
+use Rattle.definitions.specs.Numbers.{decimal, maxNumber}
 use Rattle.definitions.specs.Printed.{printedValues}
 use Rattle.definitions.specs.Records.{Record}
 use Rattle.laws.proofs.Every.{Every, IfThere}
@@ -99,8 +99,14 @@ pub record SamplesPrintable (s : List ℕ) (n x : ℕ) (rows : List ℕ) (sample
   pub entries : Every (λ sample. Entries n (rowData s rows sample)) (numbersFrom 0 samples)
   pub fits : at + length (calledSamples s n x rows samples) < 2 ^ 64
 
--- what `put_called_record` asks: at most 16 alleles, PL and AD of each sample with an entry for each genotype and allele, and that the offset behind the lines fits a usize; a sound record of at most 64 samples does (`called-fits` of proofs/SoundCalled.antt)
+-- what `put_called_head` asks: that the position is a number of a text, and that the offset behind the lines fits a usize
+pub record CalledHeadFits (contig : List ℕ) (pos : ℕ) (ref alts : List ℕ) (at : ℕ) : Type 0 where
+  pub position : pos ≤ maxNumber
+  pub fits : at + length (calledHead contig pos ref alts) < 2 ^ 64
+
+-- what `put_called_record` asks: a position that is a number of a text, at most 16 alleles, PL and AD of each sample with an entry for each genotype and allele, and that the offset behind the lines fits a usize; a sound record of at most 64 samples does (`called-fits` of proofs/SoundCalled.antt)
 pub record CalledRecordFits (s contig : List ℕ) (pos : ℕ) (ref alts : List ℕ) (alleles : ℕ) (rows : List ℕ) (samples at : ℕ) : Type 0 where
+  pub position : pos ≤ maxNumber
   pub count : alleles ≡ suc (length (fieldsOf comma alts))
   pub few : alleles ≤ 16
   pub counts : allOf (countsFit (refAltsSpelled ref alts)) (map (rowData s rows) (numbersFrom 0 samples)) ≡ true

@@ -16,8 +16,10 @@ ghost use Rattle.kv_write.specs.Laid.{Laid};
 ghost use Rattle.kv_write.specs.Optional.{optionOf};
 ghost use Rattle.tables.specs.Tables.{refAltsSpelled};
 ghost use Rattle.called_lines.specs.SampleValues.{CalledPrintable, calledValues, ownValues};
-ghost use Rattle.called_lines.specs.Rows.{CalledRecordFits, SamplePrintable, SamplesPrintable, altBehind, altLine, calledAlts, calledHead, calledSample, calledSamples, rowRecord};
+ghost use Rattle.called_lines.specs.Rows.{CalledHeadFits, CalledRecordFits, SamplePrintable, SamplesPrintable, altBehind, altLine, calledAlts, calledHead, calledSample, calledSamples, rowRecord};
 use bio_ids::AlleleIndex;
+use bio_ids::GenomePosition;
+use bio_ids::SampleIndex;
 use kv_write::OptionalNumber;
 
 // ---- the lines of a sample
@@ -49,7 +51,8 @@ fn put_called_values(out: &mut [u8], at: usize, dp: OptionalNumber, ad: &[u32], 
     kv_write::put_optional_numbers_line(out, behind_ad, b"pl=", 0 < pl.len(), pl)
 }
 
-// Lays the lines of a sample by its own DP, AD and PL over all alleles; an empty AD or PL is missing.
+// Lays the lines of a sample by its own DP, AD and PL over all alleles; an empty AD or PL is missing. Asks that the dropped allele is
+// one of 2 to 16, that AD is missing or has a number for each allele, and that the offset behind the lines fits a usize.
 pub fn put_called_data(
     out: &mut [u8],
     at: usize,
@@ -123,7 +126,7 @@ fn any_laid(others: bool, dropped: bool) -> bool
 }
 
 // Lays the ALTs, given with commas, without `<NON_REF>`.
-fn put_alts(out: &mut [u8], at: usize, alts: &[u8]) -> usize
+fn alleles_without_non_ref(out: &mut [u8], at: usize, alts: &[u8]) -> usize
     requires { ⌜ at + length (calledAlts (now alts)) < 2 ^ 64 ⌝ }
     ensures { λ r. ⌜ Laid (now (out .entry)) at (calledAlts (now (alts .entry))) (now (out .exit)) r ⌝ }
 {
@@ -142,34 +145,36 @@ fn put_alts(out: &mut [u8], at: usize, alts: &[u8]) -> usize
     }
 }
 
-// Lays the `alt` line without `<NON_REF>`.
+// Lays the `alt` line without `<NON_REF>`. Asks that the offset behind it fits a usize.
 pub fn put_called_alts(out: &mut [u8], at: usize, alts: &[u8]) -> usize
     requires { ⌜ at + length (altLine (now alts)) < 2 ^ 64 ⌝ }
     ensures { λ r. ⌜ Laid (now (out .entry)) at (altLine (now (alts .entry))) (now (out .exit)) r ⌝ }
 {
     let behind_key = kv_write::put_bytes(out, at, b"alt=");
-    let behind_alts = put_alts(out, behind_key, alts);
+    let behind_alts = alleles_without_non_ref(out, behind_key, alts);
     kv_write::put_byte(out, behind_alts, b'\n')
 }
 
 // ---- a record
 
-// Lays the lines before the samples'.
+// Lays the lines before the samples'. Asks that the position is a number of a text, at most 2147483647, and that the offset behind the
+// lines fits a usize.
 pub fn put_called_head(
     out: &mut [u8],
     at: usize,
     contig: &[u8],
-    pos: u32,
+    pos: GenomePosition,
     reference: &[u8],
     alts: &[u8],
 ) -> usize
-    requires { ⌜ at + length (calledHead (now contig) pos (now reference) (now alts)) < 2 ^ 64 ⌝ }
+    requires { ⌜ CalledHeadFits (now contig) (pos .0) (now reference) (now alts) at ⌝ }
     ensures { λ r. ⌜ Laid (now (out .entry)) at
-        (calledHead (now (contig .entry)) pos (now (reference .entry)) (now (alts .entry)))
+        (calledHead (now (contig .entry)) (pos .0) (now (reference .entry)) (now (alts .entry)))
         (now (out .exit)) r ⌝ }
 {
+    let number = pos.get() as u32;
     let behind_contig = kv_write::put_line(out, at, b"contig=", contig);
-    let behind_pos = kv_write::put_number_line(out, behind_contig, b"pos=", pos);
+    let behind_pos = kv_write::put_number_line(out, behind_contig, b"pos=", number);
     let behind_ref = kv_write::put_line(out, behind_pos, b"ref=", reference);
     put_called_alts(out, behind_ref, alts)
 }
@@ -180,25 +185,26 @@ fn put_called_sample(
     alleles: usize,
     dropped: AlleleIndex,
     rows: &[usize],
-    sample: usize,
+    sample: SampleIndex,
     out: &mut [u8],
     at: usize,
 ) -> usize
-    requires { ⌜ SamplePrintable (now s) alleles (dropped .0) (now rows) sample at ⌝ }
+    requires { ⌜ SamplePrintable (now s) alleles (dropped .0) (now rows) (sample .0) at ⌝ }
     ensures { λ r. ⌜ Laid (now (out .entry)) at
-        (calledSample (now (s .entry)) alleles (dropped .0) (now (rows .entry)) sample)
+        (calledSample (now (s .entry)) alleles (dropped .0) (now (rows .entry)) (sample .0))
         (now (out .exit)) r ⌝ }
 {
+    let row = sample.get();
     let mut ad = [0u32; 16];
-    let ad_count = tables::ad_of(s, rows, sample, &mut ad);
+    let ad_count = tables::ad_of(s, rows, row, &mut ad);
     let mut pl = [0u32; 136];
-    let pl_count = tables::pl_of(s, rows, sample, &mut pl);
+    let pl_count = tables::pl_of(s, rows, row, &mut pl);
     put_called_data(
         out,
         at,
         alleles,
         dropped,
-        tables::dp_of(rows, sample),
+        tables::dp_of(rows, row),
         &ad[..ad_count],
         &pl[..pl_count],
     )
@@ -221,17 +227,20 @@ fn put_called_samples(
 {
     let mut next = at;
     for sample in 0..samples {
-        next = put_called_sample(s, alleles, dropped, rows, sample, out, next);
+        let index = SampleIndex::new(sample);
+        next = put_called_sample(s, alleles, dropped, rows, index, out, next);
     }
     next
 }
 
 // Lays a called record: the record with these alleles, `alleles` of them, whose samples' data are in the first rows of the table.
-// `called-is` and `called-fits` of proofs/SoundCalled.antt are for a caller that has read such a record.
+// Asks that there are at most 16 alleles, that AD and PL of each sample are missing or have a number for each allele and genotype, that
+// the position is a number of a text, and that the offset behind the lines fits a usize: a record that was read has all this
+// (`called-fits` of proofs/SoundCalled.antt; `called-is` says that it is this one).
 pub fn put_called_record(
     s: &[u8],
     contig: &[u8],
-    pos: u32,
+    pos: GenomePosition,
     reference: &[u8],
     alts: &[u8],
     alleles: usize,
@@ -240,10 +249,10 @@ pub fn put_called_record(
     out: &mut [u8],
     at: usize,
 ) -> usize
-    requires { ⌜ CalledRecordFits (now s) (now contig) pos (now reference) (now alts) alleles (now rows) samples at ⌝ }
+    requires { ⌜ CalledRecordFits (now s) (now contig) (pos .0) (now reference) (now alts) alleles (now rows) samples at ⌝ }
     ensures { λ r. ⌜ Laid (now (out .entry)) at
         (printedCalledRecord (calledRecord
-        (rowRecord (now (s .entry)) (now (contig .entry)) pos (now (reference .entry)) (now (alts .entry)) (now (rows .entry)) samples)))
+        (rowRecord (now (s .entry)) (now (contig .entry)) (pos .0) (now (reference .entry)) (now (alts .entry)) (now (rows .entry)) samples)))
         (now (out .exit)) r ⌝ }
 {
     let dropped = non_ref_number(alts);

@@ -1,3 +1,4 @@
+pub mod FirstGroups
 pub mod Contigs
 pub mod Numbers
 pub mod Rows

@@ -58,7 +58,7 @@ module _ {samples : ℕ} {s : List ℕ} {at₀ : ℕ} {rows₀ rows : List ℕ} 
     few = inv .few;
     room = inv .room;
     rest = same .rest ∙ inv .rest;
-    whole = λ names n. rw sites (inv .whole names n);
+    whole = λ names n m. rw sites (inv .whole names n m);
   }
     where
       part : (site : ℕ) → partAt 7 8 s after site ≡ partAt 7 8 s rows site

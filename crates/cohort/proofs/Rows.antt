@@ -32,10 +32,10 @@ use Rattle.cohort.specs.Cohort.{ContigsNumbered, contigNames, firstOn, r
 -- ---- indexWhere
 
 module _ {A : Type 0} (p : A → Bool) where
-  index-kept : (l r : List A) (i : ℕ) → indexWhere p l ≡ some i → indexWhere p (l ++ r) ≡ some i
+  index-in-front : (l r : List A) (i : ℕ) → indexWhere p l ≡ some i → indexWhere p (l ++ r) ≡ some i
   unfolding indexWhere
-  index-kept [] r i e = not-none e
-  index-kept (x ∷ l) r i e = go (p x) (indexWhere p l) (indexWhere p (l ++ r)) (λ k. index-kept l r k) refl e
+  index-in-front [] r i e = not-none e
+  index-in-front (x ∷ l) r i e = go (p x) (indexWhere p l) (indexWhere p (l ++ r)) (λ k. index-in-front l r k) refl e
     where
       go : (b : Bool) (o u : Option ℕ) → ((k : ℕ) → indexWhere p l ≡ some k → u ≡ some k) → indexWhere p l ≡ o
           → cond b (some 0) (Option·map suc o) ≡ some i → cond b (some 0) (Option·map suc u) ≡ some i
@@ -68,14 +68,14 @@ module _ (rows row : List ℕ) (count : ℕ) (whole : length row ≡ 22) (room :
   unfolding column
   column-here k h = get-here row rows (count * 22) k (omega arith) (omega arith)
 
-  rest-kept : drop ((count + 1) * 22) stored ≡ drop ((count + 1) * 22) rows
-  rest-kept = drop-sets row rows (count * 22) ((count + 1) * 22) (omega arith)
+  rest-same : drop ((count + 1) * 22) stored ≡ drop ((count + 1) * 22) rows
+  rest-same = drop-sets row rows (count * 22) ((count + 1) * 22) (omega arith)
 
   -- behind the rows the table stays as it was
   pub rest-more : (rows₀ : List ℕ) → drop (count * 22) rows ≡ drop (count * 22) rows₀ → drop ((count + 1) * 22) stored ≡ drop ((count + 1) * 22) rows₀
   rest-more rows₀ e =
       let there : (count + 1) * 22 ≡ count * 22 + 22 = omega arith in
-      rest-kept ∙ rw there (sym (drop-drop 22 (count * 22) rows) ∙ ap (drop 22) e ∙ drop-drop 22 (count * 22) rows₀)
+      rest-same ∙ rw there (sym (drop-drop 22 (count * 22) rows) ∙ ap (drop 22) e ∙ drop-drop 22 (count * 22) rows₀)
 
   part-before : (s : List ℕ) (from to site : ℕ) → from < 22 → to < 22 → site < count → partAt from to s stored site ≡ partAt from to s rows site
   unfolding partAt
@@ -172,7 +172,7 @@ module _ (s rows : List ℕ) (count : ℕ) (p : SitePlace) (contig : ℕ) (a : S
             ∙ rw (here 1 (omega arith), part-here 7 8 (omega arith) (omega arith), names-length s rows count, first) (unfold firstOn in refl))
         go (no q) =
             let b : site < count = omega arith in
-            index-kept (sameBytes (partAt 7 8 s after site)) (contigNames s rows count) _ (column 1 after site)
+            index-in-front (sameBytes (partAt 7 8 s after site)) (contigNames s rows count) _ (column 1 after site)
             (rw (part-before rows row count refl room s 7 8 site (omega arith) (omega arith) b, column-before rows row count refl room 1 site (omega arith) b)
             (numbered .contigs site b))
 

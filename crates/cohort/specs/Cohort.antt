@@ -1,6 +1,7 @@
 -- What reading cohort.kv into tables finds.
-use Prim.Native.Nat.{_*_, _<_, _≤_, ℕ}
-use lib.ListN.{drop, length}
+use Prim.Native.Nat.{_*_, _/_, _<_, _≤_, suc, ℕ}
+use lib.Dec.{leb, ltb}
+use lib.ListN.{drop, length, take}
 use mathlib.Core.Bool.{Bool, cond}
 use mathlib.Core.List.{List, [], _∷_, map}
 use mathlib.Core.Logic.{_⊎_}
@@ -8,8 +9,8 @@ use mathlib.Core.Option.{Option·getD, some}
 use mathlib.Core.Path.{_≡_}
 use Rattle.definitions.specs.Answers.{scratchAfter}
 use Rattle.definitions.specs.Bytes.{sameBytes}
-use Rattle.definitions.specs.Checked.{Checked, _>>_, accepted, readEach, refused, require}
-use Rattle.definitions.specs.Cohort.{Cohort, Site, cohortOf, siteLines, siteOf}
+use Rattle.definitions.specs.Checked.{Checked, _>>=_, _>>_, accepted, readEach, refused, require}
+use Rattle.definitions.specs.Cohort.{Cohort, Site, cohortOf, samplesOf, siteLines, siteOf}
 use Rattle.definitions.specs.CombinedList.{fits}
 use Rattle.definitions.specs.Limits.{maxSamples, maxSites}
 use Rattle.definitions.specs.Lines.{linesOf}
@@ -28,7 +29,7 @@ use Rattle.cohort.specs.declared.SitesAt.the-variants as sites
 -- the numbers of a site's row, in the order of the table's columns; AD and PL stand in the text
 abbrev pub rowOf : SitePlace → ℕ → SiteAlleles → SiteValues → Bool → List ℕ
 rowOf p contig a v block =
-    p .sample ∷ contig ∷ p .start ∷ p .end ∷ cond block 1 0 ∷ v .gq ∷ v .dp
+    p .sample .0 ∷ contig ∷ p .start .0 ∷ p .end .0 ∷ cond block 1 0 ∷ v .gq ∷ v .dp
     ∷ p .contig .at ∷ p .contig .end ∷ a .refs .at ∷ a .refs .end ∷ a .alts .at ∷ a .alts .end
     ∷ 0 ∷ v .ad .at ∷ v .ad .end ∷ 0 ∷ v .pl .at ∷ v .pl .end ∷ 0 ∷ 0 ∷ 0 ∷ []
 
@@ -49,6 +50,10 @@ ContigsNumbered s rows count = (site : ℕ) → site < count
 
 -- ---- all sites
 
+-- how many sites a table of so many numbers has rows for
+abbrev pub rowsIn : ℕ → ℕ
+rowsIn numbers = numbers / rowLength
+
 -- the sites of the first `count` rows
 unfoldable pub sitesIn : List ℕ → List ℕ → ℕ → List Site
 sitesIn s rows count = map (siteAt s rows) (numbersFrom 0 count)
@@ -56,6 +61,20 @@ sitesIn s rows count = map (siteAt s rows) (numbersFrom 0 count)
 -- what the site groups from an offset on read as, with these names
 unfoldable pub sitesFrom : List (List ℕ) → List ℕ → ℕ → Checked (List Site)
 sitesFrom names s at = readEach (siteOf names) [] (groupsOf siteLines (linesOf (drop at s)))
+
+-- the same of so many groups, the first
+unfoldable pub firstSites : ℕ → List (List ℕ) → List ℕ → ℕ → Checked (List Site)
+firstSites groups names s at = readEach (siteOf names) [] (take groups (groupsOf siteLines (linesOf (drop at s))))
+
+-- the answer where there are rows for `room` sites, by what the first groups, one more than there are rows for, read as
+unfoldable pub sitesAnswer : ℕ → Checked (List Site) → SitesAt
+sitesAnswer room (refused row) = sites.Refused row
+sitesAnswer room (accepted read) = cond (leb (length read) room) (sites.Sites (length read)) sites.NoRoom
+
+-- the answer, whatever the names of so many samples, from a table of so many numbers
+abbrev pub SitesAnswered : ℕ → List ℕ → ℕ → ℕ → SitesAt → Type 0
+SitesAnswered samples s at numbers r = (names : List (List ℕ)) → samples ≡ length names
+    → r ≡ sitesAnswer (rowsIn numbers) (firstSites (suc (rowsIn numbers)) names s at)
 
 -- the table has the sites, whatever the names of so many samples, there is room for their rows, and behind them it is as it was
 pub record SitesTo (samples : ℕ) (s : List ℕ) (at : ℕ) (rows₀ rows : List ℕ) (count : ℕ) : Type 0 where
@@ -75,6 +94,25 @@ SitesRead samples s at rows₀ rows sites.NoRoom = length rows₀ < maxSites * r
 -- a text that is too long is refused with 2 before all
 unfoldable pub fittingCohort : List ℕ → Checked Cohort
 fittingCohort s = require 2 (fits s) >> cohortOf s
+
+-- the same of the header and so many site groups, the first
+unfoldable pub cohortFront : ℕ → List ℕ → Checked Cohort
+cohortFront groups s = do
+  require 2 (fits s)
+  names ← samplesOf (linesOf s)
+  sites ← readEach (siteOf names) [] (take groups (groupsOf siteLines (drop (suc (length names)) (linesOf s))))
+  accepted (record { names = names; sites = sites })
+
+-- the answer where there are rows for `room` sites, by what the header and the first site groups, one more than there are rows for, read as
+unfoldable pub frontAnswer : ℕ → Checked Cohort → CohortRead
+frontAnswer room (refused row) = cohort.Refused row
+frontAnswer room (accepted c) = cond (leb (length (c .sites)) room) (cohort.Cohort (length (c .names)) (length (c .sites))) cohort.NoRoom
+
+-- the answer for a text, from tables of so many numbers for names and for rows: no room if the names' table has fewer than 128, or for the
+-- first site that reads and has no row; a row refuses the text if the header or a site group up to that site is faulty
+unfoldable pub cohortAnswer : ℕ → ℕ → List ℕ → CohortRead
+cohortAnswer names rows s =
+    cond (ltb names (2 * maxSamples)) cohort.NoRoom (frontAnswer (rowsIn rows) (cohortFront (suc (rowsIn rows)) s))
 
 -- there is room for the names and for the rows of so many sites
 pub record Room (names rows : List ℕ) (count : ℕ) : Type 0 where

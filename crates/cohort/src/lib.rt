@@ -1,7 +1,7 @@
 // cohort.kv as tables: the names, and a row of numbers for each site.
 ghost use mathlib.Core.Bool.{_&&_, cond};
 ghost use mathlib.Core.Path.{_≡_};
-ghost use Prim.Native.Nat.{_*_, _+_, _≤_};
+ghost use Prim.Native.Nat.{_*_, _+_, _≤_, suc};
 ghost use lib.Dec.{eqb};
 ghost use lib.ListN.{length};
 ghost use lib.Seq.{sets};
@@ -9,7 +9,7 @@ ghost use Rattle.definitions.specs.Answers.{scratchAfter};
 ghost use Rattle.definitions.specs.Bytes.{sameBytes};
 ghost use Rattle.definitions.specs.Limits.{maxSamples};
 ghost use Rattle.tables.specs.Tables.{column, partAt, withNumbers};
-ghost use Rattle.cohort.specs.Cohort.{CohortAt, CohortFitting, ContigsNumbered, SitesRead, firstOn, rowOf};
+ghost use Rattle.cohort.specs.Cohort.{CohortAt, CohortFitting, ContigsNumbered, SitesAnswered, SitesRead, cohortAnswer, cohortFront, firstOn, frontAnswer, rowOf, rowsIn};
 use sample_names::HeaderRead;
 use site_groups::SiteAlleles;
 use site_groups::SiteAt;
@@ -22,7 +22,7 @@ fn flag(b: bool) -> usize
     if b { 1 } else { 0 }
 }
 
-// Stores a site's row; where the text has AD and PL, not their numbers.
+// Stores a site's row; where the text has AD and PL, not their numbers. Asks that the row lies in the table.
 pub fn put_site(
     rows: &mut [usize],
     site: usize,
@@ -36,10 +36,10 @@ pub fn put_site(
     ensures { λ _. ⌜ now (rows .exit) ≡ sets (now (rows .entry)) (site * 22) (rowOf place contig alleles values block) ⌝ }
 {
     let row = [
-        place.sample as usize,
+        place.sample.get(),
         contig,
-        place.start as usize,
-        place.end as usize,
+        place.start.get() as usize,
+        place.end.get() as usize,
         flag(block),
         values.gq as usize,
         values.dp as usize,
@@ -106,7 +106,8 @@ pub enum SitesAt {
 
 // The site groups from an offset on, of a cohort with so many samples: a row for each, from the first row on.
 fn read_sites(s: &[u8], at: usize, samples: usize, rows: &mut [usize]) -> SitesAt
-    ensures { λ r. ⌜ SitesRead samples (now (s .entry)) at (now (rows .entry)) (now (rows .exit)) r ⌝ }
+    ensures answer { λ r. ⌜ SitesAnswered samples (now (s .entry)) at (length (now (rows .entry))) r ⌝ }
+    ensures table { λ r. ⌜ SitesRead samples (now (s .entry)) at (now (rows .entry)) (now (rows .exit)) r ⌝ }
 {
     let mut ad = [0u32; 4];
     let mut pl = [0u32; 10];
@@ -144,7 +145,8 @@ pub enum CohortRead {
 // The same where there is room for the names; what stands in the tables after a refusal, or where the sites have no room, is open.
 fn read_fitting(s: &[u8], names: &mut [usize], rows: &mut [usize]) -> CohortRead
     requires { ⌜ 2 * maxSamples ≤ length (now names) ⌝ }
-    ensures { λ r. ⌜ CohortFitting (now (s .entry)) (now (names .entry)) (now (names .exit)) (now (rows .entry)) (now (rows .exit)) r ⌝ }
+    ensures answer { λ r. ⌜ r ≡ frontAnswer (rowsIn (length (now (rows .entry)))) (cohortFront (suc (rowsIn (length (now (rows .entry))))) (now (s .entry))) ⌝ }
+    ensures tables { λ r. ⌜ CohortFitting (now (s .entry)) (now (names .entry)) (now (names .exit)) (now (rows .entry)) (now (rows .exit)) r ⌝ }
 {
     if 16777216 < s.len() {
         return CohortRead::Refused(2);
@@ -173,9 +175,10 @@ fn clear_tables(names: &mut [usize], rows: &mut [usize])
 }
 
 // Reads cohort.kv, rows 1 to 8, into the two tables: 128 numbers for names, two each, and 22 numbers for each site, 4,096 at most. If a
-// table is too short, or a row refuses the text, both are cleared.
+// table is too short, or a row refuses the text, both are cleared. The answer is the same for all tables of these lengths.
 pub fn read_cohort(s: &[u8], names: &mut [usize], rows: &mut [usize]) -> CohortRead
-    ensures { λ r. ⌜ CohortAt (now (s .entry)) (now (names .entry)) (now (names .exit)) (now (rows .entry)) (now (rows .exit)) r ⌝ }
+    ensures answer { λ r. ⌜ r ≡ cohortAnswer (length (now (names .entry))) (length (now (rows .entry))) (now (s .entry)) ⌝ }
+    ensures tables { λ r. ⌜ CohortAt (now (s .entry)) (now (names .entry)) (now (names .exit)) (now (rows .entry)) (now (rows .exit)) r ⌝ }
 {
     if names.len() < 128 {
         clear_tables(names, rows);

@@ -63,17 +63,17 @@ module _ {s : List ℕ} {p : RecordPlace} {rows : List ℕ} {samples : ℕ} {out
   }
 
   -- it is called: what laying it asks
-  same-rows : RecordRows s (bytesOf s (p .contig)) (p .pos) (bytesOf s (p .alleles .refs)) (bytesOf s (p .alleles .alts)) rows samples new
+  same-rows : RecordRows s (bytesOf s (p .contig)) (p .pos .0) (bytesOf s (p .alleles .refs)) (bytesOf s (p .alleles .alts)) rows samples new
   unfolding withoutGt sampleAt rowData
   same-rows = record { sameContig = refl; samePos = refl; sameAlleles = refl; sameData = unfold called.withoutGt in ready .table }
 
-  pub record-fits : CalledRecordFits s (bytesOf s (p .contig)) (p .pos) (bytesOf s (p .alleles .refs)) (bytesOf s (p .alleles .alts)) (p .count) rows samples at
+  pub record-fits : CalledRecordFits s (bytesOf s (p .contig)) (p .pos .0) (bytesOf s (p .alleles .refs)) (bytesOf s (p .alleles .alts)) (p .count) rows samples at
   unfolding allelesOf
   record-fits = called-fits same-rows (ready .sound) (ready .few) (ready .alleles ∙ ap suc (sym alts-count)) (measured-fits (ready .laid .measured) _ (omega arith))
 
   -- and it is laid
   pub laid-one : {out′ : List ℕ} {end : ℕ} → isCalled new ≡ true
-      → Laid out at (printedCalledRecord (calledRecord (rowRecord s (bytesOf s (p .contig)) (p .pos) (bytesOf s (p .alleles .refs)) (bytesOf s (p .alleles .alts)) rows samples))) out′ end
+      → Laid out at (printedCalledRecord (calledRecord (rowRecord s (bytesOf s (p .contig)) (p .pos .0) (bytesOf s (p .alleles .refs)) (bytesOf s (p .alleles .alts)) rows samples))) out′ end
       → CalledLaid (ready .d₀) (ready .bytes) (readWith ready) out′ (min limit end) (min mostCount (count + 1))
   unfolding flatMap
   laid-one e l = record {

@@ -6,6 +6,7 @@ use mathlib.Core.List.{List, [], _++_, _∷_, append-nil, flatMap, reverse, reve
 use mathlib.Core.Option.{Option·getD}
 use mathlib.Core.Path.{_∙_, _≡_, ap, refl, sym}
 use native.Mathlib.Omega.{arith}
+use Rattle.bio_ids.specs.declared.GenomePosition.{GenomePosition}
 use Rattle.definitions.specs.CalledList.{calledRecords}
 use Rattle.definitions.specs.Checked.{Checked, accepted, readEach, refused}
 use Rattle.definitions.specs.Lines.{linesOf}
@@ -17,11 +18,10 @@ use Rattle.laws.proofs.Checked.{not-required}
 use Rattle.laws.proofs.Lines.{lines-end}
 use Rattle.laws.proofs.SoundList.{record-sound}
 use Rattle.list_header.proofs.TwoPasses.{counted-none}
-use Rattle.list_reader.specs.RecordGroups.{PreviousOf, RecordTo, RefusedBy, groupLines, recordFrom, recordGroup}
+use Rattle.list_reader.specs.RecordGroups.{PreviousOf, RecordTo, RefusedBy, endOption, groupLines, recordFrom, recordGroup}
 use Rattle.list_reader.specs.declared.Previous.the-variants as previous
 use Rattle.list_reader.specs.declared.Previous.{Previous}
 use Rattle.list_reader.specs.declared.RecordPlace.{RecordPlace}
-use Rattle.tables.specs.Tables.{codeOption}
 use Rattle.genotype_gvcfs.proofs.MissingGroups.{all-accepted, all-ended, all-refused, more-refused, some-lines}
 use Rattle.genotype_gvcfs.specs.Walk.{CalledLaid, LayReady, RecordsWalked, WalkReady, readWith, recordsFrom}
 use Rattle.genotype_gvcfs.specs.declared.Walked.the-variants as walked
@@ -126,9 +126,9 @@ module _ (s : List ℕ) (at₀ samples records : ℕ) where
             laid = g .laid;
           }
 
-          pub going-next : {out′ : List ℕ} {end′ count′ last-position : ℕ} → last-position ≡ Option·getD (codeOption (p .end)) (p .pos)
+          pub going-next : {out′ : List ℕ} {end′ count′ : ℕ} {last : GenomePosition} → last .0 ≡ Option·getD (endOption (p .end)) (p .pos .0)
               → ((l : LayReady s p rows samples out end count) → CalledLaid (l .d₀) (l .bytes) (readWith l) out′ end′ count′)
-              → Going out′ (p .next) (read + 1) (previous.Last (p .contig) last-position) end′ count′
+              → Going out′ (p .next) (read + 1) (previous.Last (p .contig) last) end′ count′
           unfolding PreviousOf lay-ready recordEnd
           going-next last-is lays = record {
             done = g .done ++ (new ∷ []);

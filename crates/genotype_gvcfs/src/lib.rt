@@ -11,11 +11,13 @@ ghost use Rattle.definitions.specs.CalledList.{calledList};
 ghost use Rattle.definitions.specs.Checked.{within};
 ghost use Rattle.list_header.specs.HeaderNames.{HeaderNames};
 ghost use Rattle.list_header.specs.Measured.{limit};
-ghost use Rattle.tables.specs.Tables.{codeOption};
+ghost use Rattle.list_reader.specs.RecordGroups.{endOption};
 ghost use Rattle.genotype_gvcfs.specs.Called.{HeaderHeld, Measurement, calledFrom, listTo};
 ghost use Rattle.genotype_gvcfs.specs.Walk.{CalledLaid, LayReady, RecordsWalked, WalkReady, readWith, recordsFrom};
 use answers::Outcome;
+use bio_ids::GenomePosition;
 use kv_text::NumberAt;
+use list_reader::OptionalPosition;
 use list_reader::Previous;
 use list_reader::RecordAt;
 use list_reader::RecordPlace;
@@ -31,13 +33,13 @@ fn is_called(alleles: usize, pl: bool) -> bool
 }
 
 // The last position of a record: END, or POS if END is missing.
-fn last_position(pos: u32, end: u32) -> u32
-    ensures { λ r. ⌜ r ≡ Option·getD (codeOption end) pos ⌝ }
+fn record_end(pos: GenomePosition, end: OptionalPosition) -> GenomePosition
+    ensures { λ r. ⌜ r .0 ≡ Option·getD (endOption end) (pos .0) ⌝ }
 {
-    if 2147483647 < end {
-        return pos;
+    match end {
+        OptionalPosition::At(last) => last,
+        OptionalPosition::Missing => pos,
     }
-    end
 }
 
 // Where the called list goes on, and how many records it has so far.
@@ -47,7 +49,7 @@ struct Stepped {
 }
 
 // Lays a record that was read into the table, if it is called.
-fn lay_called(
+fn genotype_one_record(
     s: &[u8],
     place: RecordPlace,
     rows: &[usize],
@@ -66,10 +68,11 @@ fn lay_called(
     let contig = tables::part(s, place.contig.at, place.contig.end);
     let reference = tables::part(s, place.alleles.refs.at, place.alleles.refs.end);
     let alts = tables::part(s, place.alleles.alts.at, place.alleles.alts.end);
+    let pos = place.pos;
     let end = called_lines::put_called_record(
         s,
         contig,
-        place.pos,
+        pos,
         reference,
         alts,
         place.count,
@@ -93,7 +96,7 @@ enum Walked {
 }
 
 // Reads so many record groups from an offset on, which must be all that there are, and lays those that are called: rows 1 and 4 to 8.
-fn walk_records(
+fn genotype_gvcf_records(
     s: &[u8],
     at: usize,
     samples: usize,
@@ -118,8 +121,10 @@ fn walk_records(
                 return Walked::Refused(row);
             }
             RecordAt::Record(place) => {
-                let laid = lay_called(s, place, rows, samples, out, end, count);
-                let last = last_position(place.pos, place.end);
+                let laid = genotype_one_record(s, place, rows, samples, out, end, count);
+                let pos = place.pos;
+                let place_end = place.end;
+                let last = record_end(pos, place_end);
                 let contig = place.contig;
                 previous = Previous::Last(contig, last);
                 end = laid.at;
@@ -154,7 +159,7 @@ fn write_list(
         → length (now (out .entry)) ≡ length (listTo m) → now (out .exit) ≡ listTo m) ⌝ }
 {
     let from = list_header::put_header(s, names, samples, count as u32, out);
-    walk_records(s, at, samples, records, rows, out, from);
+    genotype_gvcf_records(s, at, samples, records, rows, out, from);
 }
 
 // Writes the list whose records were measured: row 14 if it has more bytes than there is room for.
@@ -205,7 +210,7 @@ fn call_records(
     ensures { λ r. ⌜ Answered (calledFrom (now (s .entry)) (now (names .entry)) samples records at (length (now (out .entry)))) (now (out .entry)) (now (out .exit)) r ⌝ }
 {
     let mut rows = [0usize; 1408];
-    let measured = walk_records(s, at, samples, records, &mut rows, &mut out[..0], 0);
+    let measured = genotype_gvcf_records(s, at, samples, records, &mut rows, &mut out[..0], 0);
     match measured {
         Walked::Refused(row) => Outcome::Refused(row),
         Walked::To(len, count) => write_measured(

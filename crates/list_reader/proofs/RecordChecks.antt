@@ -19,8 +19,8 @@ use Rattle.definitions.specs.Records.{Record, recordEnd}
 use Rattle.laws.proofs.Checked.{not-required, or-refused, required, then, then-refused}
 use Rattle.laws.proofs.Tests.{bool-ext}
 use Rattle.site_groups.specs.SiteGroups.{bytesOf}
-use Rattle.tables.specs.Tables.{alleleSpelled, codeOption, refAltsSpelled}
-use Rattle.list_reader.specs.RecordGroups.{PreviousOf, Ready, RecordChecked, RecordFound, TextTo, allelesAt, altsAt, comesAfterLast, recordFrom, recordGroup, rightCounts}
+use Rattle.tables.specs.Tables.{alleleSpelled, refAltsSpelled}
+use Rattle.list_reader.specs.RecordGroups.{PreviousOf, Ready, RecordChecked, RecordFound, TextTo, allelesAt, altsAt, comesAfterLast, endOption, recordFrom, recordGroup, rightCounts}
 use Rattle.list_reader.specs.declared.Previous.{Previous}
 use Rattle.list_reader.specs.declared.Previous.the-variants.{Last, None}
 use Rattle.list_reader.specs.declared.RecordAt.the-variants as found
@@ -36,7 +36,7 @@ module _ {s : List ℕ} {h : RecordHead} {last : Previous} {fit : Bool} {at samp
   answer = recordRead samples records before (recordGroup s at samples)
 
   abbrev inPlace : Bool
-  inPlace = leb 1 (h .pos) && missingOr (ltb (h .pos)) (codeOption (h .end)) && comesAfter before (bytesOf s (h .contig)) (h .pos)
+  inPlace = leb 1 (h .pos .0) && missingOr (ltb (h .pos .0)) (endOption (h .end)) && comesAfter before (bytesOf s (h .contig)) (h .pos .0)
 
   -- what is left behind the lines
   abbrev checks : Checked Record
@@ -44,9 +44,9 @@ module _ {s : List ℕ} {h : RecordHead} {last : Previous} {fit : Bool} {at samp
     require 4 inPlace
     alleles ← orRefuse 5 (refAltsOf 255 16 (bytesOf s (h .alleles .refs)) (bytesOf s (h .alleles .alts)))
     require 6 (hasNonRef alleles)
-    require 7 (endAllowed alleles (codeOption (h .end)))
+    require 7 (endAllowed alleles (endOption (h .end)))
     require 8 (allOf (countsFit alleles) sampleData)
-    accepted (record { contig = bytesOf s (h .contig); pos = h .pos; end = codeOption (h .end); alleles = alleles; sampleData = sampleData })
+    accepted (record { contig = bytesOf s (h .contig); pos = h .pos .0; end = endOption (h .end); alleles = alleles; sampleData = sampleData })
 
   past-lines : answer ≡ checks
   unfolding recordRead
@@ -66,10 +66,10 @@ module _ {s : List ℕ} {h : RecordHead} {last : Previous} {fit : Bool} {at samp
       row-6 f = past-lines ∙ required _ _ _ placed (then _ _ (or-refused 5 _ right) (not-required _ _ _ f))
 
       module _ (has : hasNonRef (allelesAt s (h .alleles)) ≡ true) where
-        row-7 : endAllowed (allelesAt s (h .alleles)) (codeOption (h .end)) ≡ false → answer ≡ refused 7
+        row-7 : endAllowed (allelesAt s (h .alleles)) (endOption (h .end)) ≡ false → answer ≡ refused 7
         row-7 f = past-lines ∙ required _ _ _ placed (then _ _ (or-refused 5 _ right) (required _ _ _ has (not-required _ _ _ f)))
 
-        module _ (ends : endAllowed (allelesAt s (h .alleles)) (codeOption (h .end)) ≡ true) where
+        module _ (ends : endAllowed (allelesAt s (h .alleles)) (endOption (h .end)) ≡ true) where
           row-8 : allOf (countsFit (allelesAt s (h .alleles))) sampleData ≡ false → answer ≡ refused 8
           row-8 f = past-lines ∙ required _ _ _ placed (then _ _ (or-refused 5 _ right) (required _ _ _ has (required _ _ _ ends (not-required _ _ _ f))))
 
@@ -114,26 +114,26 @@ all-same p q e (x ∷ l) = rw (e x, all-same p q e l)
 -- ---- the tests of the code, one after the other
 
 module _ (s : List ℕ) (h : RecordHead) (last : Previous) (fit : Bool) where
-  pub position-0 : h .pos < 1 → RecordChecked s h last fit (check.Refused 4)
+  pub position-0 : h .pos .0 < 1 → RecordChecked s h last fit (check.Refused 4)
   unfolding RecordChecked
-  position-0 l at samples records before sampleData r = row-4 r (rw (lt-leb 1 (h .pos) l))
+  position-0 l at samples records before sampleData r = row-4 r (rw (lt-leb 1 (h .pos .0) l))
 
-  module _ (positive : 1 ≤ h .pos) where
-    pub end-not-past : missingOr (ltb (h .pos)) (codeOption (h .end)) ≡ false → RecordChecked s h last fit (check.Refused 4)
+  module _ (positive : 1 ≤ h .pos .0) where
+    pub end-not-past : missingOr (ltb (h .pos .0)) (endOption (h .end)) ≡ false → RecordChecked s h last fit (check.Refused 4)
     unfolding RecordChecked
-    end-not-past f at samples records before sampleData r = row-4 r (rw (le-leb 1 (h .pos) positive, f))
+    end-not-past f at samples records before sampleData r = row-4 r (rw (le-leb 1 (h .pos .0) positive, f))
 
-    module _ (past : missingOr (ltb (h .pos)) (codeOption (h .end)) ≡ true) where
-      order : (b : Bool) → comesAfterLast s last (bytesOf s (h .contig)) (h .pos) ≡ b → {at samples records : ℕ} {before : List Record}
+    module _ (past : missingOr (ltb (h .pos .0)) (endOption (h .end)) ≡ true) where
+      order : (b : Bool) → comesAfterLast s last (bytesOf s (h .contig)) (h .pos .0) ≡ b → {at samples records : ℕ} {before : List Record}
           {sampleData : List SampleData} → (r : Ready s h last fit at samples records before sampleData) → inPlace r ≡ b
       order b f {before = before} r =
-          rw (le-leb 1 (h .pos) positive, past, came-after s before last (bytesOf s (h .contig)) (h .pos) (r .previous)) f
+          rw (le-leb 1 (h .pos .0) positive, past, came-after s before last (bytesOf s (h .contig)) (h .pos .0) (r .previous)) f
 
-      pub too-early : comesAfterLast s last (bytesOf s (h .contig)) (h .pos) ≡ false → RecordChecked s h last fit (check.Refused 4)
+      pub too-early : comesAfterLast s last (bytesOf s (h .contig)) (h .pos .0) ≡ false → RecordChecked s h last fit (check.Refused 4)
       unfolding RecordChecked
       too-early f at samples records before sampleData r = row-4 r (order false f r)
 
-      module _ (after : comesAfterLast s last (bytesOf s (h .contig)) (h .pos) ≡ true) where
+      module _ (after : comesAfterLast s last (bytesOf s (h .contig)) (h .pos .0) ≡ true) where
         pub allele-faulty : refAltsOf 255 16 (bytesOf s (h .alleles .refs)) (bytesOf s (h .alleles .alts)) ≡ none
             → RecordChecked s h last fit (check.Refused 5)
         unfolding RecordChecked
@@ -149,10 +149,10 @@ module _ (s : List ℕ) (h : RecordHead) (last : Previous) (fit : Bool) where
             has-it = sym (right .has) ∙ there
 
             abbrev ended : Bool
-            ended = not (isThere (codeOption (h .end))) || (eqb n 2 && eqb (length (bytesOf s (h .alleles .refs))) 1)
+            ended = not (isThere (endOption (h .end))) || (eqb n 2 && eqb (length (bytesOf s (h .alleles .refs))) 1)
 
-            end-test : endAllowed (allelesAt s (h .alleles)) (codeOption (h .end)) ≡ ended
-            end-test = allowed _ _ n (right .number) has-it (codeOption (h .end))
+            end-test : endAllowed (allelesAt s (h .alleles)) (endOption (h .end)) ≡ ended
+            end-test = allowed _ _ n (right .number) has-it (endOption (h .end))
 
             pub end-wrong : ended ≡ false → RecordChecked s h last fit (check.Refused 7)
             unfolding RecordChecked

@@ -6,6 +6,7 @@ use mathlib.Core.List.{List, []}
 use mathlib.Core.Option.{Option, Option·getD, none, some}
 use mathlib.Core.Path.{_≡_, refl}
 use native.Mathlib.Omega.{arith}
+use Rattle.bio_ids.specs.declared.GenomePosition.{GenomePosition}
 use Rattle.definitions.specs.Checked.{Checked, _>>=_, _>>_, orRefuse, refused, require}
 use Rattle.definitions.specs.Genotypes.{AllelePair}
 use Rattle.definitions.specs.Lines.{keyOf, lineAt}
@@ -17,7 +18,8 @@ use Rattle.kv_text.specs.Fields.{between}
 use Rattle.kv_text.specs.Lines.{Behind, LineReads, readTo, unread}
 use Rattle.laws.proofs.Checked.{then, then-refused}
 use Rattle.tables.specs.Tables.{codeOption}
-use Rattle.list_reader.specs.RecordGroups.{HeadRead, SampleRead}
+use Rattle.list_reader.specs.RecordGroups.{HeadRead, SampleRead, endOption}
+use Rattle.list_reader.specs.declared.OptionalPosition.{OptionalPosition}
 use Rattle.list_reader.specs.declared.HeadAt.the-variants as head
 use Rattle.list_reader.specs.declared.SampleAt.the-variants as sample
 
@@ -136,7 +138,7 @@ module _ (s : List ℕ) (at : ℕ) where
       end-wrong l samples records before =
           unless-1 _ _ (skip _ _ λ _. skip _ _ λ _. then-refused _ _ (line-unread h₂ "end" (orMissing number) (5 + 5 * samples) (omega arith) l))
 
-      module _ (end e₂ : ℕ) (l₂ : LineReads s (e₁ + 1) (keyOf "end") (orMissing number) (readTo (codeOption end) e₂)) where
+      module _ (end : OptionalPosition) (e₂ : ℕ) (l₂ : LineReads s (e₁ + 1) (keyOf "end") (orMissing number) (readTo (endOption end) e₂)) where
         h₃ : Behind s at 3 (e₂ + 1)
         h₃ = behind-next h₂ "end" (orMissing number) _ e₂ l₂
 
@@ -155,17 +157,17 @@ module _ (s : List ℕ) (at : ℕ) where
               unless-1 _ _ (skip _ _ λ _. skip _ _ λ _. skip _ _ λ _. skip _ _ λ _. then-refused _ _ (line-unread h₄ "alt" some (5 + 5 * samples) (omega arith) l))
 
           module _ (a₄ e₄ : ℕ) (l₄ : LineReads s (e₃ + 1) (keyOf "alt") some (readTo (between s a₄ e₄) e₄)) where
-            pub head-read : HeadRead s at (head.Head (record {
+            pub head-read : {first : GenomePosition} → first .0 ≡ pos → HeadRead s at (head.Head (record {
               contig = record { at = a₀; end = e₀ };
-              pos = pos;
+              pos = first;
               end = end;
               alleles = record { refs = record { at = a₃; end = e₃ }; alts = record { at = a₄; end = e₄ }; next = e₄ + 1 };
             }))
             unfolding HeadRead recordLines sampleLines LineReads
-            head-read = record {
+            head-read same = record {
               lines = λ samples. record {
                 contig = line-read (behind-start s at) "contig" name (5 + 5 * samples) (omega arith) _ e₀ l₀;
-                pos = line-read h₁ "pos" number (5 + 5 * samples) (omega arith) _ e₁ l₁;
+                pos = rw same (line-read h₁ "pos" number (5 + 5 * samples) (omega arith) _ e₁ l₁);
                 end = line-read h₂ "end" (orMissing number) (5 + 5 * samples) (omega arith) _ e₂ l₂;
                 ref = line-read h₃ "ref" some (5 + 5 * samples) (omega arith) _ e₃ l₃;
                 alt = line-read h₄ "alt" some (5 + 5 * samples) (omega arith) _ e₄ l₄;

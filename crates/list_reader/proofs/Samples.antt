@@ -140,10 +140,6 @@ in-table : (s rows : List ℕ) (n : ℕ) → map siteSample (sitesIn s rows n) �
 unfolding sitesIn siteAt sampleAt
 in-table s rows n = map-map siteSample (siteAt s rows) (numbersFrom 0 n)
 
--- the place in the samples' rows
-abbrev placeOf : RecordHead → SitePlace
-placeOf h = record { sample = 0; contig = h .contig; start = h .pos; end = h .end; next = h .alleles .next }
-
 -- ---- the loop
 
 module _ (s : List ℕ) (at samples : ℕ) (rows₀ : List ℕ) (h : RecordHead) where
@@ -195,11 +191,12 @@ module _ (s : List ℕ) (at samples : ℕ) (rows₀ : List ℕ) (h : RecordHead)
         read : sampleRead i ≡ accepted (sampleFrom s (to .gt) v)
         read = rw count at (to .lines at samples i more (inv .behind) .value)
 
-        pub sample-next : (after : List ℕ) → length after ≡ length rows → after ≡ sets rows (i * 22) (rowOf (placeOf h) 0 (h .alleles) v false)
+        -- nothing is said of the place in a sample's row
+        pub sample-next : (p : SitePlace) (after : List ℕ) → length after ≡ length rows → after ≡ sets rows (i * 22) (rowOf p 0 (h .alleles) v false)
             → (has′ fit′ : Bool) → has′ ≡ (has-pl || ltb 0 (v .pl .count)) → fit′ ≡ (fit && countsBy alts v)
             → Reading after (v .next) has′ fit′ (i + 1)
         unfolding withoutGt
-        sample-next after same e has′ fit′ e₁ e₂ =
+        sample-next p after same e has′ fit′ e₁ e₂ =
             let fits : i * 22 + 22 ≤ length rows = omega (arith, inv .long) in
             record {
               sampleData = inv .sampleData ++ (sampleFrom s (to .gt) v ∷ []);
@@ -209,9 +206,9 @@ module _ (s : List ℕ) (at samples : ℕ) (rows₀ : List ℕ) (h : RecordHead)
               table =
                   map-append withoutGt (inv .sampleData) (sampleFrom s (to .gt) v ∷ [])
                   ∙ ap (λ (l : List SampleData). l ++ (withoutGt (sampleFrom s (to .gt) v) ∷ [])) (inv .table)
-                  ∙ sym (map-append siteSample (sitesIn s rows i) (siteFrom s (placeOf h) (h .alleles) v ∷ []))
-                  ∙ rw (e, sites-more s rows i (placeOf h) 0 (h .alleles) v false fits);
-              rest = rw e (rest-more rows (rowOf (placeOf h) 0 (h .alleles) v false) i refl fits rows₀ (inv .rest));
+                  ∙ sym (map-append siteSample (sitesIn s rows i) (siteFrom s p (h .alleles) v ∷ []))
+                  ∙ rw (e, sites-more s rows i p 0 (h .alleles) v false fits);
+              rest = rw e (rest-more rows (rowOf p 0 (h .alleles) v false) i refl fits rows₀ (inv .rest));
               some-pl =
                   e₁ ∙ rw (any-more (λ (w : SampleData). isThere (w .pl)) (inv .sampleData) (sampleFrom s (to .gt) v), ← inv .some-pl, pl-there _ _ (to .pl-count));
               right =

@@ -6,6 +6,7 @@ use mathlib.Core.Bool.{Bool, _&&_, false, true}
 use mathlib.Core.List.{List, [], _∷_, map}
 use mathlib.Core.Option.{Option, none, some}
 use mathlib.Core.Path.{_≡_}
+use Rattle.bio_ids.specs.declared.GenomePosition.{GenomePosition}
 use Rattle.definitions.specs.Alleles.{RefAlts}
 use Rattle.definitions.specs.Answers.{scratchAfter}
 use Rattle.definitions.specs.Bytes.{comma, compareBytes, fieldsOf}
@@ -17,16 +18,20 @@ use Rattle.definitions.specs.ListReader.{countsFit, gtOf, recordLines, recordRe
 use Rattle.definitions.specs.Lists.{allOf, anyOf, byOrder, isThere, numbersFrom}
 use Rattle.definitions.specs.Numbers.{name, number, orMissing}
 use Rattle.definitions.specs.Records.{Record, recordEnd}
-use Rattle.kv_text.specs.Lines.{Behind, LineReads, readTo, unread}
+use Rattle.kv_text.specs.Lines.{Behind, LineFound, LineReads, readTo, unread}
 use Rattle.site_groups.specs.SiteGroups.{Counted, bytesOf, numbersOf}
 use Rattle.site_groups.specs.declared.Part.{Part}
 use Rattle.site_groups.specs.declared.SiteAlleles.{SiteAlleles}
 use Rattle.site_groups.specs.declared.SiteValues.{SiteValues}
 use Rattle.tables.specs.Tables.{adAt, codeOption, column, plAt, refAltsSpelled, rowLength}
+use Rattle.list_reader.specs.declared.EndAt.{EndAt}
+use Rattle.list_reader.specs.declared.EndAt.the-variants as end
 use Rattle.list_reader.specs.declared.GtAt.{GtAt}
 use Rattle.list_reader.specs.declared.GtAt.the-variants as gt
 use Rattle.list_reader.specs.declared.HeadAt.{HeadAt}
 use Rattle.list_reader.specs.declared.HeadAt.the-variants as head
+use Rattle.list_reader.specs.declared.OptionalPosition.{OptionalPosition}
+use Rattle.list_reader.specs.declared.OptionalPosition.the-variants as position
 use Rattle.list_reader.specs.declared.Previous.{Previous}
 use Rattle.list_reader.specs.declared.Previous.the-variants as previous
 use Rattle.list_reader.specs.declared.RecordAt.{RecordAt}
@@ -95,6 +100,18 @@ SampleRead s at alts (sample.Sample v) = SampleTo s at alts v
 SampleRead s at alts sample.Wrong = (first samples i : ℕ) → i < samples → Behind s first (groupLines i) at
     → sampleDataRead (recordGroup s first samples) (suc alts) i ≡ refused 1
 
+-- ---- END
+
+-- the position, if one is given
+abbrev pub endOption : OptionalPosition → Option ℕ
+endOption (position.At p) = some (p .0)
+endOption position.Missing = none
+
+-- the answers about its line
+abbrev pub endFound : EndAt → LineFound (Option ℕ)
+endFound (end.End p e) = readTo (endOption p) e
+endFound end.Wrong = unread
+
 -- ---- the lines of the group
 
 -- REF and the ALTs that two parts of the text spell, and how many ALTs they are
@@ -107,8 +124,8 @@ altsAt s a = length (fieldsOf comma (bytesOf s (a .alts)))
 -- the first five lines
 pub record HeadLines (s : List ℕ) (at samples : ℕ) (h : RecordHead) : Type 0 where
   pub contig : lineAt (recordGroup s at samples) 0 "contig" name ≡ accepted (bytesOf s (h .contig))
-  pub pos : lineAt (recordGroup s at samples) 1 "pos" number ≡ accepted (h .pos)
-  pub end : lineAt (recordGroup s at samples) 2 "end" (orMissing number) ≡ accepted (codeOption (h .end))
+  pub pos : lineAt (recordGroup s at samples) 1 "pos" number ≡ accepted (h .pos .0)
+  pub end : lineAt (recordGroup s at samples) 2 "end" (orMissing number) ≡ accepted (endOption (h .end))
   pub ref : lineAt (recordGroup s at samples) 3 "ref" some ≡ accepted (bytesOf s (h .alleles .refs))
   pub alt : lineAt (recordGroup s at samples) 4 "alt" some ≡ accepted (bytesOf s (h .alleles .alts))
 
@@ -153,12 +170,12 @@ TextRead s at samples rows₀ rows text.Wrong = Misspelled s at samples
 -- ---- rows 4 to 8
 
 -- what stands for the record before: none, or the nearest one's contig and last position
-pub record LastRecord (s : List ℕ) (before : List Record) (contig : Part) (end : ℕ) : Type 0 where
+pub record LastRecord (s : List ℕ) (before : List Record) (contig : Part) (end : GenomePosition) : Type 0 where
   pub last : Record
   pub earlier : List Record
   pub nearest : before ≡ last ∷ earlier
   pub on : last .contig ≡ bytesOf s contig
-  pub to : recordEnd last ≡ end
+  pub to : recordEnd last ≡ end .0
 
 unfoldable pub PreviousOf : List ℕ → List Record → Previous → Type 0
 PreviousOf s before previous.None = before ≡ []
@@ -167,12 +184,12 @@ PreviousOf s before (previous.Last contig end) = LastRecord s before contig end
 -- `comesAfter` by what stands for the record before
 abbrev pub comesAfterLast : List ℕ → Previous → List ℕ → ℕ → Bool
 comesAfterLast s previous.None contig pos = true
-comesAfterLast s (previous.Last last end) contig pos = byOrder (compareBytes (bytesOf s last) contig) true (ltb end pos) false
+comesAfterLast s (previous.Last last end) contig pos = byOrder (compareBytes (bytesOf s last) contig) true (ltb (end .0) pos) false
 
 -- the record of these parts of the text, with its samples' data
-abbrev pub recordFrom : List ℕ → Part → ℕ → ℕ → SiteAlleles → List SampleData → Record
+abbrev pub recordFrom : List ℕ → Part → GenomePosition → OptionalPosition → SiteAlleles → List SampleData → Record
 recordFrom s contig pos end a sampleData =
-    record { contig = bytesOf s contig; pos = pos; end = codeOption end; alleles = allelesAt s a; sampleData = sampleData }
+    record { contig = bytesOf s contig; pos = pos .0; end = endOption end; alleles = allelesAt s a; sampleData = sampleData }
 
 -- a group whose lines are read, that is to be checked behind the records before it
 pub record Ready (s : List ℕ) (h : RecordHead) (last : Previous) (fit : Bool) (at samples records : ℕ) (before : List Record)

@@ -6,15 +6,19 @@ ghost use lib.Dec.{eqb, leb, ltb};
 ghost use lib.ListN.{length};
 ghost use Rattle.definitions.specs.Alleles.{genotypeCount};
 ghost use Rattle.definitions.specs.ListReader.{gtOf};
+ghost use Rattle.definitions.specs.Lines.{keyOf};
 ghost use Rattle.definitions.specs.Lists.{isThere, missingOr};
-ghost use Rattle.definitions.specs.Numbers.{numberList, orMissing};
+ghost use Rattle.definitions.specs.Numbers.{number, numberList, orMissing};
 ghost use Rattle.kv_text.specs.Lines.{LineReads};
 ghost use Rattle.site_groups.specs.SiteGroups.{PartCounted, partFound};
-ghost use Rattle.tables.specs.Tables.{codeOption, rowLength};
-ghost use Rattle.list_reader.specs.RecordGroups.{GtRead, HeadRead, RecordChecked, RecordFound, RecordRead, SampleRead, TextRead, comesAfterLast};
+ghost use Rattle.tables.specs.Tables.{rowLength};
+ghost use Rattle.list_reader.specs.RecordGroups.{GtRead, HeadRead, RecordChecked, RecordFound, RecordRead, SampleRead, TextRead, comesAfterLast, endFound, endOption};
 use alleles::AllelesRead;
+use bio_ids::GenomePosition;
+use bio_ids::SampleIndex;
 use kv_text::NumberAt;
 use kv_text::NumberRead;
+use kv_text::OptionalAt;
 use kv_text::Order;
 use kv_text::ValueAt;
 use site_groups::NumbersPart;
@@ -26,7 +30,7 @@ use site_groups::SiteValues;
 
 // ---- the lines of a sample
 
-// Whether two allele numbers are a genotype of REF and so many ALTs.
+// Whether two numbers of a text, which may be past those of alleles, are a genotype of REF and so many ALTs.
 fn is_pair(low: u32, high: u32, alts: usize) -> bool
     ensures { λ r. ⌜ r ≡ leb low high && ltb high (suc alts) ⌝ }
 {
@@ -79,7 +83,7 @@ fn gt_line(s: &[u8], at: usize, alts: usize) -> GtAt
     GtAt::Wrong
 }
 
-// The list of numbers in the line at an offset: where it stands and how many it has. The numbers are not kept.
+// The list of numbers in the line at an offset: where it stands and how many it has. The numbers go nowhere.
 fn part_line(s: &[u8], at: usize, key: &[u8]) -> PartAt
     ensures { λ r. ⌜ LineReads (now (s .entry)) at (now (key .entry)) (orMissing numberList) (partFound (now (s .entry)) r) × PartCounted (now (s .entry)) r ⌝ }
 {
@@ -138,11 +142,37 @@ fn sample_lines(s: &[u8], at: usize, alts: usize) -> SampleAt
 
 // ---- the lines of a record
 
+// END of a record: a position, or none is given.
+pub enum OptionalPosition {
+    At(GenomePosition),
+    Missing,
+}
+
+// END in an `end` line, and where the line ends.
+enum EndAt {
+    End(OptionalPosition, usize),
+    Wrong,
+}
+
+fn end_line(s: &[u8], at: usize) -> EndAt
+    ensures { λ r. ⌜ LineReads (now (s .entry)) at (keyOf "end") (orMissing number) (endFound r) ⌝ }
+{
+    let line = kv_text::optional_number_line(s, at, b"end=");
+    match line {
+        OptionalAt::Missing(e) => EndAt::End(OptionalPosition::Missing, e),
+        OptionalAt::Found(n, e) => {
+            let end = GenomePosition::new_1based(n as u64);
+            EndAt::End(OptionalPosition::At(end), e)
+        }
+        OptionalAt::Wrong => EndAt::Wrong,
+    }
+}
+
 // The first five lines of a record group. `next` of the alleles is where the first sample begins.
 struct RecordHead {
     contig: Part,
-    pos: u32,
-    end: u32,
+    pos: GenomePosition,
+    end: OptionalPosition,
     alleles: SiteAlleles,
 }
 
@@ -162,8 +192,8 @@ fn record_head(s: &[u8], at: usize) -> HeadAt
     let NumberAt::Found(pos, e1) = first else {
         return HeadAt::Wrong;
     };
-    let last = site_groups::code_line(s, e1 + 1, b"end=");
-    let NumberAt::Found(end, e2) = last else {
+    let last = end_line(s, e1 + 1);
+    let EndAt::End(end, e2) = last else {
         return HeadAt::Wrong;
     };
     let reference = kv_text::value_line(s, e2 + 1, b"ref=");
@@ -181,7 +211,7 @@ fn record_head(s: &[u8], at: usize) -> HeadAt
     let alleles = SiteAlleles { refs, alts, next };
     HeadAt::Head(RecordHead {
         contig,
-        pos,
+        pos: GenomePosition::new_1based(pos as u64),
         end,
         alleles,
     })
@@ -232,7 +262,7 @@ enum TextAt {
     Wrong,
 }
 
-// The lines of the record group at an offset: a row of the table for each sample.
+// The lines of the record group at an offset: a row of the table for each sample. (Nobody reads the sample, the start and the end of a row.)
 fn record_text(s: &[u8], at: usize, samples: usize, rows: &mut [usize]) -> TextAt
     requires { ⌜ samples * rowLength ≤ length (now rows) ⌝ }
     ensures { λ r. ⌜ TextRead (now (s .entry)) at samples (now (rows .entry)) (now (rows .exit)) r ⌝ }
@@ -245,11 +275,12 @@ fn record_text(s: &[u8], at: usize, samples: usize, rows: &mut [usize]) -> TextA
     let alleles = head.alleles;
     let alts = kv_text::count_fields(tables::part(s, alleles.alts.at, alleles.alts.end), b',');
     let mut next = alleles.next;
+    let pos = head.pos;
     let place = SitePlace {
-        sample: 0,
+        sample: SampleIndex::new(0),
         contig,
-        start: head.pos,
-        end: head.end,
+        start: pos,
+        end: pos,
         next,
     };
     let mut has_pl = false;
@@ -272,12 +303,12 @@ fn record_text(s: &[u8], at: usize, samples: usize, rows: &mut [usize]) -> TextA
 // What the record before this one left: none, or its contig and its last position.
 pub enum Previous {
     None,
-    Last(Part, u32),
+    Last(Part, GenomePosition),
 }
 
 // Row 4: whether a record at this position of this contig comes after the one before it.
-fn comes_after(s: &[u8], previous: Previous, contig: &[u8], pos: u32) -> bool
-    ensures { λ r. ⌜ r ≡ comesAfterLast (now (s .entry)) previous (now (contig .entry)) pos ⌝ }
+fn comes_after(s: &[u8], previous: Previous, contig: &[u8], pos: GenomePosition) -> bool
+    ensures { λ r. ⌜ r ≡ comesAfterLast (now (s .entry)) previous (now (contig .entry)) (pos .0) ⌝ }
 {
     let Previous::Last(part, last) = previous else {
         return true;
@@ -285,29 +316,29 @@ fn comes_after(s: &[u8], previous: Previous, contig: &[u8], pos: u32) -> bool
     let order = kv_text::compare_bytes(tables::part(s, part.at, part.end), contig);
     match order {
         Order::Less => true,
-        Order::Same => last < pos,
+        Order::Same => last.get() < pos.get(),
         Order::Greater => false,
     }
 }
 
 // Row 4: END, if there is one, is past POS.
-fn end_past(pos: u32, end: u32) -> bool
-    ensures { λ r. ⌜ r ≡ missingOr (ltb pos) (codeOption end) ⌝ }
+fn end_past(pos: GenomePosition, end: OptionalPosition) -> bool
+    ensures { λ r. ⌜ r ≡ missingOr (ltb (pos .0)) (endOption end) ⌝ }
 {
-    if 2147483647 < end {
-        return true;
+    match end {
+        OptionalPosition::Missing => true,
+        OptionalPosition::At(last) => pos.get() < last.get(),
     }
-    pos < end
 }
 
 // Row 7: an END only for a block, which has two alleles and one letter in REF.
-fn end_allowed(end: u32, alleles: usize, letters: usize) -> bool
-    ensures { λ r. ⌜ r ≡ not (isThere (codeOption end)) || (eqb alleles 2 && eqb letters 1) ⌝ }
+fn end_allowed(end: OptionalPosition, alleles: usize, letters: usize) -> bool
+    ensures { λ r. ⌜ r ≡ not (isThere (endOption end)) || (eqb alleles 2 && eqb letters 1) ⌝ }
 {
-    if 2147483647 < end {
-        return true;
+    match end {
+        OptionalPosition::Missing => true,
+        OptionalPosition::At(_) => alleles == 2 && letters == 1,
     }
-    alleles == 2 && letters == 1
 }
 
 // How many alleles there are; or the row, 4 to 8, that refuses the record.
@@ -320,14 +351,16 @@ enum RecordCheck {
 fn check_record(s: &[u8], head: RecordHead, previous: Previous, fit: bool) -> RecordCheck
     ensures { λ r. ⌜ RecordChecked (now (s .entry)) head previous fit r ⌝ }
 {
-    if head.pos < 1 {
+    let pos = head.pos;
+    let end = head.end;
+    if pos.get() < 1 {
         return RecordCheck::Refused(4);
     }
-    if !end_past(head.pos, head.end) {
+    if !end_past(pos, end) {
         return RecordCheck::Refused(4);
     }
     let contig = tables::part(s, head.contig.at, head.contig.end);
-    if !comes_after(s, previous, contig, head.pos) {
+    if !comes_after(s, previous, contig, pos) {
         return RecordCheck::Refused(4);
     }
     let reference = tables::part(s, head.alleles.refs.at, head.alleles.refs.end);
@@ -339,7 +372,7 @@ fn check_record(s: &[u8], head: RecordHead, previous: Previous, fit: bool) -> Re
     if !non_ref {
         return RecordCheck::Refused(6);
     }
-    if !end_allowed(head.end, n, reference.len()) {
+    if !end_allowed(end, n, reference.len()) {
         return RecordCheck::Refused(7);
     }
     if !fit {
@@ -350,12 +383,12 @@ fn check_record(s: &[u8], head: RecordHead, previous: Previous, fit: bool) -> Re
 
 // ---- the record
 
-// A record of the list: where its contig and its alleles stand, POS, END (4294967295: missing), how many alleles it has with REF,
+// A record of the list: where its contig and its alleles stand, POS, END, how many alleles it has with REF,
 // whether some sample has PL, and where the next group begins.
 pub struct RecordPlace {
     pub contig: Part,
-    pub pos: u32,
-    pub end: u32,
+    pub pos: GenomePosition,
+    pub end: OptionalPosition,
     pub alleles: SiteAlleles,
     pub count: usize,
     pub has_pl: bool,
@@ -385,13 +418,15 @@ fn read_record(
     };
     let check = check_record(s, head, previous, read.fit);
     let contig = head.contig;
+    let pos = head.pos;
+    let end = head.end;
     let alleles = head.alleles;
     match check {
         RecordCheck::Refused(row) => RecordAt::Refused(row),
         RecordCheck::Right(count) => RecordAt::Record(RecordPlace {
             contig,
-            pos: head.pos,
-            end: head.end,
+            pos,
+            end,
             alleles,
             count,
             has_pl: read.has_pl,

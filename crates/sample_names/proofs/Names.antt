@@ -72,9 +72,9 @@ module _ (s names : List ℕ) (i a e : ℕ) (room : 2 * i + 1 < length names) wh
         getD-set-same (set names (2 * i) a) (2 * i + 1) e 0 (rw (length-set names (2 * i) a) room),
       )
 
-  name-kept : (k : ℕ) → k < i → nameAt s (stored names i a e) k ≡ nameAt s names k
+  name-before : (k : ℕ) → k < i → nameAt s (stored names i a e) k ≡ nameAt s names k
   unfolding nameAt
-  name-kept k h =
+  name-before k h =
       rw (
         getD-set-other (set names (2 * i) a) (2 * i + 1) (2 * k) e 0 (λ q. omega arith),
         getD-set-other names (2 * i) (2 * k) a 0 (λ q. omega arith),
@@ -87,7 +87,7 @@ module _ (s names : List ℕ) (i a e : ℕ) (room : 2 * i + 1 < length names) wh
   names-next =
       ap (map (nameAt s (stored names i a e))) (numbers-append 0 i 1) ∙ map-append _ (numbersFrom 0 i) (numbersFrom (0 + i) 1)
       ∙ ap₂ (λ (l m : List (List ℕ)). l ++ m)
-      (map-numbers _ _ 0 i (λ k h. name-kept k (omega arith)))
+      (map-numbers _ _ 0 i (λ k h. name-before k (omega arith)))
       (rw (zero-add i) (ap (λ (n : List ℕ). n ∷ []) name-stored))
 
   -- nearest first

@@ -174,34 +174,34 @@ module _ (s : List ℕ) (p : SitePlace) (a : SiteAlleles) (v : SiteValues) (samp
   too-many h ad pl = row-2 samples before text (le-ltb before 4096 h)
 
   module _ (few : before < 4096) where
-    pub no-sample : samples ≤ p .sample → SiteChecked s p a v samples before (check.Refused 3)
+    pub no-sample : samples ≤ p .sample .0 → SiteChecked s p a v samples before (check.Refused 3)
     unfolding SiteChecked
-    no-sample h ad pl = row-3 samples before text (lt-ltb before 4096 few) (le-ltb (p .sample) samples h)
+    no-sample h ad pl = row-3 samples before text (lt-ltb before 4096 few) (le-ltb (p .sample .0) samples h)
 
-    module _ (known : p .sample < samples) where
-      pub position-0 : p .start < 1 → SiteChecked s p a v samples before (check.Refused 4)
+    module _ (known : p .sample .0 < samples) where
+      pub position-0 : p .start .0 < 1 → SiteChecked s p a v samples before (check.Refused 4)
       unfolding SiteChecked
-      position-0 h ad pl = row-4 samples before text (lt-ltb before 4096 few) (lt-ltb (p .sample) samples known) (rw (lt-leb 1 (p .start) h))
+      position-0 h ad pl = row-4 samples before text (lt-ltb before 4096 few) (lt-ltb (p .sample .0) samples known) (rw (lt-leb 1 (p .start .0) h))
 
-      module _ (placed : 1 ≤ p .start) where
-        pub end-before : p .end < p .start → SiteChecked s p a v samples before (check.Refused 4)
+      module _ (placed : 1 ≤ p .start .0) where
+        pub end-before : p .end .0 < p .start .0 → SiteChecked s p a v samples before (check.Refused 4)
         unfolding SiteChecked
-        end-before h ad pl = row-4 samples before text (lt-ltb before 4096 few) (lt-ltb (p .sample) samples known)
-            (rw (le-leb 1 (p .start) placed, lt-leb (p .start) (p .end) h))
+        end-before h ad pl = row-4 samples before text (lt-ltb before 4096 few) (lt-ltb (p .sample .0) samples known)
+            (rw (le-leb 1 (p .start .0) placed, lt-leb (p .start .0) (p .end .0) h))
 
-        module _ (ordered : p .start ≤ p .end) where
-          in-place : leb 1 (p .start) && leb (p .start) (p .end) ≡ true
-          in-place = rw (le-leb 1 (p .start) placed, le-leb (p .start) (p .end) ordered)
+        module _ (ordered : p .start .0 ≤ p .end .0) where
+          in-place : leb 1 (p .start .0) && leb (p .start .0) (p .end .0) ≡ true
+          in-place = rw (le-leb 1 (p .start .0) placed, le-leb (p .start .0) (p .end .0) ordered)
 
           pub allele-faulty : refAltsOf 128 8 (bytesOf s (a .refs)) (bytesOf s (a .alts)) ≡ none
               → SiteChecked s p a v samples before (check.Refused 5)
           unfolding SiteChecked
-          allele-faulty h ad pl = row-5 samples before text (lt-ltb before 4096 few) (lt-ltb (p .sample) samples known) in-place h
+          allele-faulty h ad pl = row-5 samples before text (lt-ltb before 4096 few) (lt-ltb (p .sample .0) samples known) in-place h
 
           module _ (n : ℕ) (has : Bool) (right : AllelesRight 128 8 (bytesOf s (a .refs)) (bytesOf s (a .alts)) n has) where
             pub no-non-ref : has ≡ false → SiteChecked s p a v samples before (check.Refused 6)
             unfolding SiteChecked
-            no-non-ref h ad pl = row-6 samples before text (lt-ltb before 4096 few) (lt-ltb (p .sample) samples known) in-place _ (right .right)
+            no-non-ref h ad pl = row-6 samples before text (lt-ltb before 4096 few) (lt-ltb (p .sample .0) samples known) in-place _ (right .right)
                 (sym (right .has) ∙ h)
 
             module _ (there : has ≡ true) where
@@ -209,14 +209,14 @@ module _ (s : List ℕ) (p : SitePlace) (a : SiteAlleles) (v : SiteValues) (samp
               has-it = sym (right .has) ∙ there
 
               abbrev fits : Bool
-              fits = cond (eqb n 2) (eqb (length (bytesOf s (a .refs))) 1) (eqb (length (bytesOf s (a .refs))) (p .end - p .start + 1))
+              fits = cond (eqb n 2) (eqb (length (bytesOf s (a .refs))) 1) (eqb (length (bytesOf s (a .refs))) (p .end .0 - p .start .0 + 1))
 
-              ends : endFits (refAltsSpelled (bytesOf s (a .refs)) (bytesOf s (a .alts))) (p .start) (p .end) ≡ fits
-              ends = end-by _ _ n (right .number) has-it (p .start) (p .end) ordered
+              ends : endFits (refAltsSpelled (bytesOf s (a .refs)) (bytesOf s (a .alts))) (p .start .0) (p .end .0) ≡ fits
+              ends = end-by _ _ n (right .number) has-it (p .start .0) (p .end .0) ordered
 
               pub end-wrong : fits ≡ false → SiteChecked s p a v samples before (check.Refused 7)
               unfolding SiteChecked
-              end-wrong h ad pl = row-7 samples before text (lt-ltb before 4096 few) (lt-ltb (p .sample) samples known) in-place _ (right .right)
+              end-wrong h ad pl = row-7 samples before text (lt-ltb before 4096 few) (lt-ltb (p .sample .0) samples known) in-place _ (right .right)
                   has-it (ends ∙ h)
 
               module _ (fitting : fits ≡ true) where
@@ -230,13 +230,13 @@ module _ (s : List ℕ) (p : SitePlace) (a : SiteAlleles) (v : SiteValues) (samp
 
                 pub counts-wrong : counts ≡ false → SiteChecked s p a v samples before (check.Refused 8)
                 unfolding SiteChecked
-                counts-wrong h ad pl = row-8 samples before text (lt-ltb before 4096 few) (lt-ltb (p .sample) samples known) in-place _
+                counts-wrong h ad pl = row-8 samples before text (lt-ltb before 4096 few) (lt-ltb (p .sample .0) samples known) in-place _
                     (right .right) has-it (ends ∙ fitting) (counted ad pl ∙ h)
 
                 pub site-right : counts ≡ true → SiteChecked s p a v samples before (check.Right (eqb n 2))
                 unfolding SiteChecked
                 site-right h ad pl = record {
-                  value = all-right samples before text (lt-ltb before 4096 few) (lt-ltb (p .sample) samples known) in-place _
+                  value = all-right samples before text (lt-ltb before 4096 few) (lt-ltb (p .sample .0) samples known) in-place _
                       (right .right) has-it (ends ∙ fitting) (counted ad pl ∙ h);
                   is-block = two-is-block _ _ n (right .number) has-it _ fitting;
                 }

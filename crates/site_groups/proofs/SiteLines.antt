@@ -6,6 +6,8 @@ use mathlib.Core.List.{List, []}
 use mathlib.Core.Option.{Option, Option·getD, none, some}
 use mathlib.Core.Path.{_≡_, refl}
 use native.Mathlib.Omega.{arith}
+use Rattle.bio_ids.specs.declared.GenomePosition.{GenomePosition}
+use Rattle.bio_ids.specs.declared.SampleIndex.{SampleIndex}
 use Rattle.definitions.specs.Bytes.{fieldsOf}
 use Rattle.definitions.specs.Checked.{Checked, _>>=_, orRefuse, refused}
 use Rattle.definitions.specs.Cohort.{siteLines, siteTextOf}
@@ -120,13 +122,14 @@ module _ (s : List ℕ) (at : ℕ) where
         end-wrong l = end-refused _ (line-unread b₃ "end" number 10 (omega arith) l)
 
         pub place-read : (to e₃ : ℕ) → LineReads s (e₂ + 1) (keyOf "end") number (readTo to e₃)
-            → PlaceRead s at (Place (record { sample = n; contig = record { at = a₁; end = e₁ }; start = from; end = to; next = e₃ + 1 }))
+            → {sample : SampleIndex} {start end : GenomePosition} → sample .0 ≡ n → start .0 ≡ from → end .0 ≡ to
+            → PlaceRead s at (Place (record { sample = sample; contig = record { at = a₁; end = e₁ }; start = start; end = end; next = e₃ + 1 }))
         unfolding PlaceRead siteLines
-        place-read to e₃ l₃ = record {
-          sample = line-read (behind-start s at) "site" number 10 (omega arith) n e₀ l₀;
+        place-read to e₃ l₃ same-sample same-start same-end = record {
+          sample = rw same-sample (line-read (behind-start s at) "site" number 10 (omega arith) n e₀ l₀);
           contig = line-read b₁ "contig" name 10 (omega arith) _ e₁ l₁;
-          start = line-read b₂ "start" number 10 (omega arith) from e₂ l₂;
-          end = line-read b₃ "end" number 10 (omega arith) to e₃ l₃;
+          start = rw same-start (line-read b₂ "start" number 10 (omega arith) from e₂ l₂);
+          end = rw same-end (line-read b₃ "end" number 10 (omega arith) to e₃ l₃);
           ordered = ordered;
           behind = behind-next b₃ "end" number _ e₃ l₃;
           within = let h = line-within s (e₂ + 1) (keyOf "end") number to e₃ l₃ in omega arith;

@@ -66,10 +66,10 @@ siteGroup s at = take siteLines (linesOf (drop at s))
 
 -- the first four lines of the group
 pub record PlaceLines (s : List ℕ) (at : ℕ) (p : SitePlace) : Type 0 where
-  pub sample : lineAt (siteGroup s at) 0 "site" number ≡ accepted (p .sample)
+  pub sample : lineAt (siteGroup s at) 0 "site" number ≡ accepted (p .sample .0)
   pub contig : lineAt (siteGroup s at) 1 "contig" name ≡ accepted (bytesOf s (p .contig))
-  pub start : lineAt (siteGroup s at) 2 "start" number ≡ accepted (p .start)
-  pub end : lineAt (siteGroup s at) 3 "end" number ≡ accepted (p .end)
+  pub start : lineAt (siteGroup s at) 2 "start" number ≡ accepted (p .start .0)
+  pub end : lineAt (siteGroup s at) 3 "end" number ≡ accepted (p .end .0)
   pub ordered : p .contig .at ≤ p .contig .end
   pub behind : Behind s at 4 (p .next)
   pub within : p .next ≤ length s
@@ -131,10 +131,10 @@ ValuesStored s ad₀ ad pl₀ pl values.Wrong = SomeStored ad₀ ad × SomeStore
 -- what the ten lines say
 abbrev pub siteTextAt : List ℕ → SitePlace → SiteAlleles → SiteValues → SiteText
 siteTextAt s p a v = record {
-  sample = p .sample;
+  sample = p .sample .0;
   contig = bytesOf s (p .contig);
-  start = p .start;
-  end = p .end;
+  start = p .start .0;
+  end = p .end .0;
   ref = bytesOf s (a .refs);
   alt = bytesOf s (a .alts);
   gq = codeOption (v .gq);
@@ -161,10 +161,10 @@ TextStored s ad₀ ad pl₀ pl text.Wrong = SomeStored ad₀ ad × SomeStored pl
 -- the site that they stand for
 abbrev pub siteFrom : List ℕ → SitePlace → SiteAlleles → SiteValues → Site
 siteFrom s p a v = record {
-  sample = p .sample;
+  sample = p .sample .0;
   contig = bytesOf s (p .contig);
-  start = p .start;
-  end = p .end;
+  start = p .start .0;
+  end = p .end .0;
   alleles = refAltsSpelled (bytesOf s (a .refs)) (bytesOf s (a .alts));
   gq = codeOption (v .gq);
   dp = codeOption (v .dp);

@@ -8,6 +8,8 @@ ghost use Rattle.definitions.specs.Numbers.{number, numberList, orMissing};
 ghost use Rattle.kv_text.specs.Lines.{LineReads};
 ghost use Rattle.site_groups.specs.SiteGroups.{AlleleLinesRead, NumbersStored, PartCounted, PartStored, PlaceRead, SiteChecked, SiteRead, TextRead, TextStored, ValuesRead, ValuesStored, codeFound, partFound};
 use alleles::AllelesRead;
+use bio_ids::GenomePosition;
+use bio_ids::SampleIndex;
 use kv_text::ListAt;
 use kv_text::NumberAt;
 use kv_text::OptionalAt;
@@ -51,18 +53,19 @@ pub struct Part {
 
 // The first four lines of a site group: sample number, contig, start and end. `next` is where the fifth line begins.
 pub struct SitePlace {
-    pub sample: u32,
+    pub sample: SampleIndex,
     pub contig: Part,
-    pub start: u32,
-    pub end: u32,
+    pub start: GenomePosition,
+    pub end: GenomePosition,
     pub next: usize,
 }
 
-pub enum PlaceAt {
+enum PlaceAt {
     Place(SitePlace),
     Wrong,
 }
 
+// The numbers as they stand in the lines; rows 3 and 4 are `check_site`'s.
 fn site_place(s: &[u8], at: usize) -> PlaceAt
     ensures { λ r. ⌜ PlaceRead (now (s .entry)) at r ⌝ }
 {
@@ -83,10 +86,10 @@ fn site_place(s: &[u8], at: usize) -> PlaceAt
         return PlaceAt::Wrong;
     };
     PlaceAt::Place(SitePlace {
-        sample,
+        sample: SampleIndex::new(sample as usize),
         contig: Part { at: a1, end: e1 },
-        start,
-        end,
+        start: GenomePosition::new_1based(start as u64),
+        end: GenomePosition::new_1based(end as u64),
         next: e3 + 1,
     })
 }
@@ -98,7 +101,7 @@ pub struct SiteAlleles {
     pub next: usize,
 }
 
-pub enum AllelesAt {
+enum AllelesAt {
     Alleles(SiteAlleles),
     Wrong,
 }
@@ -137,7 +140,7 @@ pub struct SiteValues {
     pub next: usize,
 }
 
-pub enum ValuesAt {
+enum ValuesAt {
     Values(SiteValues),
     Wrong,
 }
@@ -179,13 +182,14 @@ fn site_values(s: &[u8], at: usize, ad: &mut [u32], pl: &mut [u32]) -> ValuesAt
 }
 
 // The ten lines of a site group.
-pub enum TextAt {
+enum TextAt {
     Text(SitePlace, SiteAlleles, SiteValues),
     Wrong,
 }
 
-// The site group at an offset, by its lines: row 1, or what they say, with the numbers of AD and PL.
-pub fn site_text(s: &[u8], at: usize, ad: &mut [u32], pl: &mut [u32]) -> TextAt
+// The site group at an offset, by its lines: row 1, or what they say, with the numbers of AD and PL. After row 1 some numbers stand in
+// the slices, which `site_at` clears.
+fn site_text(s: &[u8], at: usize, ad: &mut [u32], pl: &mut [u32]) -> TextAt
     ensures { λ r. ⌜ TextRead (now (s .entry)) at r × TextStored (now (s .entry)) (now (ad .entry)) (now (ad .exit)) (now (pl .entry)) (now (pl .exit)) r ⌝ }
 {
     let first = site_place(s, at);
@@ -230,7 +234,7 @@ fn counts_fit(alleles: u8, pl: usize, ad: usize) -> bool
 }
 
 // Whether a site whose lines are spelled right is a block; or the row, 2 to 8, that refuses it.
-pub enum SiteCheck {
+enum SiteCheck {
     Right(bool),
     Refused(usize),
 }
@@ -249,13 +253,15 @@ fn check_site(
     if 4096 <= before {
         return SiteCheck::Refused(2);
     }
-    if samples <= place.sample as usize {
+    if samples <= place.sample.get() {
         return SiteCheck::Refused(3);
     }
-    if place.start < 1 {
+    let start = place.start.get();
+    if start < 1 {
         return SiteCheck::Refused(4);
     }
-    if place.end < place.start {
+    let end = place.end.get();
+    if end < start {
         return SiteCheck::Refused(4);
     }
     let reference = tables::part(s, alleles.refs.at, alleles.refs.end);
@@ -267,7 +273,7 @@ fn check_site(
     if !non_ref {
         return SiteCheck::Refused(6);
     }
-    let positions = (place.end - place.start) as usize + 1;
+    let positions = (end - start) as usize + 1;
     if !end_fits(n, reference.len(), positions) {
         return SiteCheck::Refused(7);
     }

@@ -15,16 +15,19 @@ abbrev μ-loop : tie.MeasureT-loop
 μ-loop s alleles dropped rows samples out₀ at next₀ sample₀ out next sample = samples - sample
 
 loop-holds : tie.Need-loop-holds Inv-loop μ-loop
-loop-holds c = recast (samples-all _ _ _ _ _) (start ((c .before .before .before .pre .fits)))
+loop-holds c = recast (samples-all _ _ _ _ _) (start (c .before .before .before .pre .fits))
+
+new-requires : tie.Need-new-requires Inv-loop μ-loop
+new-requires c κs = search needs
 
 put-called-sample-requires : tie.Need-put-called-sample-requires Inv-loop μ-loop
 put-called-sample-requires c κs = record {
-  atLeast = (c .before .before .before .before .before .before .pre .atLeast);
-  atMost = (c .before .before .before .before .before .before .pre .atMost);
-  dropped = (c .before .before .before .before .before .before .pre .dropped);
-  entries = sample-entries _ _ _ _ _ _ ((c .before .before .before .before .before .before .pre)) ((c .before .loop-test .taken));
-  fits = room (calledSample _ _ _ _ _) _ (recast (samples-next _ _ _ _ _ _ ((c .before .loop-test .taken))) ((c .before .before .loop .inv)));
-}
+      atLeast = (c .before .before .before .before .before .before .before .pre .atLeast);
+      atMost = (c .before .before .before .before .before .before .before .pre .atMost);
+      dropped = (c .before .before .before .before .before .before .before .pre .dropped);
+      entries = rw (c .before .new .ensures) (sample-entries _ _ _ _ _ _ (c .before .before .before .before .before .before .before .pre) (c .before .before .loop-test .taken));
+      fits = rw (c .before .new .ensures) (room (calledSample _ _ _ _ _) _ (recast (samples-next _ _ _ _ _ _ (c .before .before .loop-test .taken)) (c .before .before .before .loop .inv)));
+    }
 
 add-sample : tie.Need-add-sample Inv-loop μ-loop
 add-sample c = search needs
@@ -33,13 +36,13 @@ loop-less : tie.Need-loop-less Inv-loop μ-loop
 loop-less c = search needs
 
 loop-again : tie.Need-loop-again Inv-loop μ-loop
-loop-again c = several ((c .before .before .put-called-sample .ensures)) (recast (samples-next _ _ _ _ _ _ ((c .before .before .before .before .loop-test .taken))) ((c .before .before .before .before .before .loop .inv)))
+loop-again c = several (rw (c .before .before .before .before .new .ensures) at (c .before .before .put-called-sample .ensures)) (recast (samples-next _ _ _ _ _ _ (c .before .before .before .before .before .loop-test .taken)) (c .before .before .before .before .before .before .loop .inv))
 
 same-length : tie.Need-same-length Inv-loop μ-loop
-same-length c = left-length ((c .before .loop .inv))
+same-length c = left-length (c .before .loop .inv)
 
 returns : tie.Need-returns Inv-loop μ-loop
-returns c = done (recast (samples-none _ _ _ _ _ _ ((c .loop-test .left))) ((c .before .loop .inv)))
+returns c = done (recast (samples-none _ _ _ _ _ _ (c .loop-test .left)) (c .before .loop .inv))
 
 pub put-called-samples-spec : {M : Type 1} → statement M
 put-called-samples-spec =
@@ -48,6 +51,7 @@ put-called-samples-spec =
     Inv-loop
     μ-loop
     loop-holds
+    new-requires
     put-called-sample-requires
     add-sample
     loop-less

@@ -3,23 +3,23 @@ use borrow.Author.Needs.{needs}
 use Rattle.cohort.proofs.put_site.Statement.{statement}
 use Rattle.cohort.proofs.put_site.Tie as tie
 
-cast-store-row : tie.Need-cast-store-row
-cast-store-row c = search needs
+get-requires : tie.Need-get-requires
+get-requires c κs = search needs
 
-cast-t10 : tie.Need-cast-t10
-cast-t10 c = search needs
+get-requires-2 : tie.Need-get-requires-2
+get-requires-2 c κs = search needs
 
-cast-t11 : tie.Need-cast-t11
-cast-t11 c = search needs
+get-requires-3 : tie.Need-get-requires-3
+get-requires-3 c κs = search needs
 
 flag-requires : tie.Need-flag-requires
 flag-requires c κs = search needs
 
-cast-t13 : tie.Need-cast-t13
-cast-t13 c = search needs
+cast-t15 : tie.Need-cast-t15
+cast-t15 c = search needs
 
-cast-t14 : tie.Need-cast-t14
-cast-t14 c = search needs
+cast-t16 : tie.Need-cast-t16
+cast-t16 c = search needs
 
 mul-store-row : tie.Need-mul-store-row
 mul-store-row c = search needs
@@ -34,18 +34,18 @@ same-length : tie.Need-same-length
 same-length c = search needs
 
 returns : tie.Need-returns
-returns c = rw (← (c .before .before .before .before .before .before .before .flag .ensures)) ((c .before .before .store-row .ensures))
+returns c = rw (← (c .before .before .before .before .before .before .before .flag .ensures), ← (c .before .before .before .before .before .before .before .before .before .before .get .ensures), ← (c .before .before .before .before .before .before .before .before .before .get2 .ensures), ← (c .before .before .before .before .before .before .before .before .get3 .ensures)) (c .before .before .store-row .ensures)
 
 pub put-site-spec : {M : Type 1} → statement M
 put-site-spec =
     tie.close
     (tie.spec
-    cast-store-row
-    cast-t10
-    cast-t11
+    get-requires
+    get-requires-2
+    get-requires-3
     flag-requires
-    cast-t13
-    cast-t14
+    cast-t15
+    cast-t16
     mul-store-row
     slice-aggregate-store-row
     store-row-requires

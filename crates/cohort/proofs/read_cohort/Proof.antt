@@ -1,9 +1,10 @@
 -- Where there is room for the names; if the cohort is not read both tables are cleared.
 use borrow.Author.Needs.{needs}
+use borrow.Author.Tests.{le-ltb, lt-ltb}
 use mathlib.Core.Logic.{inl, inr}
 use mathlib.Core.Path.{_∙_}
 use native.Mathlib.Omega.{arith}
-use Rattle.cohort.specs.Cohort.{CohortAt, CohortFitting}
+use Rattle.cohort.specs.Cohort.{CohortAt, CohortFitting, cohortAnswer}
 use Rattle.tables.proofs.Cleared.{scratch-same}
 use Rattle.cohort.proofs.read_cohort.Statement.{statement}
 use Rattle.cohort.proofs.read_cohort.Tie as tie
@@ -18,8 +19,11 @@ same-length-2 : tie.Need-same-length-2
 same-length-2 c = search needs
 
 returns : tie.Need-returns
-unfolding CohortAt
-returns c = record { no-room = inl (omega (arith, (c .before .before .before .before .before .before .before .if1 .taken))); names-cleared = (c .before .before .before .before .clear-tables .ensures .1); rows-cleared = (c .before .before .before .before .clear-tables .ensures .0) }
+unfolding CohortAt cohortAnswer
+returns c = (
+  rw (lt-ltb _ 128 (c .before .before .before .before .before .before .before .if1 .taken)),
+  record { no-room = inl (omega (arith, (c .before .before .before .before .before .before .before .if1 .taken))); names-cleared = (c .before .before .before .before .clear-tables .ensures .1); rows-cleared = (c .before .before .before .before .clear-tables .ensures .0) },
+)
 
 read-fitting-requires : tie.Need-read-fitting-requires
 read-fitting-requires c κs = omega (arith, (c .before .before .if1 .left))
@@ -46,8 +50,9 @@ same-length-4 : tie.Need-same-length-4
 same-length-4 c = search needs
 
 returns-2 : tie.Need-returns-2
-unfolding CohortAt CohortFitting
-returns-2 c = rw ((c .before .read .given .1)) at ((c .before .before .before .before .before .before .before .read-fitting .ensures))
+unfolding CohortAt CohortFitting cohortAnswer
+returns-2 c = let r = rw (c .before .read .given .1) at (c .before .before .before .before .before .before .before .read-fitting .ensures) in
+    (rw (le-ltb _ 128 (c .before .before .before .before .before .before .before .before .before .before .if1 .left)) (r .0), r .1)
 
 same-length-5 : tie.Need-same-length-5
 same-length-5 c = search needs
@@ -56,12 +61,15 @@ same-length-6 : tie.Need-same-length-6
 same-length-6 c = search needs
 
 returns-3 : tie.Need-returns-3
-unfolding CohortAt CohortFitting
-returns-3 c = record {
-  no-room = inr (rw ((c .before .before .before .before .before .before .before .enum-told .given .1)) at ((c .before .before .before .before .before .before .before .before .before .before .before .before .before .read-fitting .ensures)));
-  names-cleared = (c .before .before .before .before .clear-tables2 .ensures .1) ∙ scratch-same _ _ ((c .before .before .before .before .before .before .before .before .before .before .before .before .before .read-fitting .kept .1 .0));
-  rows-cleared = (c .before .before .before .before .clear-tables2 .ensures .0) ∙ scratch-same _ _ ((c .before .before .before .before .before .before .before .before .before .before .before .before .before .read-fitting .kept .1 .1 .0));
-}
+unfolding CohortAt CohortFitting cohortAnswer
+returns-3 c = let r = rw (c .before .before .before .before .before .before .before .enum-told .given .1) at (c .before .before .before .before .before .before .before .before .before .before .before .before .before .read-fitting .ensures) in (
+  rw (le-ltb _ 128 (c .before .before .before .before .before .before .before .before .before .before .before .before .before .before .before .before .if1 .left)) (r .0),
+  record {
+    no-room = inr (r .1);
+    names-cleared = (c .before .before .before .before .clear-tables2 .ensures .1) ∙ scratch-same _ _ (c .before .before .before .before .before .before .before .before .before .before .before .before .before .read-fitting .kept .1 .0);
+    rows-cleared = (c .before .before .before .before .clear-tables2 .ensures .0) ∙ scratch-same _ _ (c .before .before .before .before .before .before .before .before .before .before .before .before .before .read-fitting .kept .1 .1 .0);
+  },
+)
 
 same-length-7 : tie.Need-same-length-7
 same-length-7 c = search needs
@@ -70,13 +78,16 @@ same-length-8 : tie.Need-same-length-8
 same-length-8 c = search needs
 
 returns-4 : tie.Need-returns-4
-unfolding CohortAt CohortFitting
-returns-4 c = record {
-  room = omega (arith, (c .before .before .before .before .before .before .before .before .before .before .before .before .before .before .before .before .before .if1 .left));
-  value = rw ((c .before .before .before .before .before .before .before .before .read2 .given .1)) at ((c .before .before .before .before .before .before .before .before .before .before .before .before .before .before .read-fitting .ensures));
-  names-cleared = (c .before .before .before .before .clear-tables3 .ensures .1) ∙ scratch-same _ _ ((c .before .before .before .before .before .before .before .before .before .before .before .before .before .before .read-fitting .kept .1 .0));
-  rows-cleared = (c .before .before .before .before .clear-tables3 .ensures .0) ∙ scratch-same _ _ ((c .before .before .before .before .before .before .before .before .before .before .before .before .before .before .read-fitting .kept .1 .1 .0));
-}
+unfolding CohortAt CohortFitting cohortAnswer
+returns-4 c = let r = rw (c .before .before .before .before .before .before .before .before .read2 .given .1) at (c .before .before .before .before .before .before .before .before .before .before .before .before .before .before .read-fitting .ensures) in (
+  rw (le-ltb _ 128 (c .before .before .before .before .before .before .before .before .before .before .before .before .before .before .before .before .before .if1 .left)) (r .0),
+  record {
+    room = omega (arith, (c .before .before .before .before .before .before .before .before .before .before .before .before .before .before .before .before .before .if1 .left));
+    value = r .1;
+    names-cleared = (c .before .before .before .before .clear-tables3 .ensures .1) ∙ scratch-same _ _ (c .before .before .before .before .before .before .before .before .before .before .before .before .before .before .read-fitting .kept .1 .0);
+    rows-cleared = (c .before .before .before .before .clear-tables3 .ensures .0) ∙ scratch-same _ _ (c .before .before .before .before .before .before .before .before .before .before .before .before .before .before .read-fitting .kept .1 .1 .0);
+  },
+)
 
 pub read-cohort-spec : {M : Type 1} → statement M
 read-cohort-spec =

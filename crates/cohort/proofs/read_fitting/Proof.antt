@@ -1,7 +1,7 @@
 -- The header, then the sites; there is room for the header.
 use borrow.Author.Needs.{needs}
 use native.Mathlib.Omega.{arith}
-use Rattle.cohort.proofs.Whole.{all-read, header-refused, names-count, sites-refused, too-long}
+use Rattle.cohort.proofs.Whole.{all-read, header-answer, header-refused, names-count, sites-refused, sites-said, too-long, too-long-answer}
 use Rattle.cohort.specs.Cohort.{CohortFitting, SitesRead}
 use Rattle.sample_names.specs.Header.{Header}
 use Rattle.cohort.proofs.read_fitting.Statement.{statement}
@@ -9,7 +9,7 @@ use Rattle.cohort.proofs.read_fitting.Tie as tie
 
 returns : tie.Need-returns
 unfolding CohortFitting
-returns c = too-long _ (c .if1 .taken)
+returns c = (too-long-answer _ _ _ (c .if1 .taken), too-long _ (c .if1 .taken))
 
 read-samples-requires : tie.Need-read-samples-requires
 read-samples-requires c κs = search needs
@@ -40,15 +40,15 @@ same-length c = search needs
 
 returns-2 : tie.Need-returns-2
 unfolding CohortFitting Header
-returns-2 c = let h = rw ((c .enum-told .given .1)) at ((c .before .before .before .before .read-samples .ensures)) in absurd (omega (arith, h .no-room, (c .before .before .before .before .before .before .before .before .before .before .pre)))
+returns-2 c = let h = rw (c .enum-told .given .1) at (c .before .before .before .before .read-samples .ensures) in absurd (omega (arith, h .no-room, (c .before .before .before .before .before .before .before .before .before .before .pre)))
 
 same-length-2 : tie.Need-same-length-2
 same-length-2 c = search needs
 
 returns-3 : tie.Need-returns-3
 unfolding CohortFitting Header
-returns-3 c = let h = rw ((c .before .header .given .1)) at ((c .before .before .before .before .before .read-samples .ensures)) in
-    header-refused _ (c .before .before .before .before .before .before .before .if1 .left) _ (h .value)
+returns-3 c = let h = rw (c .before .header .given .1) at (c .before .before .before .before .before .read-samples .ensures) in
+    (header-answer _ (c .before .before .before .before .before .before .before .if1 .left) _ _ _ (h .value), header-refused _ (c .before .before .before .before .before .before .before .if1 .left) _ (h .value))
 
 same-length-3 : tie.Need-same-length-3
 same-length-3 c = search needs
@@ -57,8 +57,10 @@ same-length-4 : tie.Need-same-length-4
 same-length-4 c = search needs
 
 returns-4 : tie.Need-returns-4
-unfolding CohortFitting SitesRead
-returns-4 c = rw ((c .enum-told2 .given .1)) at ((c .before .before .before .before .read-sites .ensures))
+unfolding CohortFitting Header SitesRead
+returns-4 c = let h = rw (c .before .before .before .before .before .before .before .header2 .given .1) at (c .before .before .before .before .before .before .before .before .before .before .before .read-samples .ensures) in
+    let r = rw (c .enum-told2 .given .1) at (c .before .before .before .before .read-sites .ensures) in
+    (sites-said _ (c .before .before .before .before .before .before .before .before .before .before .before .before .before .if1 .left) _ _ _ (h .value) (h .behind) _ _ (r .0 _ (names-count _ _ _)), r .1)
 
 same-length-5 : tie.Need-same-length-5
 same-length-5 c = search needs
@@ -68,9 +70,11 @@ same-length-6 c = search needs
 
 returns-5 : tie.Need-returns-5
 unfolding CohortFitting Header SitesRead
-returns-5 c = let h = rw ((c .before .before .before .before .before .before .before .before .header2 .given .1)) at ((c .before .before .before .before .before .before .before .before .before .before .before .before .read-samples .ensures)) in
-    let r = rw ((c .before .sites .given .1)) at ((c .before .before .before .before .before .read-sites .ensures)) in
-    sites-refused _ (c .before .before .before .before .before .before .before .before .before .before .before .before .before .before .if1 .left) _ _ _ (h .value) (h .behind) _ (r _ (names-count _ _ _))
+returns-5 c = let h = rw (c .before .before .before .before .before .before .before .before .header2 .given .1) at (c .before .before .before .before .before .before .before .before .before .before .before .before .read-samples .ensures) in
+    let r = rw (c .before .sites .given .1) at (c .before .before .before .before .before .read-sites .ensures) in (
+      sites-said _ (c .before .before .before .before .before .before .before .before .before .before .before .before .before .before .if1 .left) _ _ _ (h .value) (h .behind) _ _ (r .0 _ (names-count _ _ _)),
+      sites-refused _ (c .before .before .before .before .before .before .before .before .before .before .before .before .before .before .if1 .left) _ _ _ (h .value) (h .behind) _ (r .1 _ (names-count _ _ _)),
+    )
 
 same-length-7 : tie.Need-same-length-7
 same-length-7 c = search needs
@@ -80,18 +84,20 @@ same-length-8 c = search needs
 
 returns-6 : tie.Need-returns-6
 unfolding CohortFitting Header SitesRead
-returns-6 c = let h = rw ((c .before .before .before .before .before .before .before .before .header2 .given .1)) at ((c .before .before .before .before .before .before .before .before .before .before .before .before .read-samples .ensures)) in
-    let r = rw ((c .before .sites2 .given .1)) at ((c .before .before .before .before .before .read-sites .ensures)) in
-    record {
-      room = record { for-names = (c .before .before .before .before .before .before .before .before .before .before .before .before .before .before .before .before .before .before .pre); for-rows = r .room };
-      value = all-read _ (c .before .before .before .before .before .before .before .before .before .before .before .before .before .before .if1 .left) _ _ _ (h .value) (h .behind) _ (r .value _ (names-count _ _ _));
-      table = r .table;
-      some-sample = h .not-none;
-      few-samples = h .few;
-      few-sites = r .few;
-      names-rest = h .rest;
-      rows-rest = r .rest;
-    }
+returns-6 c = let h = rw (c .before .before .before .before .before .before .before .before .header2 .given .1) at (c .before .before .before .before .before .before .before .before .before .before .before .before .read-samples .ensures) in
+    let (answer, r) = rw (c .before .sites2 .given .1) at (c .before .before .before .before .before .read-sites .ensures) in (
+      sites-said _ (c .before .before .before .before .before .before .before .before .before .before .before .before .before .before .if1 .left) _ _ _ (h .value) (h .behind) _ _ (answer _ (names-count _ _ _)),
+      record {
+        room = record { for-names = (c .before .before .before .before .before .before .before .before .before .before .before .before .before .before .before .before .before .before .pre); for-rows = r .room };
+        value = all-read _ (c .before .before .before .before .before .before .before .before .before .before .before .before .before .before .if1 .left) _ _ _ (h .value) (h .behind) _ (r .value _ (names-count _ _ _));
+        table = r .table;
+        some-sample = h .not-none;
+        few-samples = h .few;
+        few-sites = r .few;
+        names-rest = h .rest;
+        rows-rest = r .rest;
+      },
+    )
 
 pub read-fitting-spec : {M : Type 1} → statement M
 read-fitting-spec =

@@ -5,7 +5,7 @@ use lib.ListN.{length}
 use mathlib.Core.Path.{_∙_, _≡_, refl, sym}
 use native.Mathlib.Omega.{arith}
 use Rattle.cohort.proofs.Numbers.{numbers-read}
-use Rattle.cohort.proofs.Sites.{Reading, no-row, reading-start, site-refused, sites-end}
+use Rattle.cohort.proofs.Sites.{Reading, no-row, no-row-answer, reading-start, refused-answer, site-refused, sites-answer, sites-end}
 use Rattle.site_groups.specs.SiteGroups.{SiteRead}
 use Rattle.cohort.proofs.read_sites.Statement.{statement}
 use Rattle.cohort.proofs.read_sites.Tie as tie
@@ -36,7 +36,8 @@ same-length c = (c .before .before .before .before .before .before .before .befo
 
 returns : tie.Need-returns Inv-loop μ-loop
 unfolding SiteRead
-returns c = site-refused _ _ _ _ _ _ _ ((c .before .before .before .before .before .before .before .before .before .loop .inv .0)) ((c .before .before .before .before .before .before .before .before .loop-test .taken)) _ ((rw ((c .before .group .given .1)) at ((c .before .before .before .before .before .site-at .ensures))) .0)
+returns c = let faulty = (rw (c .before .group .given .1) at (c .before .before .before .before .before .site-at .ensures)) .0 in
+    (refused-answer _ _ _ _ _ _ _ (c .before .before .before .before .before .before .before .before .before .loop .inv .0) (c .before .before .before .before .before .before .before .before .loop-test .taken) _ faulty, site-refused _ _ _ _ _ _ _ (c .before .before .before .before .before .before .before .before .before .loop .inv .0) (c .before .before .before .before .before .before .before .before .loop-test .taken) _ faulty)
 
 enum-known-group-2 : tie.Need-enum-known-group-2 Inv-loop μ-loop
 enum-known-group-2 c = search needs
@@ -52,7 +53,10 @@ same-length-2 c = (c .before .before .before .before .before .before .before .be
 
 returns-2 : tie.Need-returns-2 Inv-loop μ-loop
 unfolding SiteRead
-returns-2 c = let to = (rw ((c .before .before .group2 .given .1)) at ((c .before .before .before .before .before .before .site-at .ensures))) .0 in no-row _ _ _ _ _ _ _ ((c .before .before .before .before .before .before .before .before .before .before .loop .inv .0)) ((c .before .before .before .before .before .before .before .before .before .loop-test .taken)) (to .value) (omega (arith, (c .if1 .taken)))
+returns-2 c = let to = (rw (c .before .before .group2 .given .1) at (c .before .before .before .before .before .before .site-at .ensures)) .0 in (
+  no-row-answer _ _ _ _ _ _ _ (c .before .before .before .before .before .before .before .before .before .before .loop .inv .0) (c .before .before .before .before .before .before .before .before .before .loop-test .taken) _ _ _ _ to (omega (arith, (c .if1 .taken))),
+  no-row _ _ _ _ _ _ _ (c .before .before .before .before .before .before .before .before .before .before .loop .inv .0) (c .before .before .before .before .before .before .before .before .before .loop-test .taken) (to .value) (omega (arith, (c .if1 .taken))),
+)
 
 part-requires : tie.Need-part-requires Inv-loop μ-loop
 part-requires c κs = search needs
@@ -77,7 +81,7 @@ add-count c = omega (arith, (c .before .before .before .before .before .before .
 
 loop-less : tie.Need-loop-less Inv-loop μ-loop
 unfolding SiteRead
-loop-less c = let to = (rw ((c .before .before .before .before .before .before .before .before .before .before .before .before .before .before .before .group2 .given .1)) at ((c .before .before .before .before .before .before .before .before .before .before .before .before .before .before .before .before .before .before .before .site-at .ensures))) .0 in omega (arith, to .forward, to .within)
+loop-less c = let to = (rw (c .before .before .before .before .before .before .before .before .before .before .before .before .before .before .before .group2 .given .1) at (c .before .before .before .before .before .before .before .before .before .before .before .before .before .before .before .before .before .before .before .site-at .ensures)) .0 in omega (arith, to .forward, to .within)
 
 loop-again : tie.Need-loop-again Inv-loop μ-loop
 unfolding SiteRead
@@ -90,7 +94,7 @@ same-length-3 : tie.Need-same-length-3 Inv-loop μ-loop
 same-length-3 c = (c .before .loop .inv .0 .long)
 
 returns-3 : tie.Need-returns-3 Inv-loop μ-loop
-returns-3 c = sites-end _ _ _ _ _ _ _ ((c .before .loop .inv .0)) ((c .loop-test .left))
+returns-3 c = (sites-answer _ _ _ _ _ _ _ (c .before .loop .inv .0) (c .loop-test .left), sites-end _ _ _ _ _ _ _ (c .before .loop .inv .0) (c .loop-test .left))
 
 pub read-sites-spec : {M : Type 1} → statement M
 read-sites-spec =

@@ -11,8 +11,8 @@ cast-put-header c = omega (arith, count-low ((c .before .before .before .before 
 put-header-requires : tie.Need-put-header-requires
 put-header-requires c κs = (c .before .before .before .before .before .pre .0 .header)
 
-walk-records-requires : tie.Need-walk-records-requires
-walk-records-requires c κs = writing ((c .before .before .before .before .before .before .before .before .before .before .pre .0)) _ ((c .before .before .before .before .before .before .before .before .before .before .pre .1)) (c .before .before .before .before .put-header .ensures)
+genotype-gvcf-records-requires : tie.Need-genotype-gvcf-records-requires
+genotype-gvcf-records-requires c κs = writing ((c .before .before .before .before .before .before .before .before .before .before .pre .0)) _ ((c .before .before .before .before .before .before .before .before .before .before .pre .1)) (c .before .before .before .before .put-header .ensures)
 
 same-length : tie.Need-same-length
 same-length c = search needs
@@ -21,7 +21,7 @@ same-length-2 : tie.Need-same-length-2
 same-length-2 c = search needs
 
 returns : tie.Need-returns
-returns c = λ m exact. list-written m _ ((c .before .before .before .before .before .before .before .before .before .before .before .before .before .before .before .pre .1)) (c .before .before .before .before .before .before .before .before .before .put-header .ensures) _ (c .before .before .before .before .walk-records .ensures) exact
+returns c = λ m exact. list-written m _ ((c .before .before .before .before .before .before .before .before .before .before .before .before .before .before .before .pre .1)) (c .before .before .before .before .before .before .before .before .before .put-header .ensures) _ (c .before .before .before .before .genotype-gvcf-records .ensures) exact
 
 pub write-list-spec : {M : Type 1} → statement M
 write-list-spec =
@@ -29,7 +29,7 @@ write-list-spec =
     (tie.spec
     cast-put-header
     put-header-requires
-    walk-records-requires
+    genotype-gvcf-records-requires
     same-length
     same-length-2
     returns)

@@ -25,6 +25,12 @@ enum-told-2 c = search needs
 enum-told-3 : tie.Need-enum-told-3
 enum-told-3 c = search needs
 
+get-requires : tie.Need-get-requires
+get-requires c κs = search needs
+
+get-requires-2 : tie.Need-get-requires-2
+get-requires-2 c κs = search needs
+
 enum-told-4 : tie.Need-enum-told-4
 enum-told-4 c = search needs
 
@@ -34,7 +40,7 @@ returns-2 c = rw ((c .before .before .before .before .before .previous .given .1
 
 returns-3 : tie.Need-returns-3
 unfolding byOrder
-returns-3 c = rw ((c .before .before .before .before .before .previous .given .1), ← (c .before .before .before .part .ensures), ← (c .before .before .compare-bytes .ensures), (c .enum-told3 .given .1))
+returns-3 c = rw ((c .before .before .before .before .before .before .before .previous .given .1), ← (c .before .before .before .before .before .part .ensures), ← (c .before .before .before .before .compare-bytes .ensures), (c .before .before .enum-told3 .given .1), (c .before .get .ensures), (c .get2 .ensures))
 
 returns-4 : tie.Need-returns-4
 unfolding byOrder
@@ -51,6 +57,8 @@ comes-after-spec =
     compare-bytes-requires
     enum-told-2
     enum-told-3
+    get-requires
+    get-requires-2
     enum-told-4
     returns-2
     returns-3

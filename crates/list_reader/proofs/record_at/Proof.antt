@@ -23,14 +23,14 @@ same-length c = search needs
 
 returns : tie.Need-returns
 unfolding RecordFound RecordRead
-returns c = rw ((c .before .found .given .1)) at ((c .before .before .before .before .before .read-record .ensures))
+returns c = rw (c .before .found .given .1) at (c .before .before .before .before .before .read-record .ensures)
 
 same-length-2 : tie.Need-same-length-2
 same-length-2 c = search needs
 
 returns-2 : tie.Need-returns-2
 unfolding RecordFound RecordRead
-returns-2 c = record { value = rw ((c .before .before .before .before .before .found2 .given .1)) at ((c .before .before .before .before .before .before .before .before .before .read-record .ensures)); cleared = ((c .before .before .clear .ensures)) ∙ scratch-same _ _ ((c .before .before .before .before .before .before .before .before .before .read-record .kept .1 .1 .1 .1 .0)) }
+returns-2 c = record { value = rw (c .before .before .before .before .before .found2 .given .1) at (c .before .before .before .before .before .before .before .before .before .read-record .ensures); cleared = (c .before .before .clear .ensures) ∙ scratch-same _ _ (c .before .before .before .before .before .before .before .before .before .read-record .kept .1 .1 .1 .1 .0) }
 
 pub record-at-spec : {M : Type 1} → statement M
 record-at-spec =

@@ -45,14 +45,11 @@ returns-2 : tie.Need-returns-2
 unfolding keyOf text
 returns-2 c = pos-wrong _ _ _ _ ((rw (c .before .before .before .before .before .name .given .1) at (c .before .before .before .before .before .before .before .name-line .ensures)) .0) (rw (c .enum-told2 .given .1) at (c .before .before .number-line .ensures))
 
-add-code-line : tie.Need-add-code-line
-add-code-line c = let h = line-within _ _ _ number _ _ (rw (c .before .first .given .1) at (c .before .before .before .number-line .ensures)) in omega arith
+add-end-line : tie.Need-add-end-line
+add-end-line c = let h = line-within _ _ _ number _ _ (rw (c .before .first .given .1) at (c .before .before .before .number-line .ensures)) in omega arith
 
-slice-aggregate-code-line : tie.Need-slice-aggregate-code-line
-slice-aggregate-code-line c = search needs
-
-code-line-requires : tie.Need-code-line-requires
-code-line-requires c κs = search needs
+end-line-requires : tie.Need-end-line-requires
+end-line-requires c κs = search needs
 
 enum-known-last : tie.Need-enum-known-last
 enum-known-last c = search needs
@@ -62,10 +59,10 @@ enum-told-3 c = search needs
 
 returns-3 : tie.Need-returns-3
 unfolding keyOf text
-returns-3 c = end-wrong _ _ _ _ ((rw (c .before .before .before .before .before .before .before .before .before .before .name .given .1) at (c .before .before .before .before .before .before .before .before .before .before .before .before .name-line .ensures)) .0) _ _ (rw (c .before .before .before .before .before .first .given .1) at (c .before .before .before .before .before .before .before .number-line .ensures)) (rw (c .enum-told3 .given .1) at (c .before .before .code-line .ensures))
+returns-3 c = end-wrong _ _ _ _ ((rw (c .before .before .before .before .before .before .before .before .before .name .given .1) at (c .before .before .before .before .before .before .before .before .before .before .before .name-line .ensures)) .0) _ _ (rw (c .before .before .before .before .first .given .1) at (c .before .before .before .before .before .before .number-line .ensures)) (rw (c .enum-told3 .given .1) at (c .before .before .end-line .ensures))
 
 add-value-line : tie.Need-add-value-line
-add-value-line c = let h = line-within _ _ _ (orMissing number) _ _ (rw (c .before .last .given .1) at (c .before .before .before .code-line .ensures)) in omega arith
+add-value-line c = let h = line-within _ _ _ (orMissing number) _ _ (rw (c .before .last .given .1) at (c .before .before .before .end-line .ensures)) in omega arith
 
 slice-aggregate-value-line : tie.Need-slice-aggregate-value-line
 slice-aggregate-value-line c = search needs
@@ -81,7 +78,7 @@ enum-told-4 c = search needs
 
 returns-4 : tie.Need-returns-4
 unfolding keyOf text
-returns-4 c = ref-wrong _ _ _ _ ((rw (c .before .before .before .before .before .before .before .before .before .before .before .before .before .before .before .name .given .1) at (c .before .before .before .before .before .before .before .before .before .before .before .before .before .before .before .before .before .name-line .ensures)) .0) _ _ (rw (c .before .before .before .before .before .before .before .before .before .before .first .given .1) at (c .before .before .before .before .before .before .before .before .before .before .before .before .number-line .ensures)) _ _ (rw (c .before .before .before .before .before .last .given .1) at (c .before .before .before .before .before .before .before .code-line .ensures))
+returns-4 c = ref-wrong _ _ _ _ ((rw (c .before .before .before .before .before .before .before .before .before .before .before .before .before .before .name .given .1) at (c .before .before .before .before .before .before .before .before .before .before .before .before .before .before .before .before .name-line .ensures)) .0) _ _ (rw (c .before .before .before .before .before .before .before .before .before .first .given .1) at (c .before .before .before .before .before .before .before .before .before .before .before .number-line .ensures)) (c .before .before .before .before .before .last .given .0 .0) _ (rw (c .before .before .before .before .before .last .given .1) at (c .before .before .before .before .before .before .before .end-line .ensures))
     ((rw (c .enum-told4 .given .1) at (c .before .before .value-line .ensures)) .0)
 
 add-value-line-2 : tie.Need-add-value-line-2
@@ -101,16 +98,22 @@ enum-told-5 c = search needs
 
 returns-5 : tie.Need-returns-5
 unfolding keyOf text
-returns-5 c = alt-wrong _ _ _ _ ((rw (c .before .before .before .before .before .before .before .before .before .before .before .before .before .before .before .before .before .before .before .before .name .given .1) at (c .before .before .before .before .before .before .before .before .before .before .before .before .before .before .before .before .before .before .before .before .before .before .name-line .ensures)) .0) _ _ (rw (c .before .before .before .before .before .before .before .before .before .before .before .before .before .before .before .first .given .1) at (c .before .before .before .before .before .before .before .before .before .before .before .before .before .before .before .before .before .number-line .ensures)) _ _ (rw (c .before .before .before .before .before .before .before .before .before .before .last .given .1) at (c .before .before .before .before .before .before .before .before .before .before .before .before .code-line .ensures))
+returns-5 c = alt-wrong _ _ _ _ ((rw (c .before .before .before .before .before .before .before .before .before .before .before .before .before .before .before .before .before .before .before .name .given .1) at (c .before .before .before .before .before .before .before .before .before .before .before .before .before .before .before .before .before .before .before .before .before .name-line .ensures)) .0) _ _ (rw (c .before .before .before .before .before .before .before .before .before .before .before .before .before .before .first .given .1) at (c .before .before .before .before .before .before .before .before .before .before .before .before .before .before .before .before .number-line .ensures)) (c .before .before .before .before .before .before .before .before .before .before .last .given .0 .0) _ (rw (c .before .before .before .before .before .before .before .before .before .before .last .given .1) at (c .before .before .before .before .before .before .before .before .before .before .before .before .end-line .ensures))
     _ _ ((rw (c .before .before .before .before .before .reference .given .1) at (c .before .before .before .before .before .before .before .value-line .ensures)) .0) ((rw (c .enum-told5 .given .1) at (c .before .before .value-line2 .ensures)) .0)
 
 add-next : tie.Need-add-next
-add-next c = let h = line-within _ _ _ some _ _ ((rw (c .before .alternate .given .1) at (c .before .before .before .value-line2 .ensures)) .0) in omega (arith, h, (c .before .before .before .before .before .before .before .before .before .before .before .before .before .before .before .before .before .before .before .before .before .before .before .before .before .before .good))
+add-next c = let h = line-within _ _ _ some _ _ ((rw (c .before .alternate .given .1) at (c .before .before .before .value-line2 .ensures)) .0) in omega (arith, h, (c .before .before .before .before .before .before .before .before .before .before .before .before .before .before .before .before .before .before .before .before .before .before .before .before .before .good))
+
+cast-new-1based : tie.Need-cast-new-1based
+cast-new-1based c = search needs
+
+new-1based-requires : tie.Need-new-1based-requires
+new-1based-requires c κs = search needs
 
 returns-6 : tie.Need-returns-6
 unfolding keyOf text
-returns-6 c = head-read _ _ _ _ ((rw (c .before .before .before .before .before .before .before .before .before .before .before .before .before .before .before .before .before .before .before .before .before .name .given .1) at (c .before .before .before .before .before .before .before .before .before .before .before .before .before .before .before .before .before .before .before .before .before .before .before .name-line .ensures)) .0) _ _ (rw (c .before .before .before .before .before .before .before .before .before .before .before .before .before .before .before .before .first .given .1) at (c .before .before .before .before .before .before .before .before .before .before .before .before .before .before .before .before .before .before .number-line .ensures)) _ _ (rw (c .before .before .before .before .before .before .before .before .before .before .before .last .given .1) at (c .before .before .before .before .before .before .before .before .before .before .before .before .before .code-line .ensures))
-    _ _ ((rw (c .before .before .before .before .before .before .reference .given .1) at (c .before .before .before .before .before .before .before .before .value-line .ensures)) .0) _ _ ((rw (c .before .alternate .given .1) at (c .before .before .before .value-line2 .ensures)) .0)
+returns-6 c = head-read _ _ _ _ ((rw (c .before .before .before .before .before .before .before .before .before .before .before .before .before .before .before .before .before .before .before .before .before .name .given .1) at (c .before .before .before .before .before .before .before .before .before .before .before .before .before .before .before .before .before .before .before .before .before .before .before .name-line .ensures)) .0) _ _ (rw (c .before .before .before .before .before .before .before .before .before .before .before .before .before .before .before .before .first .given .1) at (c .before .before .before .before .before .before .before .before .before .before .before .before .before .before .before .before .before .before .number-line .ensures)) (c .before .before .before .before .before .before .before .before .before .before .before .before .last .given .0 .0) _ (rw (c .before .before .before .before .before .before .before .before .before .before .before .before .last .given .1) at (c .before .before .before .before .before .before .before .before .before .before .before .before .before .before .end-line .ensures))
+    _ _ ((rw (c .before .before .before .before .before .before .before .reference .given .1) at (c .before .before .before .before .before .before .before .before .before .value-line .ensures)) .0) _ _ ((rw (c .before .before .alternate .given .1) at (c .before .before .before .before .value-line2 .ensures)) .0) (c .new-1based .ensures)
 
 pub record-head-spec : {M : Type 1} → statement M
 record-head-spec =
@@ -127,9 +130,8 @@ record-head-spec =
     enum-known-first
     enum-told-2
     returns-2
-    add-code-line
-    slice-aggregate-code-line
-    code-line-requires
+    add-end-line
+    end-line-requires
     enum-known-last
     enum-told-3
     returns-3
@@ -146,4 +148,6 @@ record-head-spec =
     enum-told-5
     returns-5
     add-next
+    cast-new-1based
+    new-1based-requires
     returns-6)

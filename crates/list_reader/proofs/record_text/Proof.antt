@@ -33,9 +33,12 @@ part-requires c κs = search needs
 count-fields-requires : tie.Need-count-fields-requires Inv-loop μ-loop
 count-fields-requires c κs = search needs
 
+new-requires : tie.Need-new-requires Inv-loop μ-loop
+new-requires c κs = search needs
+
 loop-holds : tie.Need-loop-holds Inv-loop μ-loop
 unfolding HeadRead
-loop-holds c = reading-start _ _ _ _ _ (rw (c .before .before .before .before .before .first .given .1) at (c .before .before .before .before .before .before .before .record-head .ensures))
+loop-holds c = reading-start _ _ _ _ _ (rw (c .before .before .before .before .before .before .before .first .given .1) at (c .before .before .before .before .before .before .before .before .before .record-head .ensures))
 
 sample-lines-requires : tie.Need-sample-lines-requires Inv-loop μ-loop
 sample-lines-requires c κs = search needs
@@ -51,11 +54,11 @@ same-length c = (c .before .before .before .before .loop .inv .long)
 
 returns-2 : tie.Need-returns-2 Inv-loop μ-loop
 unfolding HeadRead TextRead comma
-returns-2 c = sample-wrong _ _ _ _ _ _ _ _ _ _ (c .before .before .before .before .loop .inv) (c .before .before .before .loop-test .taken) _ (rw (c .before .before .before .before .before .before .part .ensures) at (c .before .before .before .before .before .count-fields .ensures))
-    (rw (c .before .before .before .before .before .before .before .before .before .before .first .given .1) at (c .before .before .before .before .before .before .before .before .before .before .before .before .record-head .ensures)) (rw (c .enum-told2 .given .1) at (c .before .before .sample-lines .ensures))
+returns-2 c = sample-wrong _ _ _ _ _ _ _ _ _ _ (c .before .before .before .before .loop .inv) (c .before .before .before .loop-test .taken) _ (rw (c .before .before .before .before .before .before .before .before .part .ensures) at (c .before .before .before .before .before .before .before .count-fields .ensures))
+    (rw (c .before .before .before .before .before .before .before .before .before .before .before .before .first .given .1) at (c .before .before .before .before .before .before .before .before .before .before .before .before .before .before .record-head .ensures)) (rw (c .enum-told2 .given .1) at (c .before .before .sample-lines .ensures))
 
 put-site-requires : tie.Need-put-site-requires Inv-loop μ-loop
-put-site-requires c κs = search needs
+put-site-requires c κs = omega (arith, (c .before .before .before .before .before .before .before .before .before .before .before .before .before .before .before .before .before .before .before .pre), (c .before .before .before .before .before .before .loop .inv .long), (c .before .before .before .before .before .loop-test .taken))
 
 some-pl-requires : tie.Need-some-pl-requires Inv-loop μ-loop
 some-pl-requires c κs = search needs
@@ -64,22 +67,22 @@ counts-fit-requires : tie.Need-counts-fit-requires Inv-loop μ-loop
 counts-fit-requires c κs = search needs
 
 add-i : tie.Need-add-i Inv-loop μ-loop
-add-i c = omega (arith, (c .before .before .before .before .before .before .before .before .before .before .loop-test .taken), (c .before .before .before .before .before .before .before .before .before .before .before .before .before .before .before .before .before .before .before .before .before .before .fits .samples))
+add-i c = omega (arith, (c .before .before .before .before .before .before .before .before .before .before .loop-test .taken), (c .before .before .before .before .before .before .before .before .before .before .before .before .before .before .before .before .before .before .before .before .before .before .before .before .fits .samples))
 
 loop-less : tie.Need-loop-less Inv-loop μ-loop
 loop-less c = search needs
 
 loop-again : tie.Need-loop-again Inv-loop μ-loop
 unfolding SampleRead comma
-loop-again c = sample-next _ _ _ _ _ _ _ _ _ _ (c .before .before .before .before .before .before .before .before .before .before .before .loop .inv) (c .before .before .before .before .before .before .before .before .before .before .loop-test .taken) _ (rw (c .before .before .before .before .before .before .before .before .before .before .before .before .before .part .ensures) at (c .before .before .before .before .before .before .before .before .before .before .before .before .count-fields .ensures))
-    _ (rw (c .before .before .before .before .before .before .before .lines .given .1) at (c .before .before .before .before .before .before .before .before .before .sample-lines .ensures)) (c .before .before .before .before .before .before .before .before .before .before .before .before .before .before .before .before .before .before .before .before .before .before .pre) _ (c .before .before .before .before .put-site .kept .0) (c .before .before .before .before .put-site .ensures) _ _ (c .before .some-pl .ensures) (c .counts-fit .ensures)
+loop-again c = sample-next _ _ _ _ _ _ _ _ _ _ (c .before .before .before .before .before .before .before .before .before .before .before .loop .inv) (c .before .before .before .before .before .before .before .before .before .before .loop-test .taken) _ (rw (c .before .before .before .before .before .before .before .before .before .before .before .before .before .before .before .part .ensures) at (c .before .before .before .before .before .before .before .before .before .before .before .before .before .before .count-fields .ensures))
+    _ (rw (c .before .before .before .before .before .before .before .lines .given .1) at (c .before .before .before .before .before .before .before .before .before .sample-lines .ensures)) (c .before .before .before .before .before .before .before .before .before .before .before .before .before .before .before .before .before .before .before .before .before .before .before .before .pre) (record { sample = _; contig = _; start = _; end = _; next = 0 }) _ (c .before .before .before .before .put-site .kept .0) (c .before .before .before .before .put-site .ensures) _ _ (c .before .some-pl .ensures) (c .counts-fit .ensures)
 
 same-length-2 : tie.Need-same-length-2 Inv-loop μ-loop
 same-length-2 c = search needs
 
 returns-3 : tie.Need-returns-3 Inv-loop μ-loop
 unfolding HeadRead TextRead
-returns-3 c = samples-end _ _ _ _ _ _ _ _ _ _ (c .before .loop .inv) (rw (c .before .before .before .before .before .before .before .first .given .1) at (c .before .before .before .before .before .before .before .before .before .record-head .ensures)) (c .loop-test .left)
+returns-3 c = samples-end _ _ _ _ _ _ _ _ _ _ (c .before .loop .inv) (rw (c .before .before .before .before .before .before .before .before .before .first .given .1) at (c .before .before .before .before .before .before .before .before .before .before .before .record-head .ensures)) (c .loop-test .left)
 
 pub record-text-spec : {M : Type 1} → statement M
 record-text-spec =
@@ -93,6 +96,7 @@ record-text-spec =
     returns
     part-requires
     count-fields-requires
+    new-requires
     loop-holds
     sample-lines-requires
     enum-known-lines

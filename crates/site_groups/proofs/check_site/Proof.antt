@@ -11,17 +11,23 @@ use Rattle.site_groups.proofs.check_site.Tie as tie
 returns : tie.Need-returns
 returns c = too-many _ (c .before .before .args .place) (c .before .before .args .alleles) (c .before .before .args .values) (c .before .before .args .samples) (c .before .before .args .before) (c .if1 .taken)
 
-cast-if2 : tie.Need-cast-if2
-cast-if2 c = search needs
+get-requires : tie.Need-get-requires
+get-requires c κs = search needs
 
 returns-2 : tie.Need-returns-2
-returns-2 c = no-sample _ (c .before .before .before .before .args .place) (c .before .before .before .before .args .alleles) (c .before .before .before .before .args .values) (c .before .before .before .before .args .samples) (c .before .before .before .before .args .before) (omega arith) (c .if2 .taken)
+returns-2 c = no-sample _ (c .before .before .before .before .args .place) (c .before .before .before .before .args .alleles) (c .before .before .before .before .args .values) (c .before .before .before .before .args .samples) (c .before .before .before .before .args .before) (omega arith) (omega arith)
+
+get-requires-2 : tie.Need-get-requires-2
+get-requires-2 c κs = search needs
 
 returns-3 : tie.Need-returns-3
-returns-3 c = position-0 _ (c .before .before .before .before .before .before .args .place) (c .before .before .before .before .before .before .args .alleles) (c .before .before .before .before .before .before .args .values) (c .before .before .before .before .before .before .args .samples) (c .before .before .before .before .before .before .args .before) (omega arith) (omega arith) (c .if3 .taken)
+returns-3 c = position-0 _ (c .before .before .before .before .before .before .args .place) (c .before .before .before .before .before .before .args .alleles) (c .before .before .before .before .before .before .args .values) (c .before .before .before .before .before .before .args .samples) (c .before .before .before .before .before .before .args .before) (omega arith) (omega arith) (omega arith)
+
+get-requires-3 : tie.Need-get-requires-3
+get-requires-3 c κs = search needs
 
 returns-4 : tie.Need-returns-4
-returns-4 c = end-before _ (c .before .before .before .before .before .before .before .before .args .place) (c .before .before .before .before .before .before .before .before .args .alleles) (c .before .before .before .before .before .before .before .before .args .values) (c .before .before .before .before .before .before .before .before .args .samples) (c .before .before .before .before .before .before .before .before .args .before) (omega arith) (omega arith) (omega arith) (c .if4 .taken)
+returns-4 c = end-before _ (c .before .before .before .before .before .before .before .before .args .place) (c .before .before .before .before .before .before .before .before .args .alleles) (c .before .before .before .before .before .before .before .before .args .values) (c .before .before .before .before .before .before .before .before .args .samples) (c .before .before .before .before .before .before .before .before .args .before) (omega arith) (omega arith) (omega arith) (omega arith)
 
 part-requires : tie.Need-part-requires
 part-requires c κs = search needs
@@ -40,15 +46,12 @@ enum-told c = search needs
 
 returns-5 : tie.Need-returns-5
 unfolding AllelesFound
-returns-5 c = allele-faulty _ (c .before .before .before .before .before .before .before .before .before .before .before .before .before .args .place) (c .before .before .before .before .before .before .before .before .before .before .before .before .before .args .alleles) (c .before .before .before .before .before .before .before .before .before .before .before .before .before .args .values) (c .before .before .before .before .before .before .before .before .before .before .before .before .before .args .samples) (c .before .before .before .before .before .before .before .before .before .before .before .before .before .args .before) (omega arith) (omega arith) (omega arith) (omega arith) (rw ((c .before .before .before .before .part .ensures), (c .before .before .before .part2 .ensures), (c .enum-told .given .1)) at ((c .before .before .check-alleles .ensures)))
+returns-5 c = allele-faulty _ (c .before .before .before .before .before .before .before .before .before .before .before .before .before .args .place) (c .before .before .before .before .before .before .before .before .before .before .before .before .before .args .alleles) (c .before .before .before .before .before .before .before .before .before .before .before .before .before .args .values) (c .before .before .before .before .before .before .before .before .before .before .before .before .before .args .samples) (c .before .before .before .before .before .before .before .before .before .before .before .before .before .args .before) (omega arith) (omega arith) (omega arith) (omega arith) (rw ((c .before .before .before .before .part .ensures), (c .before .before .before .part2 .ensures), (c .enum-told .given .1)) at (c .before .before .check-alleles .ensures))
 
 returns-6 : tie.Need-returns-6
 unfolding AllelesFound
-returns-6 c = let r = rw ((c .before .before .before .before .before .before .part .ensures), (c .before .before .before .before .before .part2 .ensures), (c .before .before .read .given .1)) at ((c .before .before .before .before .check-alleles .ensures)) in
+returns-6 c = let r = rw ((c .before .before .before .before .before .before .part .ensures), (c .before .before .before .before .before .part2 .ensures), (c .before .before .read .given .1)) at (c .before .before .before .before .check-alleles .ensures) in
     no-non-ref _ (c .before .before .before .before .before .before .before .before .before .before .before .before .before .before .before .args .place) (c .before .before .before .before .before .before .before .before .before .before .before .before .before .before .before .args .alleles) (c .before .before .before .before .before .before .before .before .before .before .before .before .before .before .before .args .values) (c .before .before .before .before .before .before .before .before .before .before .before .before .before .before .before .args .samples) (c .before .before .before .before .before .before .before .before .before .before .before .before .before .before .before .args .before) (omega arith) (omega arith) (omega arith) (omega arith) _ _ r (not-true _ (c .if5 .taken))
-
-cast-positions : tie.Need-cast-positions
-cast-positions c = search needs
 
 add-positions : tie.Need-add-positions
 add-positions c = search needs
@@ -58,12 +61,12 @@ end-fits-requires c κs = search needs
 
 returns-7 : tie.Need-returns-7
 unfolding AllelesFound
-returns-7 c = let r = rw ((c .before .before .before .before .before .before .before .before .before .part .ensures), (c .before .before .before .before .before .before .before .before .part2 .ensures), (c .before .before .before .before .before .read .given .1)) at ((c .before .before .before .before .before .before .before .check-alleles .ensures)) in
-    end-wrong _ (c .before .before .before .before .before .before .before .before .before .before .before .before .before .before .before .before .before .before .args .place) (c .before .before .before .before .before .before .before .before .before .before .before .before .before .before .before .before .before .before .args .alleles) (c .before .before .before .before .before .before .before .before .before .before .before .before .before .before .before .before .before .before .args .values) (c .before .before .before .before .before .before .before .before .before .before .before .before .before .before .before .before .before .before .args .samples) (c .before .before .before .before .before .before .before .before .before .before .before .before .before .before .before .before .before .before .args .before) (omega arith) (omega arith) (omega arith) (omega arith) _ _ r (not-false _ (c .before .before .before .if5 .left)) (rw ((c .before .before .before .before .before .before .before .before .before .part .ensures)) at (sym ((c .before .end-fits .ensures)) ∙ not-true _ (c .if6 .taken)))
+returns-7 c = let r = rw ((c .before .before .before .before .before .before .before .before .part .ensures), (c .before .before .before .before .before .before .before .part2 .ensures), (c .before .before .before .before .read .given .1)) at (c .before .before .before .before .before .before .check-alleles .ensures) in
+    end-wrong _ (c .before .before .before .before .before .before .before .before .before .before .before .before .before .before .before .before .before .args .place) (c .before .before .before .before .before .before .before .before .before .before .before .before .before .before .before .before .before .args .alleles) (c .before .before .before .before .before .before .before .before .before .before .before .before .before .before .before .before .before .args .values) (c .before .before .before .before .before .before .before .before .before .before .before .before .before .before .before .before .before .args .samples) (c .before .before .before .before .before .before .before .before .before .before .before .before .before .before .before .before .before .args .before) (omega arith) (omega arith) (omega arith) (omega arith) _ _ r (not-false _ (c .before .before .if5 .left)) (rw ((c .before .before .before .before .before .before .before .before .part .ensures), (c .before .before .before .before .before .before .before .before .before .before .before .before .get2 .ensures), (c .before .before .before .before .before .before .before .before .before .before .get3 .ensures)) at (sym (c .before .end-fits .ensures) ∙ not-true _ (c .if6 .taken)))
 
 cast-counts-fit : tie.Need-cast-counts-fit
 unfolding AllelesFound
-cast-counts-fit c = let r = rw ((c .before .before .before .before .before .before .before .before .before .part .ensures), (c .before .before .before .before .before .before .before .before .part2 .ensures), (c .before .before .before .before .before .read .given .1)) at ((c .before .before .before .before .before .before .before .check-alleles .ensures)) in
+cast-counts-fit c = let r = rw ((c .before .before .before .before .before .before .before .before .part .ensures), (c .before .before .before .before .before .before .before .part2 .ensures), (c .before .before .before .before .read .given .1)) at (c .before .before .before .before .before .before .check-alleles .ensures) in
     let h = r .few in omega arith
 
 counts-fit-requires : tie.Need-counts-fit-requires
@@ -71,22 +74,24 @@ counts-fit-requires c κs = search needs
 
 returns-8 : tie.Need-returns-8
 unfolding AllelesFound
-returns-8 c = let r = rw ((c .before .before .before .before .before .before .before .before .before .before .before .part .ensures), (c .before .before .before .before .before .before .before .before .before .before .part2 .ensures), (c .before .before .before .before .before .before .before .read .given .1)) at ((c .before .before .before .before .before .before .before .before .before .check-alleles .ensures)) in
-    counts-wrong _ (c .before .before .before .before .before .before .before .before .before .before .before .before .before .before .before .before .before .before .before .before .args .place) (c .before .before .before .before .before .before .before .before .before .before .before .before .before .before .before .before .before .before .before .before .args .alleles) (c .before .before .before .before .before .before .before .before .before .before .before .before .before .before .before .before .before .before .before .before .args .values) (c .before .before .before .before .before .before .before .before .before .before .before .before .before .before .before .before .before .before .before .before .args .samples) (c .before .before .before .before .before .before .before .before .before .before .before .before .before .before .before .before .before .before .before .before .args .before) (omega arith) (omega arith) (omega arith) (omega arith) _ _ r (not-false _ (c .before .before .before .before .before .if5 .left)) (rw ((c .before .before .before .before .before .before .before .before .before .before .before .part .ensures)) at (sym ((c .before .before .before .end-fits .ensures)) ∙ not-false _ (c .before .before .if6 .left))) (sym ((c .before .counts-fit .ensures)) ∙ not-true _ (c .if7 .taken))
+returns-8 c = let r = rw ((c .before .before .before .before .before .before .before .before .before .before .part .ensures), (c .before .before .before .before .before .before .before .before .before .part2 .ensures), (c .before .before .before .before .before .before .read .given .1)) at (c .before .before .before .before .before .before .before .before .check-alleles .ensures) in
+    counts-wrong _ (c .before .before .before .before .before .before .before .before .before .before .before .before .before .before .before .before .before .before .before .args .place) (c .before .before .before .before .before .before .before .before .before .before .before .before .before .before .before .before .before .before .before .args .alleles) (c .before .before .before .before .before .before .before .before .before .before .before .before .before .before .before .before .before .before .before .args .values) (c .before .before .before .before .before .before .before .before .before .before .before .before .before .before .before .before .before .before .before .args .samples) (c .before .before .before .before .before .before .before .before .before .before .before .before .before .before .before .before .before .before .before .args .before) (omega arith) (omega arith) (omega arith) (omega arith) _ _ r (not-false _ (c .before .before .before .before .if5 .left)) (rw ((c .before .before .before .before .before .before .before .before .before .before .part .ensures), (c .before .before .before .before .before .before .before .before .before .before .before .before .before .before .get2 .ensures), (c .before .before .before .before .before .before .before .before .before .before .before .before .get3 .ensures)) at (sym (c .before .before .before .end-fits .ensures) ∙ not-false _ (c .before .before .if6 .left))) (sym (c .before .counts-fit .ensures) ∙ not-true _ (c .if7 .taken))
 
 returns-9 : tie.Need-returns-9
 unfolding AllelesFound
-returns-9 c = let r = rw ((c .before .before .before .before .before .before .before .before .before .before .before .part .ensures), (c .before .before .before .before .before .before .before .before .before .before .part2 .ensures), (c .before .before .before .before .before .before .before .read .given .1)) at ((c .before .before .before .before .before .before .before .before .before .check-alleles .ensures)) in
-    site-right _ (c .before .before .before .before .before .before .before .before .before .before .before .before .before .before .before .before .before .before .before .before .args .place) (c .before .before .before .before .before .before .before .before .before .before .before .before .before .before .before .before .before .before .before .before .args .alleles) (c .before .before .before .before .before .before .before .before .before .before .before .before .before .before .before .before .before .before .before .before .args .values) (c .before .before .before .before .before .before .before .before .before .before .before .before .before .before .before .before .before .before .before .before .args .samples) (c .before .before .before .before .before .before .before .before .before .before .before .before .before .before .before .before .before .before .before .before .args .before) (omega arith) (omega arith) (omega arith) (omega arith) _ _ r (not-false _ (c .before .before .before .before .before .if5 .left)) (rw ((c .before .before .before .before .before .before .before .before .before .before .before .part .ensures)) at (sym ((c .before .before .before .end-fits .ensures)) ∙ not-false _ (c .before .before .if6 .left))) (sym ((c .before .counts-fit .ensures)) ∙ not-false _ (c .if7 .left))
+returns-9 c = let r = rw ((c .before .before .before .before .before .before .before .before .before .before .part .ensures), (c .before .before .before .before .before .before .before .before .before .part2 .ensures), (c .before .before .before .before .before .before .read .given .1)) at (c .before .before .before .before .before .before .before .before .check-alleles .ensures) in
+    site-right _ (c .before .before .before .before .before .before .before .before .before .before .before .before .before .before .before .before .before .before .before .args .place) (c .before .before .before .before .before .before .before .before .before .before .before .before .before .before .before .before .before .before .before .args .alleles) (c .before .before .before .before .before .before .before .before .before .before .before .before .before .before .before .before .before .before .before .args .values) (c .before .before .before .before .before .before .before .before .before .before .before .before .before .before .before .before .before .before .before .args .samples) (c .before .before .before .before .before .before .before .before .before .before .before .before .before .before .before .before .before .before .before .args .before) (omega arith) (omega arith) (omega arith) (omega arith) _ _ r (not-false _ (c .before .before .before .before .if5 .left)) (rw ((c .before .before .before .before .before .before .before .before .before .before .part .ensures), (c .before .before .before .before .before .before .before .before .before .before .before .before .before .before .get2 .ensures), (c .before .before .before .before .before .before .before .before .before .before .before .before .get3 .ensures)) at (sym (c .before .before .before .end-fits .ensures) ∙ not-false _ (c .before .before .if6 .left))) (sym (c .before .counts-fit .ensures) ∙ not-false _ (c .if7 .left))
 
 pub check-site-spec : {M : Type 1} → statement M
 check-site-spec =
     tie.close
     (tie.spec
     returns
-    cast-if2
+    get-requires
     returns-2
+    get-requires-2
     returns-3
+    get-requires-3
     returns-4
     part-requires
     part-requires-2
@@ -95,7 +100,6 @@ check-site-spec =
     enum-told
     returns-5
     returns-6
-    cast-positions
     add-positions
     end-fits-requires
     returns-7

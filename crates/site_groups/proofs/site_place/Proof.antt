@@ -1,11 +1,11 @@
 -- One line after the other, each behind the one before it.
 use borrow.Author.Needs.{needs}
 use native.Mathlib.Omega.{arith}
-use Rattle.site_groups.proofs.SiteLines.{contig-wrong, end-wrong, place-read, site-wrong, start-wrong}
 use Rattle.definitions.specs.Bytes.{text}
 use Rattle.definitions.specs.Lines.{keyOf}
 use Rattle.definitions.specs.Numbers.{name, number}
 use Rattle.kv_text.proofs.Lines.{line-within}
+use Rattle.site_groups.proofs.SiteLines.{contig-wrong, end-wrong, place-read, site-wrong, start-wrong}
 use Rattle.site_groups.proofs.site_place.Statement.{statement}
 use Rattle.site_groups.proofs.site_place.Tie as tie
 
@@ -86,14 +86,32 @@ returns-4 c = let contig = rw (c .before .before .before .before .before .before
     end-wrong _ _ _ _ (rw (c .before .before .before .before .before .before .before .before .before .before .before .before .before .before .before .site .given .1) at (c .before .before .before .before .before .before .before .before .before .before .before .before .before .before .before .before .before .number-line .ensures)) _ _ (contig .0) (contig .1)
     _ _ (rw (c .before .before .before .before .before .from .given .1) at (c .before .before .before .before .before .before .before .number-line2 .ensures)) (rw (c .enum-told4 .given .1) at (c .before .before .number-line3 .ensures))
 
-add-t21 : tie.Need-add-t21
-add-t21 c = let h = line-within _ _ _ number _ _ (rw (c .before .to .given .1) at (c .before .before .before .number-line3 .ensures)) in omega arith
+cast-new : tie.Need-cast-new
+cast-new c = search needs
+
+new-requires : tie.Need-new-requires
+new-requires c κs = search needs
+
+cast-new-1based : tie.Need-cast-new-1based
+cast-new-1based c = search needs
+
+new-1based-requires : tie.Need-new-1based-requires
+new-1based-requires c κs = search needs
+
+cast-new-1based-2 : tie.Need-cast-new-1based-2
+cast-new-1based-2 c = search needs
+
+new-1based-requires-2 : tie.Need-new-1based-requires-2
+new-1based-requires-2 c κs = search needs
+
+add-t34 : tie.Need-add-t34
+add-t34 c = let h = line-within _ _ _ number _ _ (rw (c .before .before .before .before .to .given .1) at (c .before .before .before .before .before .before .number-line3 .ensures)) in omega (arith, h, (c .before .before .before .before .before .before .before .before .before .before .before .before .before .before .before .before .before .before .before .before .before .before .before .before .good))
 
 returns-5 : tie.Need-returns-5
 unfolding keyOf text
-returns-5 c = let contig = rw (c .before .before .before .before .before .before .before .before .before .before .before .contig .given .1) at (c .before .before .before .before .before .before .before .before .before .before .before .before .before .name-line .ensures) in
-    place-read _ _ _ _ (rw (c .before .before .before .before .before .before .before .before .before .before .before .before .before .before .before .before .site .given .1) at (c .before .before .before .before .before .before .before .before .before .before .before .before .before .before .before .before .before .before .number-line .ensures)) _ _ (contig .0) (contig .1)
-    _ _ (rw (c .before .before .before .before .before .before .from .given .1) at (c .before .before .before .before .before .before .before .before .number-line2 .ensures)) _ _ (rw (c .before .to .given .1) at (c .before .before .before .number-line3 .ensures))
+returns-5 c = let contig = rw (c .before .before .before .before .before .before .before .before .before .before .before .before .before .before .contig .given .1) at (c .before .before .before .before .before .before .before .before .before .before .before .before .before .before .before .before .name-line .ensures) in
+    place-read _ _ _ _ (rw (c .before .before .before .before .before .before .before .before .before .before .before .before .before .before .before .before .before .before .before .site .given .1) at (c .before .before .before .before .before .before .before .before .before .before .before .before .before .before .before .before .before .before .before .before .before .number-line .ensures)) _ _ (contig .0) (contig .1)
+    _ _ (rw (c .before .before .before .before .before .before .before .before .before .from .given .1) at (c .before .before .before .before .before .before .before .before .before .before .before .number-line2 .ensures)) _ _ (rw (c .before .before .before .before .to .given .1) at (c .before .before .before .before .before .before .number-line3 .ensures)) (c .before .before .new .ensures) (c .before .new-1based .ensures) (c .new-1based2 .ensures)
 
 pub site-place-spec : {M : Type 1} → statement M
 site-place-spec =
@@ -122,5 +140,11 @@ site-place-spec =
     enum-known-to
     enum-told-4
     returns-4
-    add-t21
+    cast-new
+    new-requires
+    cast-new-1based
+    new-1based-requires
+    cast-new-1based-2
+    new-1based-requires-2
+    add-t34
     returns-5)

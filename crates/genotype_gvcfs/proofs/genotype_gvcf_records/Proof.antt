@@ -7,8 +7,8 @@ use native.Mathlib.Omega.{arith}
 use Rattle.genotype_gvcfs.proofs.Walking.{Going, going-end, going-next, going-past, going-refused, going-start, lay-ready}
 use Rattle.list_reader.specs.RecordGroups.{RecordRead}
 use Rattle.genotype_gvcfs.specs.Walk.{WalkReady}
-use Rattle.genotype_gvcfs.proofs.walk_records.Statement.{statement}
-use Rattle.genotype_gvcfs.proofs.walk_records.Tie as tie
+use Rattle.genotype_gvcfs.proofs.genotype_gvcf_records.Statement.{statement}
+use Rattle.genotype_gvcfs.proofs.genotype_gvcf_records.Tie as tie
 
 abbrev Inv-loop : tie.InvT-loop
 Inv-loop s at samples records rows₀ out₀ from next₀ read₀ previous₀ end₀ count₀ rows out next read previous end count =
@@ -40,12 +40,12 @@ returns c = λ ready. going-refused _ _ _ _ ready ((c .before .before .before .b
 enum-known-found-2 : tie.Need-enum-known-found-2 Inv-loop μ-loop
 enum-known-found-2 c = search needs
 
-lay-called-requires : tie.Need-lay-called-requires Inv-loop μ-loop
+genotype-one-record-requires : tie.Need-genotype-one-record-requires Inv-loop μ-loop
 unfolding RecordRead
-lay-called-requires c κs = lay-ready _ _ _ _ (c .before .before .before .before .before .before .before .before .before .before .before .before .before .before .pre) ((c .before .before .before .before .before .before .before .before .before .before .loop .inv .3) (c .before .before .before .before .before .before .before .before .before .before .before .before .before .before .pre)) (c .before .before .before .before .before .before .before .before .before .loop-test .taken) (rw ((c .before .before .before .found2 .given .1)) at (c .before .before .before .before .before .before .before .record-at .ensures))
+genotype-one-record-requires c κs = lay-ready _ _ _ _ (c .before .before .before .before .before .before .before .before .before .before .before .before .before .before .pre) ((c .before .before .before .before .before .before .before .before .before .before .loop .inv .3) (c .before .before .before .before .before .before .before .before .before .before .before .before .before .before .pre)) (c .before .before .before .before .before .before .before .before .before .loop-test .taken) (rw ((c .before .before .before .found2 .given .1)) at (c .before .before .before .before .before .before .before .record-at .ensures))
 
-last-position-requires : tie.Need-last-position-requires Inv-loop μ-loop
-last-position-requires c κs = search needs
+record-end-requires : tie.Need-record-end-requires Inv-loop μ-loop
+record-end-requires c κs = search needs
 
 add-read : tie.Need-add-read Inv-loop μ-loop
 add-read c = omega (arith, (c .before .before .before .before .before .before .before .before .before .before .before .before .before .before .loop-test .taken), (c .before .before .before .before .before .before .before .before .before .before .before .before .before .before .before .before .before .before .before .good .1 .1 .1 .0))
@@ -55,7 +55,7 @@ loop-less c = search needs
 
 loop-again : tie.Need-loop-again Inv-loop μ-loop
 unfolding RecordRead
-loop-again c = ((c .before .before .before .before .before .before .before .before .before .before .before .before .record-at .kept .1 .1 .1 .1 .0) ∙ (c .before .before .before .before .before .before .before .before .before .before .before .before .before .before .before .loop .inv .0), (c .before .before .before .before .lay-called .kept .1 .1 .1 .1 .0) ∙ (c .before .before .before .before .before .before .before .before .before .before .before .before .before .before .before .loop .inv .1), omega (arith, (c .before .before .before .before .before .before .before .before .before .before .before .before .before .before .loop-test .taken)), λ ready. going-next _ _ _ _ ready ((c .before .before .before .before .before .before .before .before .before .before .before .before .before .before .before .loop .inv .3) ready) (c .before .before .before .before .before .before .before .before .before .before .before .before .before .before .loop-test .taken) (rw ((c .before .before .before .before .before .before .before .before .found2 .given .1)) at (c .before .before .before .before .before .before .before .before .before .before .before .before .record-at .ensures)) (c .before .last-position .ensures) (c .before .before .before .before .lay-called .ensures))
+loop-again c = ((c .before .before .before .before .before .before .before .before .before .before .before .before .record-at .kept .1 .1 .1 .1 .0) ∙ (c .before .before .before .before .before .before .before .before .before .before .before .before .before .before .before .loop .inv .0), (c .before .before .before .before .genotype-one-record .kept .1 .1 .1 .1 .0) ∙ (c .before .before .before .before .before .before .before .before .before .before .before .before .before .before .before .loop .inv .1), omega (arith, (c .before .before .before .before .before .before .before .before .before .before .before .before .before .before .loop-test .taken)), λ ready. going-next _ _ _ _ ready ((c .before .before .before .before .before .before .before .before .before .before .before .before .before .before .before .loop .inv .3) ready) (c .before .before .before .before .before .before .before .before .before .before .before .before .before .before .loop-test .taken) (rw ((c .before .before .before .before .before .before .before .before .found2 .given .1)) at (c .before .before .before .before .before .before .before .before .before .before .before .before .record-at .ensures)) (c .before .record-end .ensures) (c .before .before .before .before .genotype-one-record .ensures))
 
 same-length-3 : tie.Need-same-length-3 Inv-loop μ-loop
 same-length-3 c = (c .before .before .loop .inv .0)
@@ -75,8 +75,8 @@ same-length-6 c = (c .before .before .loop .inv .1)
 returns-3 : tie.Need-returns-3 Inv-loop μ-loop
 returns-3 c = λ ready. going-end _ _ _ _ ready ((c .before .before .loop .inv .3) ready) (c .before .loop-test .left) (c .before .before .loop .inv .2) (c .if1 .left)
 
-pub walk-records-spec : {M : Type 1} → statement M
-walk-records-spec =
+pub genotype-gvcf-records-spec : {M : Type 1} → statement M
+genotype-gvcf-records-spec =
     tie.close
     (tie.spec
     Inv-loop
@@ -88,8 +88,8 @@ walk-records-spec =
     same-length-2
     returns
     enum-known-found-2
-    lay-called-requires
-    last-position-requires
+    genotype-one-record-requires
+    record-end-requires
     add-read
     loop-less
     loop-again

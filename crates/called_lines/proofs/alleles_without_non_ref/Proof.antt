@@ -8,8 +8,8 @@ use Rattle.called_lines.proofs.Alts.{AltsLeft, alts-done, alts-next, al
 use Rattle.definitions.specs.Bytes.{text}
 use Rattle.kv_text.proofs.Fields.{field-within}
 use Rattle.kv_write.proofs.Laying.{left-length}
-use Rattle.called_lines.proofs.put_alts.Statement.{statement}
-use Rattle.called_lines.proofs.put_alts.Tie as tie
+use Rattle.called_lines.proofs.alleles_without_non_ref.Statement.{statement}
+use Rattle.called_lines.proofs.alleles_without_non_ref.Tie as tie
 
 abbrev Inv-loop : tie.InvT-loop
 Inv-loop out₀ at alts next₀ others₀ from₀ t9 out next others from = AltsLeft alts out₀ at out next others from
@@ -71,8 +71,8 @@ loop-again : tie.Need-loop-again Inv-loop μ-loop
 unfolding text
 loop-again c = alts-next _ ((c .before .before .before .before .before .before .before .before .before .before .before .loop .inv)) ((c .before .before .before .before .before .before .before .before .before .before .field-end .ensures)) ((c .before .before .before .before .before .before .before .same-bytes .ensures)) ((c .before .before .before .before .put-alt .ensures)) (omega arith) ((c .before .any-laid .ensures))
 
-pub put-alts-spec : {M : Type 1} → statement M
-put-alts-spec =
+pub alleles-without-non-ref-spec : {M : Type 1} → statement M
+alleles-without-non-ref-spec =
     tie.close
     (tie.spec
     Inv-loop

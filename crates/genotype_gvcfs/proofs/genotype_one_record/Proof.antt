@@ -3,8 +3,8 @@ use borrow.Author.Needs.{needs}
 use borrow.Author.Tests.{not-false, not-true}
 use mathlib.Core.Path.{_∙_, sym}
 use Rattle.genotype_gvcfs.proofs.LaidRecord.{by-numbers, laid-none, laid-one, record-fits}
-use Rattle.genotype_gvcfs.proofs.lay_called.Statement.{statement}
-use Rattle.genotype_gvcfs.proofs.lay_called.Tie as tie
+use Rattle.genotype_gvcfs.proofs.genotype_one_record.Statement.{statement}
+use Rattle.genotype_gvcfs.proofs.genotype_one_record.Tie as tie
 
 is-called-requires : tie.Need-is-called-requires
 is-called-requires c κs = search needs
@@ -36,8 +36,8 @@ same-length c = search needs
 returns-2 : tie.Need-returns-2
 returns-2 c = λ ready. rw ((c .before .cap .ensures), (c .count-more .ensures)) (laid-one ready (by-numbers ready ∙ sym (c .before .before .before .before .before .before .before .before .before .before .is-called .ensures) ∙ not-false _ (c .before .before .before .before .before .before .before .before .before .if1 .left)) (rw ((c .before .before .before .before .before .before .before .before .part .ensures), (c .before .before .before .before .before .before .before .part2 .ensures), (c .before .before .before .before .before .before .part3 .ensures)) at (c .before .before .before .before .put-called-record .ensures)))
 
-pub lay-called-spec : {M : Type 1} → statement M
-lay-called-spec =
+pub genotype-one-record-spec : {M : Type 1} → statement M
+genotype-one-record-spec =
     tie.close
     (tie.spec
     is-called-requires
