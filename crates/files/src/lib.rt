@@ -1,6 +1,14 @@
-// What the programs share: reading a file of the working folder whole, and printing the list that a call gave, or `refused=` and the number.
-ghost use Prim.Native.Nat.{_≤_};
-ghost use lib.ListN.{length};
+// What the programs share: reading a file of the working folder whole, and the bytes that they print: the list that a call gave, or `refused=`
+// and the number.
+ghost use mathlib.Core.Path.{_≡_};
+ghost use Prim.Native.Nat.{_+_, _<_, _≤_, _^_};
+ghost use lib.ListN.{length, take};
+ghost use Rattle.definitions.specs.Answers.{printedAnswer};
+ghost use Rattle.definitions.specs.Checked.{refused};
+ghost use Rattle.definitions.specs.Numbers.{decimal};
+ghost use Rattle.files.specs.FileTexts.{Below, hasFailed, hasText, textLength, tooLong};
+ghost use Rattle.files.specs.Printing.{Printed, writtenValues};
+ghost use Rattle.kv_write.specs.Laid.{Laid};
 use answers::Outcome;
 use libc::ENOENT;
 use libc::STDOUT_FILENO;
@@ -23,7 +31,9 @@ fn read_behind(fd: i32, buffer: &mut [u8], count: usize) -> isize
 }
 
 // Reads an open file to its end. It must end before the buffer does.
-fn read_to_end(fd: i32, name: &[u8], buffer: &mut [u8]) -> FileRead {
+fn read_to_end(fd: i32, name: &[u8], buffer: &mut [u8]) -> FileRead
+    ensures { λ r. ⌜ Below (length (now (buffer .entry))) r ⌝ }
+{
     let mut count = 0;
     while count < buffer.len() {
         let got = read_behind(fd, buffer, count);
@@ -42,7 +52,9 @@ fn read_to_end(fd: i32, name: &[u8], buffer: &mut [u8]) -> FileRead {
 
 // Reads the file with this name, which must have fewer bytes than the buffer. One that is there and can't be read gets a line on
 // standard error.
-pub fn read_file(name: &[u8], buffer: &mut [u8]) -> FileRead {
+pub fn read_file(name: &[u8], buffer: &mut [u8]) -> FileRead
+    ensures { λ r. ⌜ Below (length (now (buffer .entry))) r ⌝ }
+{
     let fd = os::open_read(name);
     if fd < 0 {
         if os::errno() == ENOENT {
@@ -56,53 +68,107 @@ pub fn read_file(name: &[u8], buffer: &mut [u8]) -> FileRead {
     read
 }
 
-pub fn is_failed(read: FileRead) -> bool {
+pub fn is_failed(read: FileRead) -> bool
+    ensures { λ r. ⌜ r ≡ hasFailed read ⌝ }
+{
     match read {
+        FileRead::Text(_) => false,
+        FileRead::Absent => false,
+        FileRead::TooLong => false,
         FileRead::Failed => true,
-        _ => false,
     }
 }
 
-pub fn is_too_long(read: FileRead) -> bool {
+pub fn is_too_long(read: FileRead) -> bool
+    ensures { λ r. ⌜ r ≡ tooLong read ⌝ }
+{
     match read {
+        FileRead::Text(_) => false,
+        FileRead::Absent => false,
         FileRead::TooLong => true,
-        _ => false,
+        FileRead::Failed => false,
     }
 }
 
 // Whether there is a text.
-pub fn is_text(read: FileRead) -> bool {
+pub fn is_text(read: FileRead) -> bool
+    ensures { λ r. ⌜ r ≡ hasText read ⌝ }
+{
     match read {
         FileRead::Text(_) => true,
-        _ => false,
+        FileRead::Absent => false,
+        FileRead::TooLong => false,
+        FileRead::Failed => false,
+    }
+}
+
+// How many bytes the text has, 0 without one.
+fn text_length(read: FileRead) -> usize
+    ensures { λ r. ⌜ r ≡ textLength read ⌝ }
+{
+    match read {
+        FileRead::Text(count) => count,
+        FileRead::Absent => 0,
+        FileRead::TooLong => 0,
+        FileRead::Failed => 0,
     }
 }
 
 // The text that was read into a buffer, or an empty one.
-pub fn text<'a>(read: FileRead, buffer: &'a [u8]) -> &'a [u8] {
-    match read {
-        FileRead::Text(count) => tables::part(buffer, 0, count),
-        _ => tables::part(buffer, 0, 0),
-    }
+pub fn text<'a>(read: FileRead, buffer: &'a [u8]) -> &'a [u8]
+    ensures { λ r. ⌜ now r ≡ take (textLength read) (now (buffer .entry)) ⌝ }
+{
+    let count = text_length(read);
+    tables::part(buffer, 0, count)
 }
 
-// ---- the answer
+// ---- what is printed
 
-// Writes the list, or the refusal. The answer is whether all of it was written.
-fn write_outcome(outcome: Outcome, list: &[u8]) -> bool {
+// Lays a number of any size in decimal digits.
+fn put_decimal(out: &mut [u8], at: usize, n: usize) -> usize
+    requires { ⌜ at + length (decimal n) < 2 ^ 64 ⌝ }
+    ensures { λ r. ⌜ Laid (now (out .entry)) at (decimal n) (now (out .exit)) r ⌝ }
+{
+    if n < 10 {
+        return kv_write::put_byte(out, at, 48 + n as u8);
+    }
+    let next = put_decimal(out, at, n / 10);
+    kv_write::put_byte(out, next, 48 + (n % 10) as u8)
+}
+
+// Lays `refused=`, the number and LF over the start of a buffer, as far as they fit.
+fn put_refusal(out: &mut [u8], number: usize) -> usize
+    ensures { λ r. ⌜ Laid (now (out .entry)) 0 (printedAnswer (refused number)) (now (out .exit)) r ⌝ }
+{
+    let behind_key = kv_write::put_bytes(out, 0, b"refused=");
+    let behind_number = put_decimal(out, behind_key, number);
+    kv_write::put_byte(out, behind_number, b'\n')
+}
+
+// So many bytes, or all that the buffer has.
+fn count_within(buffer: &[u8], count: usize) -> usize
+    ensures { λ r. ⌜ r ≡ length (take count (now (buffer .entry))) ⌝ }
+{
+    if buffer.len() < count {
+        return buffer.len();
+    }
+    count
+}
+
+// Makes what a program prints, in the buffer that a call wrote its list to: the list, or the refusal over its start. The answer is how many
+// bytes that is.
+pub fn put_answer(outcome: Outcome, list: &mut [u8; 65536]) -> usize
+    ensures { λ r. ⌜ Printed (printedAnswer (writtenValues outcome (now (list .entry)))) (now (list .entry)) (now (list .exit)) r ⌝ }
+{
     match outcome {
-        Outcome::Written(count) => io::write_all(STDOUT_FILENO, tables::part(list, 0, count)),
-        Outcome::Refused(number) => {
-            io::write_all(STDOUT_FILENO, b"refused=")
-                && io::print_decimal(STDOUT_FILENO, number as u64)
-                && io::write_all(STDOUT_FILENO, b"\n")
-        }
+        Outcome::Written(count) => count_within(list, count),
+        Outcome::Refused(number) => put_refusal(list, number),
     }
 }
 
-// Prints what a call answered, with the output that it wrote: the list, or the refusal.
-pub fn print_outcome(outcome: Outcome, list: &[u8]) {
-    if !write_outcome(outcome, list) {
+// Writes the first bytes of a program's buffer to standard output.
+pub fn print_first(list: &[u8; 65536], count: usize) {
+    if !io::write_all(STDOUT_FILENO, tables::part(list, 0, count)) {
         os::fail(b"standard output");
     }
 }

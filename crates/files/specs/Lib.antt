@@ -1,0 +1,2 @@
+pub mod FileTexts
+pub mod Printing
