@@ -57,11 +57,11 @@ written-count (outcome.Refused row) e = ap (λ (a : Answer). a .written) e
 pub exported-list : {texts : Texts} {scratch scratch′ out out′ : List ℕ} {r : Outcome} {number written : ℕ}
     → Combined texts scratch scratch′ out out′ r → outcomeNumbers r ≡ answer number written
     → ExportedList texts scratch scratch′ out out′ number written
-exported-list {texts = texts} {scratch = scratch} {out = out} c e =
+exported-list {texts = texts} {scratch = scratch} {out = out} {r = r} c e =
     record {
       choose = c .choose;
       choice = c .choice;
-      exported = exported (list-numbered texts (length scratch) (length out) (c .choose)) (record { answer = c .answer; output = c .output }) e;
+      exported = exported {r = r} (list-numbered texts (length scratch) (length out) (c .choose)) (record { answer = c .answer; output = c .output }) e;
       cleared = c .cleared;
     }
 

@@ -1,14 +1,16 @@
 -- Every refusal of the definitions has a row's number, never 0.
 -- Assumes nothing.
-use Prim.Native.Nat.{_≤_, ℕ}
+use Prim.Native.Nat.{_≤_, suc, ℕ}
 use Prim.Native.String.{String}
+use lib.Dec.{eqb}
 use lib.Ieee.{Float}
 use lib.ListN.{length}
 use mathlib.Core.Bool.{Bool, cond, false, true}
 use mathlib.Core.List.{List, [], _∷_, flatten, map}
 use mathlib.Core.Option.{Option, none, some}
 use native.Mathlib.Omega.{arith}
-use Rattle.definitions.specs.AlleleSubset.{likelihoodSubset, subsetTo, unusedAltSubset, unusedAltSubsetWithin}
+use Rattle.definitions.specs.AlleleSubset.{alleleCountFits, altFields, assignedAlleles, likelihoodSubset, subsetTo, unusedAltSubset, unusedAltSubsetWithin}
+use Rattle.definitions.specs.Bytes.{comma, fieldsOf}
 use Rattle.definitions.specs.CalledList.{calledList}
 use Rattle.definitions.specs.Checked.{Checked, _>>=_, _>>_, accepted, inOrder, orRefuse, readEach, refused, refusedAs, require, within}
 use Rattle.definitions.specs.ClipAndReference.{LetterChoice, ReferenceSegment, optionalGroups, segmentOf, spanOf}
@@ -17,7 +19,7 @@ use Rattle.definitions.specs.CombinedList.{Input, Texts, combinedList, combined
 use Rattle.definitions.specs.Intervals.{Interval, contigsOf}
 use Rattle.definitions.specs.Lines.{Line, lineAt}
 use Rattle.definitions.specs.ListReader.{listRead, recordRead, sampleDataRead, writtenList}
-use Rattle.definitions.specs.Lists.{anyOf, filterBy}
+use Rattle.definitions.specs.Lists.{anyOf, filterBy, numbersFrom}
 use Rattle.definitions.specs.MergedRef.{mergedRef, refLetter, sharedRef, siteRef, startsAt}
 use Rattle.definitions.specs.Printed.{printedList}
 use Rattle.definitions.specs.Records.{Record, coalesceBlocks, recordOf}
@@ -168,13 +170,17 @@ data-numbered group n sample =
     then-numbered (line-numbered group _ "dp" _) λ _. then-numbered (line-numbered group _ "ad" _) λ _.
     then-numbered (line-numbered group _ "pl" _) λ _. well _
 
+alts-data-numbered : (group : List Line) (alt : List ℕ) (samples : ℕ)
+    → Numbered (inOrder (map (sampleDataRead group (suc (length (fieldsOf comma alt)))) (numbersFrom 0 samples)))
+alts-data-numbered group alt samples = order-numbered _ (data-numbered group (suc (length (fieldsOf comma alt)))) (numbersFrom 0 samples)
+
 read-numbered : (samples records : ℕ) (before : List Record) (group : List Line) → Numbered (recordRead samples records before group)
 unfolding recordRead
 read-numbered samples records before group =
     required-numbered 1 _ (omega arith) (then-numbered (line-numbered group 0 "contig" _) λ _.
     then-numbered (line-numbered group 1 "pos" _) λ _. then-numbered (line-numbered group 2 "end" _) λ _.
-    then-numbered (line-numbered group 3 "ref" _) λ _. then-numbered (line-numbered group 4 "alt" _) λ _.
-    then-numbered (order-numbered _ (data-numbered group _) _) λ _. required-numbered 4 _ (omega arith)
+    then-numbered (line-numbered group 3 "ref" _) λ _. then-numbered (line-numbered group 4 "alt" _) λ alt.
+    then-numbered (alts-data-numbered group alt samples) λ _. required-numbered 4 _ (omega arith)
     (then-numbered (or-numbered 5 _ (omega arith)) λ _. required-numbered 6 _ (omega arith) (required-numbered 7 _ (omega arith)
     (required-numbered 8 _ (omega arith) (well _)))))
 
@@ -205,8 +211,13 @@ to-numbered : (keep : List ℕ) (alts : List (List ℕ)) (gl : List Float) (ad :
 unfolding subsetTo
 to-numbered keep alts gl ad = required-numbered 15 _ (omega arith) (well _)
 
+made-numbered : (alts gt : List ℕ) (gl : List Float) (ad : List ℕ) → Numbered (unusedAltSubset alts gt gl ad)
+unfolding unusedAltSubset
+made-numbered alts gt gl ad =
+    let n = suc (length (altFields alts)) in
+    let keep = assignedAlleles n gt in
+    required-numbered 15 (alleleCountFits n) (omega arith) (either-numbered (eqb (length keep) n) (well _) (to-numbered keep (altFields alts) gl ad))
+
 pub unused-numbered : (alts gt : List ℕ) (gl : List Float) (ad : List ℕ) (a b d : ℕ) → Numbered (unusedAltSubsetWithin alts gt gl ad a b d)
-unfolding unusedAltSubsetWithin unusedAltSubset
-unused-numbered alts gt gl ad a b d =
-    then-numbered (required-numbered 15 _ (omega arith) (either-numbered _ (well _) (to-numbered _ _ gl ad))) λ s.
-    required-numbered 14 _ (omega arith) (well s)
+unfolding unusedAltSubsetWithin
+unused-numbered alts gt gl ad a b d = then-numbered (made-numbered alts gt gl ad) λ s. required-numbered 14 _ (omega arith) (well s)
