@@ -17,7 +17,7 @@ use Rattle.demands.proofs.TwoCallsOfCombine.{two-calls}
 -- so many values are written where the first number is 0
 zero-written : (values : Checked (List ℕ)) {n : ℕ} → true ≡ isAccepted values → answer 0 n ≡ answerOf values → accepted n ≡ writtenOf values
 unfolding isAccepted answerOf writtenOf
-zero-written (refused row) t e = clash t refl
+zero-written (refused row) t e = clash refl t
 zero-written (accepted list) t e = ap {B = Checked ℕ} accepted (ap (λ (a : Answer). a .written) e)
 
 as-written : {t : Texts} {scratch scratch′ out out′ : List ℕ} {n : ℕ} → ExportedList t scratch scratch′ out out′ 0 n

@@ -16,9 +16,10 @@ same-length c = search needs
 
 returns : tie.Need-returns
 returns c =
-    let at-values = c .before .before .before .before in
-    (exported (within-numbered _ _) (at-values .log10-likelihoods-from-pl .ensures .0) (c .give .ensures),
-    rw (written-count (at-values .log10-likelihoods-from-pl .result) (c .give .ensures)) at (at-values .log10-likelihoods-from-pl .ensures .1))
+    let at-values = c .before .before .before .before in (
+      exported (within-numbered _ _) (at-values .log10-likelihoods-from-pl .ensures .0) (c .give .ensures),
+      rw (written-count (at-values .log10-likelihoods-from-pl .result) (c .give .ensures)) at (at-values .log10-likelihoods-from-pl .ensures .1),
+    )
 
 pub wintabol-log10-likelihoods-from-pl-spec : {M : Type 1} → statement M
 wintabol-log10-likelihoods-from-pl-spec =

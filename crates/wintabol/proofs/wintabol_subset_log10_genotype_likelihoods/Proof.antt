@@ -16,9 +16,10 @@ same-length c = search needs
 
 returns : tie.Need-returns
 returns c =
-    let at-subset = c .before .before .before .before in
-    (exported (subset-numbered _ _ _ _) (at-subset .subset-log10-genotype-likelihoods .ensures .0) (c .give .ensures),
-    rw (written-count (at-subset .subset-log10-genotype-likelihoods .result) (c .give .ensures)) at (at-subset .subset-log10-genotype-likelihoods .ensures .1))
+    let at-subset = c .before .before .before .before in (
+      exported (subset-numbered _ _ _ _) (at-subset .subset-log10-genotype-likelihoods .ensures .0) (c .give .ensures),
+      rw (written-count (at-subset .subset-log10-genotype-likelihoods .result) (c .give .ensures)) at (at-subset .subset-log10-genotype-likelihoods .ensures .1),
+    )
 
 pub wintabol-subset-log10-genotype-likelihoods-spec : {M : Type 1} → statement M
 wintabol-subset-log10-genotype-likelihoods-spec =

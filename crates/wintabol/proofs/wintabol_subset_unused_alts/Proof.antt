@@ -23,10 +23,11 @@ same-length-3 c = search needs
 
 returns : tie.Need-returns
 returns c =
-    let at-subset = c .before .before .before .before .before .before .before .before .before .before in
-    (exported-alts (unused-numbered _ _ _ _ _ _ _) (at-subset .subset-unused-alts-after-merged-genotyping .ensures .0) (c .give-alts .ensures),
-    rw (likelihood-count (at-subset .subset-unused-alts-after-merged-genotyping .result) (c .give-alts .ensures))
-    at (at-subset .subset-unused-alts-after-merged-genotyping .ensures .1))
+    let at-subset = c .before .before .before .before .before .before .before .before .before .before in (
+      exported-alts (unused-numbered _ _ _ _ _ _ _) (at-subset .subset-unused-alts-after-merged-genotyping .ensures .0) (c .give-alts .ensures),
+      rw (likelihood-count (at-subset .subset-unused-alts-after-merged-genotyping .result) (c .give-alts .ensures))
+          at (at-subset .subset-unused-alts-after-merged-genotyping .ensures .1),
+    )
 
 pub wintabol-subset-unused-alts-spec : {M : Type 1} → statement M
 wintabol-subset-unused-alts-spec =
