@@ -9,7 +9,7 @@ use mathlib.Core.Bool.{Bool, cond, false, true}
 use mathlib.Core.List.{List, [], _∷_, map}
 use mathlib.Core.Path.{_∙_, _≡_, ap, refl, sym}
 use native.Mathlib.Omega.{arith}
-use Rattle.allele_subsetting_pl.specs.Kept.{altWith, altsWith}
+use Rattle.allele_subsetting_pl.specs.KeepLists.{altWith, altsWith}
 use Rattle.definitions.specs.AlleleSubset.{altFields}
 use Rattle.definitions.specs.Bytes.{comma, fieldsOf, joinedBy}
 use Rattle.definitions.specs.Lists.{filterBy, numbersFrom, splitWhere, toFirst}

@@ -11,7 +11,7 @@ use mathlib.Core.Path.{_∙_, _≡_, refl}
 use native.Mathlib.Numerals.{add-one}
 use native.Mathlib.Omega.{arith}
 use Rattle.allele_subsetting_pl.proofs.Alts.{alts-length}
-use Rattle.allele_subsetting_pl.specs.Kept.{KeepList, altsWith, isAssigned, onlyAssigned}
+use Rattle.allele_subsetting_pl.specs.KeepLists.{KeepList, altsWith, isAssigned, onlyAssigned}
 use Rattle.allele_subsetting_pl.specs.UnusedAlts.{AssignedKeep}
 use Rattle.definitions.specs.AlleleSubset.{assignedAlleles}
 use Rattle.definitions.specs.Lists.{filterBy, numbersFrom}
@@ -76,5 +76,5 @@ module _ {alts keep : List ℕ} {n : ℕ} (k : AssignedKeep alts n keep) where
   pub keeps-ref : 1 ≤ length keep
   keeps-ref = rw (k .assigned, k .count, ref-first) (omega arith)
 
-  pub kept-alts-length : length (altsWith alts (tail keep)) ≤ length alts
-  kept-alts-length = rw (k .assigned, k .count, ref-first) (alts-length alts (isAssigned (k .gt)))
+  pub assigned-alts-length : length (altsWith alts (tail keep)) ≤ length alts
+  assigned-alts-length = rw (k .assigned, k .count, ref-first) (alts-length alts (isAssigned (k .gt)))

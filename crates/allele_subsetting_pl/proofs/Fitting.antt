@@ -9,7 +9,7 @@ use mathlib.Core.Bool.{and-false, false, true}
 use mathlib.Core.List.{List}
 use mathlib.Core.Path.{_≡_}
 use native.Mathlib.Omega.{arith}
-use Rattle.allele_subsetting_pl.specs.Kept.{KeepList}
+use Rattle.allele_subsetting_pl.specs.KeepLists.{KeepList}
 use Rattle.definitions.specs.AlleleSubset.{alleleCountFits, inRange, subsetFits}
 use Rattle.definitions.specs.Alleles.{genotypeCount}
 use Rattle.definitions.specs.Lists.{allOf}

@@ -7,7 +7,7 @@ use mathlib.Core.List.{List, map}
 use mathlib.Core.Option.{Option·getD, Option·map}
 use mathlib.Core.Path.{_∙_, _≡_, refl, sym}
 use native.Mathlib.Omega.{arith}
-use Rattle.allele_subsetting_pl.specs.Kept.{absentLikelihood}
+use Rattle.allele_subsetting_pl.specs.KeepLists.{absentLikelihood}
 use Rattle.definitions.specs.AlleleSubset.{lessGreatest}
 use Rattle.definitions.specs.Alleles.{genotypeCount}
 use Rattle.definitions.specs.Genotypes.{AllelePair, atMappedPairs, genotypeIndexAny, genotypePairs}

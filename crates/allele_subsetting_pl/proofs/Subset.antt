@@ -11,9 +11,10 @@ use mathlib.Core.Path.{_∙_, _≡_, ap, refl, sym}
 use native.Mathlib.Omega.{arith}
 use Rattle.allele_subsetting_pl.proofs.Fitting.{Fitting, fitting}
 use Rattle.allele_subsetting_pl.proofs.Picked.{less-length, picked-any, picked-every, picked-length}
-use Rattle.allele_subsetting_pl.specs.Kept.{absentLikelihood}
+use Rattle.allele_subsetting_pl.specs.KeepLists.{absentLikelihood}
 use Rattle.answers.proofs.Answers.{answered-refused, answered-written, is-within, not-within}
 use Rattle.answers.specs.Answered.{Answered}
+use Rattle.answers.specs.declared.Outcome.{Outcome}
 use Rattle.answers.specs.declared.Outcome.the-variants as outcome
 use Rattle.definitions.specs.AlleleSubset.{alleleCountFits, lessGreatest, likelihoodSubset, subsetFits, subsetLikelihoods}
 use Rattle.definitions.specs.Alleles.{genotypeCount}
@@ -24,7 +25,8 @@ use Rattle.laws.proofs.Checked.{accepted-same, after-required, not-required, re
 use Rattle.laws.proofs.Every.{Every}
 use Rattle.laws.proofs.Tests.{both, both-of}
 use Rattle.likelihoods.proofs.NoneAbove.{none-above}
-use Rattle.likelihoods.proofs.Order.{notAbove}
+use Rattle.likelihoods.proofs.Written.{NotAbove, written-none-above}
+use Rattle.likelihoods.specs.Written.{countOf, noneAbove}
 
 module _ (gl : List Float) (n : ℕ) (keep : List ℕ) where
   pub subset-length : length (subsetLikelihoods keep gl) ≡ genotypeCount (length keep)
@@ -37,15 +39,20 @@ module _ (gl : List Float) (n : ℕ) (keep : List ℕ) where
   subset-picked f = ap lessGreatest (picked-any absentLikelihood nan n keep gl (f .count) (f .alleles))
 
   -- none is above 0
-  pub likelihoods-not-above : Fitting gl n keep → Every (λ x. T (notAbove x)) (subsetLikelihoods keep gl)
+  pub likelihoods-not-above : Fitting gl n keep → Every NotAbove (subsetLikelihoods keep gl)
   unfolding subsetLikelihoods
   likelihoods-not-above f = none-above (atMappedPairs nan keep gl) (picked-every nan n keep (f .count) (f .alleles) (f .values))
 
-  pub subset-not-above : (room : ℕ) {values : List Float} → likelihoodSubset gl n keep room ≡ accepted values → Every (λ x. T (notAbove x)) values
+  pub subset-not-above : (room : ℕ) {values : List Float} → likelihoodSubset gl n keep room ≡ accepted values → Every NotAbove values
   unfolding likelihoodSubset within
   subset-not-above room e =
       after-required _ _ _ e λ t e. after-required _ _ _ e λ _ e.
       rw (← accepted-same e) (likelihoods-not-above (fitting gl n keep (both-of (alleleCountFits n) _ t .1)))
+
+  -- and so none of the values that a call wrote
+  pub with-none-above : {out out′ : List Float} {r : Outcome} → Answered (likelihoodSubset gl n keep (length out)) out out′ r
+      → Answered (likelihoodSubset gl n keep (length out)) out out′ r × (noneAbove (countOf r) out′ ≡ true)
+  with-none-above {out = out} {r = r} a = (a, written-none-above r a (λ list e. subset-not-above (length out) e))
 
   module _ {out : List Float} where
     pub count-refused : alleleCountFits n ≡ false → Answered (likelihoodSubset gl n keep (length out)) out out (outcome.Refused 15)

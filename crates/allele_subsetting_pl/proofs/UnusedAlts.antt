@@ -12,8 +12,8 @@ use mathlib.Core.Path.{_∙_, _≡_, ap, refl, sym}
 use native.Mathlib.Omega.{arith}
 use Rattle.allele_subsetting_pl.proofs.Fitting.{fitting}
 use Rattle.allele_subsetting_pl.proofs.Subset.{likelihoods-not-above, subset-length, subset-picked}
-use Rattle.allele_subsetting_pl.specs.Kept.{absentLikelihood, altWith, altsWith}
-use Rattle.allele_subsetting_pl.specs.UnusedAlts.{AssignedKeep, Outputs, UnusedAltsAnswered, listOf, outputs, subsetWithin, wholeRecord, writtenOf}
+use Rattle.allele_subsetting_pl.specs.KeepLists.{absentLikelihood, altWith, altsWith}
+use Rattle.allele_subsetting_pl.specs.UnusedAlts.{AssignedKeep, Outputs, UnusedAltsAnswered, everyAltAssigned, likelihoodCountOf, listOf, subsetNoneAbove, subsetWithin, wholeRecord, writtenOf}
 use Rattle.allele_subsetting_pl.specs.declared.UnusedAltOutcome.{UnusedAltOutcome}
 use Rattle.allele_subsetting_pl.specs.declared.UnusedAltOutcome.the-variants as outcome
 use Rattle.definitions.specs.AlleleSubset.{UnusedAltSubset, alleleCountFits, altFields, assignedAlleles, lessGreatest, subsetFits, subsetLikelihoods, subsetTo, unusedAltSubset, unusedAltSubsetWithin}
@@ -25,10 +25,11 @@ use Rattle.definitions.specs.Lists.{allOf}
 use Rattle.genotype_values.proofs.Mapped.{ad-length}
 use Rattle.kv_write.proofs.Laying.{sets-front}
 use Rattle.kv_write.specs.Laid.{Laid}
-use Rattle.laws.proofs.Checked.{accepted-same, after-required, not-required, required, then, then-refused}
+use Rattle.laws.proofs.Checked.{accepted-same, after-required, after-then, not-refused, not-required, required, then, then-refused}
 use Rattle.laws.proofs.Every.{Every}
-use Rattle.laws.proofs.Tests.{all-three, both, both-of}
-use Rattle.likelihoods.proofs.Order.{notAbove}
+use Rattle.laws.proofs.Tests.{all-three, both, both-of, or-left, or-right}
+use Rattle.likelihoods.proofs.Written.{NotAbove, none-above-front, none-above-none}
+use Rattle.likelihoods.specs.Written.{noneAbove}
 
 pub answered-refused : {subset : Checked UnusedAltSubset} {out : Outputs} {row : ℕ} → subset ≡ refused row → UnusedAltsAnswered subset out out (outcome.Refused row)
 unfolding writtenOf listOf outputAfter _>>=_
@@ -86,8 +87,8 @@ refused-within out e = then-refused _ _ e
 
 module _ (alts : List ℕ) {n : ℕ} (keep : List ℕ) (gl : List Float) (ad : List ℕ) (k : AssignedKeep alts n keep) where
   -- the lists that are written
-  pub keptRecord : UnusedAltSubset
-  keptRecord = record { alts = altsWith alts (tail keep); likelihoods = subsetLikelihoods keep gl; ad = remappedAd keep ad }
+  pub subsetRecord : UnusedAltSubset
+  subsetRecord = record { alts = altsWith alts (tail keep); likelihoods = subsetLikelihoods keep gl; ad = remappedAd keep ad }
 
   pub not-fitting : subsetFits gl n keep ≡ false → subsetTo keep (altFields alts) gl ad ≡ refused 15
   unfolding subsetTo
@@ -97,50 +98,89 @@ module _ (alts : List ℕ) {n : ℕ} (keep : List ℕ) (gl : List Float) (ad : L
   unfolding subsetTo
   without-ad h = not-required 15 _ _ (simp (h, and-false))
 
-  pub kept-record : subsetFits gl n keep ≡ true → allOf (λ a. ltb a (length ad)) keep ≡ true → subsetTo keep (altFields alts) gl ad ≡ accepted keptRecord
-  unfolding subsetTo keptRecord altsWith altWith
-  kept-record h t = required 15 _ _ (both {a = subsetFits gl (suc (length (altFields alts))) keep} (rw (← k .count) h) t) refl
+  pub subset-accepted : subsetFits gl n keep ≡ true → allOf (λ a. ltb a (length ad)) keep ≡ true → subsetTo keep (altFields alts) gl ad ≡ accepted subsetRecord
+  unfolding subsetTo subsetRecord altsWith altWith
+  subset-accepted h t = required 15 _ _ (both {a = subsetFits gl (suc (length (altFields alts))) keep} (rw (← k .count) h) t) refl
 
-  pub kept-alts-are : {out out′ : List ℕ} {r : ℕ} → Laid out 0 (altsWith alts (tail keep)) out′ r → out′ ≡ sets out 0 (keptRecord .alts)
-  unfolding keptRecord
-  kept-alts-are l = l .laid
+  pub alts-stored : {out out′ : List ℕ} {r : ℕ} → Laid out 0 (altsWith alts (tail keep)) out′ r → out′ ≡ sets out 0 (subsetRecord .alts)
+  unfolding subsetRecord
+  alts-stored l = l .laid
 
-  pub kept-likelihoods-are : (out : List Float) {out′ : List Float} → subsetFits gl n keep ≡ true
-      → out′ ≡ sets out 0 (lessGreatest (atMappedPairs absentLikelihood keep gl)) → out′ ≡ sets out 0 (keptRecord .likelihoods)
-  unfolding keptRecord
-  kept-likelihoods-are out h e = e ∙ ap (sets out 0) (subset-picked gl n keep (fitting gl n keep h))
+  pub likelihoods-stored : (out : List Float) {out′ : List Float} → subsetFits gl n keep ≡ true
+      → out′ ≡ sets out 0 (lessGreatest (atMappedPairs absentLikelihood keep gl)) → out′ ≡ sets out 0 (subsetRecord .likelihoods)
+  unfolding subsetRecord
+  likelihoods-stored out h e = e ∙ ap (sets out 0) (subset-picked gl n keep (fitting gl n keep h))
 
-  pub kept-ad-are : (out : List ℕ) {out′ : List ℕ} → out′ ≡ sets out 0 (remappedAd keep ad) → out′ ≡ sets out 0 (keptRecord .ad)
-  unfolding keptRecord
-  kept-ad-are out e = e
+  pub ad-stored : (out : List ℕ) {out′ : List ℕ} → out′ ≡ sets out 0 (remappedAd keep ad) → out′ ≡ sets out 0 (subsetRecord .ad)
+  unfolding subsetRecord
+  ad-stored out e = e
 
-  pub alts-measured : {r : ℕ} → r ≡ length (altsWith alts (tail keep)) → r ≡ length (keptRecord .alts)
-  unfolding keptRecord
+  pub alts-measured : {r : ℕ} → r ≡ length (altsWith alts (tail keep)) → r ≡ length (subsetRecord .alts)
+  unfolding subsetRecord
   alts-measured e = e
 
-  pub likelihoods-measured : {r : ℕ} → r ≡ genotypeCount (length keep) → r ≡ length (keptRecord .likelihoods)
-  unfolding keptRecord
+  pub likelihoods-measured : {r : ℕ} → r ≡ genotypeCount (length keep) → r ≡ length (subsetRecord .likelihoods)
+  unfolding subsetRecord
   likelihoods-measured e = e ∙ sym (subset-length gl n keep)
 
-  pub ad-measured : length keep ≡ length (keptRecord .ad)
-  unfolding keptRecord
+  pub ad-measured : length keep ≡ length (subsetRecord .ad)
+  unfolding subsetRecord
   ad-measured = sym (ad-length keep ad)
 
   -- the measured lengths have room
   pub measured-room : (out : Outputs) {a b : ℕ} {fits : Bool}
       → fits ≡ (leb a (length (out .alts)) && leb b (length (out .likelihoods)) && leb (length keep) (length (out .ad)))
       → a ≡ length (altsWith alts (tail keep)) → b ≡ genotypeCount (length keep)
-      → leb (length (keptRecord .alts)) (length (out .alts)) && leb (length (keptRecord .likelihoods)) (length (out .likelihoods))
-      && leb (length (keptRecord .ad)) (length (out .ad)) ≡ fits
+      → leb (length (subsetRecord .alts)) (length (out .alts)) && leb (length (subsetRecord .likelihoods)) (length (out .likelihoods))
+      && leb (length (subsetRecord .ad)) (length (out .ad)) ≡ fits
   measured-room out e p q = sym (rw (← alts-measured p, ← likelihoods-measured q, ← ad-measured) e)
 
 -- where a subset is made, none of its likelihoods is above 0
 pub subset-not-above : (keep : List ℕ) (alts : List (List ℕ)) (gl : List Float) (ad : List ℕ) {s : UnusedAltSubset} → subsetTo keep alts gl ad ≡ accepted s
-    → Every (λ x. T (notAbove x)) (s .likelihoods)
+    → Every NotAbove (s .likelihoods)
 unfolding subsetTo
 subset-not-above keep alts gl ad e =
     after-required _ _ _ e λ t e.
     rw (← accepted-same e) (likelihoods-not-above gl (suc (length alts)) keep (fitting gl (suc (length alts)) keep (both-of _ _ t .0)))
+
+module _ (alts gt : List ℕ) (gl : List Float) (ad : List ℕ) (assigned : everyAltAssigned alts gt ≡ false) where
+  made-not-above : {s : UnusedAltSubset} → unusedAltSubset alts gt gl ad ≡ accepted s → Every NotAbove (s .likelihoods)
+  unfolding unusedAltSubset
+  made-not-above e = after-required _ _ _ e λ _ e. subset-not-above _ _ _ _ (simp assigned at e)
+
+  within-not-above : (a b d : ℕ) {s : UnusedAltSubset} → unusedAltSubsetWithin alts gt gl ad a b d ≡ accepted s → Every NotAbove (s .likelihoods)
+  unfolding unusedAltSubsetWithin
+  within-not-above a b d e =
+      after-then _ _ e λ s made e. after-required _ _ _ e λ _ e. rw (← accepted-same e) (made-not-above made)
+
+  module _ (x y z : ℕ) {out out′ : Outputs} where
+    written-not-above : {a b d : ℕ} (v : Checked UnusedAltSubset) → unusedAltSubsetWithin alts gt gl ad x y z ≡ v
+        → UnusedAltsAnswered (unusedAltSubsetWithin alts gt gl ad x y z) out out′ (outcome.Written a b d) → noneAbove b (out′ .likelihoods) ≡ true
+    unfolding writtenOf listOf outputAfter _>>=_
+    written-not-above (refused row) e h = not-refused (sym (h .answer ∙ ap writtenOf e))
+    written-not-above (accepted s) e h =
+        let lengths = accepted-same (h .answer ∙ ap writtenOf e) in
+        rw (h .likelihoods ∙ ap (λ v. outputAfter (listOf (λ s. s .likelihoods) v) (out .likelihoods)) e)
+        (none-above-front (s .likelihoods) _ (ap (λ l. l .likelihoods) lengths) (within-not-above x y z e))
+
+    subset-none-above : (r : UnusedAltOutcome) → UnusedAltsAnswered (unusedAltSubsetWithin alts gt gl ad x y z) out out′ r
+        → noneAbove (likelihoodCountOf r) (out′ .likelihoods) ≡ true
+    subset-none-above (outcome.Refused row) h = none-above-none (out′ .likelihoods)
+    subset-none-above (outcome.Written a b d) h = written-not-above _ refl h
+
+-- what the call promises of its likelihoods
+module _ (alts gt : List ℕ) (gl : List Float) (ad : List ℕ) (out : Outputs) where
+  abbrev Promised : Outputs → UnusedAltOutcome → Type 0
+  Promised out′ r =
+      UnusedAltsAnswered (unusedAltSubsetWithin alts gt gl ad (length (out .alts)) (length (out .likelihoods)) (length (out .ad))) out out′ r
+
+  pub with-none-above : {out′ : Outputs} {r : UnusedAltOutcome} → Promised out′ r
+      → Promised out′ r × (subsetNoneAbove alts gt (likelihoodCountOf r) (out′ .likelihoods) ≡ true)
+  with-none-above {out′ = out′} {r = r} h = (h, go (everyAltAssigned alts gt) refl)
+    where
+      go : (v : Bool) → everyAltAssigned alts gt ≡ v → subsetNoneAbove alts gt (likelihoodCountOf r) (out′ .likelihoods) ≡ true
+      go true e = or-left (noneAbove (likelihoodCountOf r) (out′ .likelihoods)) e
+      go false e = or-right (everyAltAssigned alts gt) (subset-none-above alts gt gl ad e (length (out .alts)) (length (out .likelihoods)) (length (out .ad)) r h)
 
 -- ---- which of the two
 

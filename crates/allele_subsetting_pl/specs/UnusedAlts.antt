@@ -1,14 +1,15 @@
 -- What `subset_unused_alts_after_merged_genotyping` answers, as the definitions have it, and what its three outputs hold at the end.
 use Prim.Native.Nat.{_≤_, suc, ℕ}
-use lib.Dec.{leb}
+use lib.Dec.{eqb, leb}
 use lib.Ieee.{Float}
 use lib.ListN.{length}
-use mathlib.Core.Bool.{_&&_}
+use mathlib.Core.Bool.{Bool, _&&_, _||_}
 use mathlib.Core.List.{List}
 use mathlib.Core.Path.{_≡_}
 use Rattle.definitions.specs.AlleleSubset.{UnusedAltSubset, altFields, assignedAlleles}
 use Rattle.definitions.specs.Answers.{outputAfter}
 use Rattle.definitions.specs.Checked.{Checked, _>>=_, _>>_, accepted, refused, require}
+use Rattle.likelihoods.specs.Written.{noneAbove}
 use Rattle.allele_subsetting_pl.specs.declared.UnusedAltOutcome.{UnusedAltOutcome}
 use Rattle.allele_subsetting_pl.specs.declared.UnusedAltOutcome.the-variants as outcome
 
@@ -48,6 +49,19 @@ pub record UnusedAltsAnswered (subset : Checked UnusedAltSubset) (before after :
   pub alts : after .alts ≡ outputAfter (listOf (λ s. s .alts) subset) (before .alts)
   pub likelihoods : after .likelihoods ≡ outputAfter (listOf (λ s. s .likelihoods) subset) (before .likelihoods)
   pub ad : after .ad ≡ outputAfter (listOf (λ s. s .ad) subset) (before .ad)
+
+-- every ALT is assigned: the record is copied as it is, and no subset is made
+abbrev pub everyAltAssigned : List ℕ → List ℕ → Bool
+everyAltAssigned alts gt = let n = suc (length (altFields alts)) in eqb (length (assignedAlleles n gt)) n
+
+-- how many likelihoods a call wrote: none if it is refused
+abbrev pub likelihoodCountOf : UnusedAltOutcome → ℕ
+likelihoodCountOf (outcome.Written alts likelihoods ad) = likelihoods
+likelihoodCountOf (outcome.Refused row) = 0
+
+-- document 01, none above 0: of the likelihoods that a call wrote, where a subset is made
+abbrev pub subsetNoneAbove : List ℕ → List ℕ → ℕ → List Float → Bool
+subsetNoneAbove alts gt n likelihoods = everyAltAssigned alts gt || noneAbove n likelihoods
 
 -- row 14, last
 unfoldable pub subsetWithin : Checked UnusedAltSubset → Outputs → Checked UnusedAltSubset

@@ -14,8 +14,9 @@ ghost use Rattle.definitions.specs.Lists.{allOf};
 ghost use Rattle.answers.specs.Answered.{Answered};
 ghost use Rattle.genotype_values.specs.Values.{mappedPlace};
 ghost use Rattle.kv_write.specs.Laid.{Laid};
-ghost use Rattle.allele_subsetting_pl.specs.Kept.{KeepList, absentLikelihood, altWith, altsWith, isAssigned, onlyAssigned};
-ghost use Rattle.allele_subsetting_pl.specs.UnusedAlts.{AssignedKeep, UnusedAltsAnswered, outputs, subsetWithin, wholeRecord};
+ghost use Rattle.likelihoods.specs.Written.{countOf, noneAbove};
+ghost use Rattle.allele_subsetting_pl.specs.KeepLists.{KeepList, absentLikelihood, altWith, altsWith, isAssigned, onlyAssigned};
+ghost use Rattle.allele_subsetting_pl.specs.UnusedAlts.{AssignedKeep, UnusedAltsAnswered, likelihoodCountOf, outputs, subsetNoneAbove, subsetWithin, wholeRecord};
 use answers::Outcome;
 use genotype_values::MappedAt;
 use kv_text::FieldAt;
@@ -131,13 +132,13 @@ fn subset_likelihoods(gl: &[f64], keep: &[usize], out: &mut [f64])
     ensures { λ _. ⌜ now (out .exit) ≡ sets (now (out .entry)) 0
         (lessGreatest (atMappedPairs absentLikelihood (now (keep .entry)) (now (gl .entry)))) ⌝ }
 {
-    let kept = keep.len();
-    let count = num_genotype_likelihoods(kept);
+    let left = keep.len();
+    let count = num_genotype_likelihoods(left);
     let mut map = [0u8; 16];
     allele_map(keep, &mut map);
     let mut picked = [0.0f64; 136];
-    pick_likelihoods(&map[..kept], gl, &mut picked);
-    likelihoods::less_greatest(&picked[..count], out);
+    pick_likelihoods(&map[..left], gl, &mut picked);
+    likelihoods::scale_log_space_array_for_numerical_stability(&picked[..count], out);
 }
 
 // The likelihoods of the alleles of a keep list, in its order and with its repeats. Row 15, and 14 if the output is too short.
@@ -147,9 +148,10 @@ pub fn subset_log10_genotype_likelihoods(
     keep: &[usize],
     out: &mut [f64],
 ) -> Outcome
-    ensures { λ r. ⌜ Answered
+    ensures answered { λ r. ⌜ Answered
         (likelihoodSubset (now (gl .entry)) alleles (now (keep .entry)) (length (now (out .entry))))
         (now (out .entry)) (now (out .exit)) r ⌝ }
+    ensures none_above { λ r. ⌜ noneAbove (countOf r) (now (out .exit)) ≡ true ⌝ }
 {
     if !allele_count_fits(alleles) {
         return Outcome::Refused(15);
@@ -287,10 +289,10 @@ fn subset_ad(ad: &[u32], keep: &[usize], out: &mut [u32])
     requires { ⌜ KeepList (now keep) ⌝ }
     ensures { λ _. ⌜ now (out .exit) ≡ sets (now (out .entry)) 0 (remappedAd (now (keep .entry)) (now (ad .entry))) ⌝ }
 {
-    let kept = keep.len();
+    let left = keep.len();
     let mut map = [0u8; 16];
     allele_map(keep, &mut map);
-    genotype_values::remap_ad(&map[..kept], ad, out);
+    genotype_values::remap_ad(&map[..left], ad, out);
 }
 
 // Copies likelihoods as they are.
@@ -402,16 +404,16 @@ fn subset_record(
     if !all_below(keep, ad.len()) {
         return UnusedAltOutcome::Refused(15);
     }
-    let kept = keep.len();
+    let left = keep.len();
     let numbers = &keep[1..];
     let alts_len = alts_length(alts, numbers);
-    let gl_len = num_genotype_likelihoods(kept);
+    let gl_len = num_genotype_likelihoods(left);
     if !has_room(
         alts_len,
         alts_out.len(),
         gl_len,
         gl_out.len(),
-        kept,
+        left,
         ad_out.len(),
     ) {
         return UnusedAltOutcome::Refused(14);
@@ -419,7 +421,7 @@ fn subset_record(
     put_alts(alts_out, alts, numbers);
     subset_likelihoods(gl, keep, gl_out);
     subset_ad(ad, keep, ad_out);
-    UnusedAltOutcome::Written(alts_len, gl_len, kept)
+    UnusedAltOutcome::Written(alts_len, gl_len, left)
 }
 
 // A record without the ALTs that the GT does not name; REF is always left. If the GT names all ALTs everything is copied as
@@ -433,12 +435,13 @@ pub fn subset_unused_alts_after_merged_genotyping(
     gl_out: &mut [f64],
     ad_out: &mut [u32],
 ) -> UnusedAltOutcome
-    ensures { λ r. ⌜ UnusedAltsAnswered
+    ensures answered { λ r. ⌜ UnusedAltsAnswered
         (unusedAltSubsetWithin (now (alts .entry)) (now (gt .entry)) (now (gl .entry)) (now (ad .entry))
         (length (now («alts_out» .entry))) (length (now («gl_out» .entry))) (length (now («ad_out» .entry))))
         (outputs (now («alts_out» .entry)) (now («gl_out» .entry)) (now («ad_out» .entry)))
         (outputs (now («alts_out» .exit)) (now («gl_out» .exit)) (now («ad_out» .exit)))
         r ⌝ }
+    ensures none_above { λ r. ⌜ subsetNoneAbove (now (alts .entry)) (now (gt .entry)) (likelihoodCountOf r) (now («gl_out» .exit)) ≡ true ⌝ }
 {
     let alt_alleles = alt_count(alts);
     if 15 < alt_alleles {
@@ -446,14 +449,14 @@ pub fn subset_unused_alts_after_merged_genotyping(
     }
     let alleles = alt_alleles + 1;
     let mut keep = [0usize; 16];
-    let kept = output_allele_keep_indices_from_assigned_gt(alleles, gt, &mut keep);
-    if kept == alleles {
+    let left = output_allele_keep_indices_from_assigned_gt(alleles, gt, &mut keep);
+    if left == alleles {
         return copy_record(alts, gl, ad, alts_out, gl_out, ad_out);
     }
     subset_record(
         alts,
         alleles,
-        &keep[..kept],
+        &keep[..left],
         gl,
         ad,
         alts_out,

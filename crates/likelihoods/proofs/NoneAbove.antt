@@ -9,7 +9,8 @@ use mathlib.Core.Path.{_≡_, refl}
 use Rattle.definitions.specs.AlleleSubset.{greater, greatest, inRange, lessGreatest, maxSize}
 use Rattle.laws.proofs.Every.{Every, also, every-both, every-map, every-of-map, nothing}
 use Rattle.laws.proofs.Tests.{clash}
-use Rattle.likelihoods.proofs.Order.{le-of-lt-float, le-of-not-lt, le-refl-finite, le-trans-finite, low-difference, notAbove}
+use Rattle.likelihoods.proofs.Order.{le-of-lt-float, le-of-not-lt, le-refl-finite, le-trans-finite, low-difference}
+use Rattle.likelihoods.specs.Written.{notAbove}
 
 record Bounds (x y g : Float) : Type 0 where
   is-finite : T (finite g)

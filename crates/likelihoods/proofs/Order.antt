@@ -12,10 +12,7 @@ use lib.Ieee.Fits.{and-i, and-l, and-r, down-pos, eq→eqb, round-is}
 use lib.Ieee.Exact.{HasValue, round-exact}
 use lib.Ieee.Positive.{through}
 use lib.Ieee.Scale.{finite}
-
--- 0, or below it
-abbrev pub notAbove : Float → Bool
-notAbove x = le x (fin false 0 (pos 0))
+use Rattle.likelihoods.specs.Written.{notAbove}
 
 or-left : (a b : Bool) → T a → T (a || b)
 or-left true b t = tt

@@ -9,6 +9,7 @@ ghost use Rattle.definitions.specs.Checked.{within};
 ghost use Rattle.definitions.specs.Likelihoods.{NearMinusTenth, log10FromPl};
 ghost use Rattle.definitions.specs.Lists.{allOf};
 ghost use Rattle.answers.specs.Answered.{Answered};
+ghost use Rattle.likelihoods.specs.Written.{NearTenths, countOf};
 use answers::Outcome;
 
 // The likelihood of a PL: minus a tenth of it, rounded once.
@@ -41,9 +42,10 @@ fn put_log10_from_pl(pl: &[u32], out: &mut [f64])
 
 // The likelihoods of all PLs. Row 14 if the output is too short.
 pub fn log10_likelihoods_from_pl(pl: &[u32], out: &mut [f64]) -> Outcome
-    ensures { λ r. ⌜ Answered
+    ensures answered { λ r. ⌜ Answered
         (within (length (now (out .entry))) (map log10FromPl (now (pl .entry))))
         (now (out .entry)) (now (out .exit)) r ⌝ }
+    ensures near { λ r. ⌜ NearTenths (now (pl .entry)) (countOf r) (now (out .exit)) ⌝ }
 {
     let count = pl.len();
     if out.len() < count {
@@ -77,7 +79,7 @@ fn greatest_of(values: &[f64]) -> f64
 }
 
 // Values less the first greatest of them, each rounded once, as far as they fit.
-pub fn less_greatest(values: &[f64], out: &mut [f64])
+pub fn scale_log_space_array_for_numerical_stability(values: &[f64], out: &mut [f64])
     ensures { λ _. ⌜ now (out .exit) ≡ sets (now (out .entry)) 0 (lessGreatest (now (values .entry))) ⌝ }
 {
     if values.len() == 0 {

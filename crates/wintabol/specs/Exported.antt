@@ -1,11 +1,19 @@
--- What an exported function gives back: an outcome as numbers.
+-- What an exported function gives back: the definitions' answer as numbers, and what its buffers hold at the end.
 use Prim.Native.Nat.{ℕ}
+use lib.Dec.{eqb}
+use lib.ListN.{length}
+use mathlib.Core.List.{List}
 use mathlib.Core.Path.{_≡_}
+use Rattle.allele_subsetting_pl.specs.UnusedAlts.{Outputs, listOf}
 use Rattle.allele_subsetting_pl.specs.declared.UnusedAltOutcome.{UnusedAltOutcome}
 use Rattle.allele_subsetting_pl.specs.declared.UnusedAltOutcome.the-variants as unused
 use Rattle.answers.specs.declared.Outcome.{Outcome}
 use Rattle.answers.specs.declared.Outcome.the-variants as outcome
-use Rattle.definitions.specs.Answers.{Answer}
+use Rattle.definitions.specs.AlleleSubset.{UnusedAltSubset}
+use Rattle.definitions.specs.Answers.{Answer, answerOf, outputAfter, scratchAfter}
+use Rattle.definitions.specs.Checked.{Checked, accepted, isAccepted, refused}
+use Rattle.definitions.specs.ClipAndReference.{LetterChoice}
+use Rattle.definitions.specs.CombinedList.{ChoiceFor, Texts, combinedList}
 
 abbrev pub answer : ℕ → ℕ → Answer
 answer number written = record { number = number; written = written }
@@ -15,11 +23,19 @@ abbrev pub outcomeNumbers : Outcome → Answer
 outcomeNumbers (outcome.Written n) = answer 0 n
 outcomeNumbers (outcome.Refused row) = answer row 0
 
--- the two numbers are those of an outcome of which this holds
-pub record Exported (Holds : Outcome → Type 0) (number written : ℕ) : Type 0 where
-  pub outcome : Outcome
-  pub numbers : outcomeNumbers outcome ≡ answer number written
-  pub holds : Holds outcome
+-- the two numbers are the answer of these values, or of the row that refuses them, and so is what the output holds at the end; the
+-- first number is 0 exactly if the call is accepted
+pub record Exported {A : Type 0} (values : Checked (List A)) (out out′ : List A) (number written : ℕ) : Type 0 where
+  pub numbers : answer number written ≡ answerOf values
+  pub accepts : eqb number 0 ≡ isAccepted values
+  pub output : out′ ≡ outputAfter values out
+
+-- the same for the combined list of these texts, with some choice of reference letters; scratch is zero at the end
+pub record ExportedList (texts : Texts) (scratch scratch′ out out′ : List ℕ) (number written : ℕ) : Type 0 where
+  pub choose : LetterChoice
+  pub choice : ChoiceFor texts choose
+  pub exported : Exported (combinedList texts (length scratch) (length out) choose) out out′ number written
+  pub cleared : scratch′ ≡ scratchAfter scratch
 
 -- ---- three outputs
 
@@ -37,8 +53,15 @@ abbrev pub outcomeAlts : UnusedAltOutcome → UnusedAltAnswer
 outcomeAlts (unused.Written alts likelihoods ad) = answerAlts 0 alts likelihoods ad
 outcomeAlts (unused.Refused row) = answerAlts row 0 0 0
 
--- the four numbers are those of an outcome of which this holds
-pub record ExportedAlts (Holds : UnusedAltOutcome → Type 0) (number alts likelihoods ad : ℕ) : Type 0 where
-  pub outcome : UnusedAltOutcome
-  pub numbers : outcomeAlts outcome ≡ answerAlts number alts likelihoods ad
-  pub holds : Holds outcome
+unfoldable pub answerAltsOf : Checked UnusedAltSubset → UnusedAltAnswer
+answerAltsOf (refused row) = answerAlts row 0 0 0
+answerAltsOf (accepted s) = answerAlts 0 (length (s .alts)) (length (s .likelihoods)) (length (s .ad))
+
+-- the four numbers are the answer of this subset, or of the row that refuses it, and so is what each output holds at the end; the
+-- first number is 0 exactly if the call is accepted
+pub record ExportedAlts (subset : Checked UnusedAltSubset) (before after : Outputs) (number alts likelihoods ad : ℕ) : Type 0 where
+  pub numbers : answerAlts number alts likelihoods ad ≡ answerAltsOf subset
+  pub accepts : eqb number 0 ≡ isAccepted subset
+  pub alts-output : after .alts ≡ outputAfter (listOf (λ s. s .alts) subset) (before .alts)
+  pub likelihoods-output : after .likelihoods ≡ outputAfter (listOf (λ s. s .likelihoods) subset) (before .likelihoods)
+  pub ad-output : after .ad ≡ outputAfter (listOf (λ s. s .ad) subset) (before .ad)

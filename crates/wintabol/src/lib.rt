@@ -1,18 +1,19 @@
 // The library as C and Rust programs link it: numbers and slices only. Each function that writes answers the number of the row that
 // refuses the call, 0 for none, and stores how many values it wrote.
+ghost use mathlib.Core.Bool.{true};
 ghost use mathlib.Core.List.{map};
 ghost use mathlib.Core.Path.{_≡_};
 ghost use lib.ListN.{length};
-ghost use Rattle.allele_subsetting_pl.specs.UnusedAlts.{UnusedAltsAnswered, outputs};
-ghost use Rattle.answers.specs.Answered.{Answered};
-ghost use Rattle.combine_gvcfs.specs.Combined.{Combined, textsOf};
+ghost use Rattle.allele_subsetting_pl.specs.UnusedAlts.{outputs, subsetNoneAbove};
+ghost use Rattle.combine_gvcfs.specs.Combined.{textsOf};
 ghost use Rattle.definitions.specs.AlleleSubset.{likelihoodSubset, unusedAltSubsetWithin};
 ghost use Rattle.definitions.specs.CalledGenotypes.{gqFromPl};
 ghost use Rattle.definitions.specs.CalledList.{calledList};
 ghost use Rattle.definitions.specs.Checked.{within};
 ghost use Rattle.definitions.specs.Likelihoods.{log10FromPl};
 ghost use Rattle.definitions.specs.ReverseTrim.{trimmedAlleles};
-ghost use Rattle.wintabol.specs.Exported.{Exported, ExportedAlts, answer, answerAlts, outcomeAlts, outcomeNumbers};
+ghost use Rattle.likelihoods.specs.Written.{NearTenths, noneAbove};
+ghost use Rattle.wintabol.specs.Exported.{Exported, ExportedAlts, ExportedList, answer, answerAlts, outcomeAlts, outcomeNumbers};
 use allele_subsetting_pl::UnusedAltOutcome;
 use answers::Outcome;
 
@@ -44,9 +45,9 @@ pub extern "C" fn wintabol_combine<'a>(
     out: &mut [u8],
     written: &mut usize,
 ) -> usize
-    ensures { λ r. ⌜ Exported
-        (Combined (textsOf (now (cohort .entry)) clipped (now (clip .entry)) «has_reference» (now (reference .entry))) (now (scratch .entry)) (now (scratch .exit)) (now (out .entry)) (now (out .exit)))
-        r (now (written .exit)) ⌝ }
+    ensures { λ r. ⌜ ExportedList
+        (textsOf (now (cohort .entry)) clipped (now (clip .entry)) «has_reference» (now (reference .entry)))
+        (now (scratch .entry)) (now (scratch .exit)) (now (out .entry)) (now (out .exit)) r (now (written .exit)) ⌝ }
 {
     let outcome = combine_gvcfs::combine(
         cohort,
@@ -64,8 +65,8 @@ pub extern "C" fn wintabol_combine<'a>(
 #[no_mangle]
 pub extern "C" fn wintabol_call(list: &[u8], out: &mut [u8], written: &mut usize) -> usize
     ensures { λ r. ⌜ Exported
-        (Answered (calledList (now (list .entry)) (length (now (out .entry)))) (now (out .entry)) (now (out .exit)))
-        r (now (written .exit)) ⌝ }
+        (calledList (now (list .entry)) (length (now (out .entry))))
+        (now (out .entry)) (now (out .exit)) r (now (written .exit)) ⌝ }
 {
     let outcome = genotype_gvcfs::call(list, out);
     give(outcome, written)
@@ -79,8 +80,8 @@ pub extern "C" fn wintabol_reverse_trim_alleles(
     written: &mut usize,
 ) -> usize
     ensures { λ r. ⌜ Exported
-        (Answered (trimmedAlleles (now (alleles .entry)) (length (now (out .entry)))) (now (out .entry)) (now (out .exit)))
-        r (now (written .exit)) ⌝ }
+        (trimmedAlleles (now (alleles .entry)) (length (now (out .entry))))
+        (now (out .entry)) (now (out .exit)) r (now (written .exit)) ⌝ }
 {
     let outcome = reverse_trim::reverse_trim_alleles(alleles, out);
     give(outcome, written)
@@ -101,9 +102,10 @@ pub extern "C" fn wintabol_log10_likelihoods_from_pl(
     out: &mut [f64],
     written: &mut usize,
 ) -> usize
-    ensures { λ r. ⌜ Exported
-        (Answered (within (length (now (out .entry))) (map log10FromPl (now (pl .entry)))) (now (out .entry)) (now (out .exit)))
-        r (now (written .exit)) ⌝ }
+    ensures answered { λ r. ⌜ Exported
+        (within (length (now (out .entry))) (map log10FromPl (now (pl .entry))))
+        (now (out .entry)) (now (out .exit)) r (now (written .exit)) ⌝ }
+    ensures near { λ r. ⌜ NearTenths (now (pl .entry)) (now (written .exit)) (now (out .exit)) ⌝ }
 {
     let outcome = likelihoods::log10_likelihoods_from_pl(pl, out);
     give(outcome, written)
@@ -118,9 +120,10 @@ pub extern "C" fn wintabol_subset_log10_genotype_likelihoods(
     out: &mut [f64],
     written: &mut usize,
 ) -> usize
-    ensures { λ r. ⌜ Exported
-        (Answered (likelihoodSubset (now (gl .entry)) alleles (now (keep .entry)) (length (now (out .entry)))) (now (out .entry)) (now (out .exit)))
-        r (now (written .exit)) ⌝ }
+    ensures answered { λ r. ⌜ Exported
+        (likelihoodSubset (now (gl .entry)) alleles (now (keep .entry)) (length (now (out .entry))))
+        (now (out .entry)) (now (out .exit)) r (now (written .exit)) ⌝ }
+    ensures none_above { λ r. ⌜ noneAbove (now (written .exit)) (now (out .exit)) ≡ true ⌝ }
 {
     let outcome = allele_subsetting_pl::subset_log10_genotype_likelihoods(gl, alleles, keep, out);
     give(outcome, written)
@@ -160,13 +163,13 @@ pub extern "C" fn wintabol_subset_unused_alts(
     gl_written: &mut usize,
     ad_written: &mut usize,
 ) -> usize
-    ensures { λ r. ⌜ ExportedAlts
-        (UnusedAltsAnswered
+    ensures answered { λ r. ⌜ ExportedAlts
         (unusedAltSubsetWithin (now (alts .entry)) (now (gt .entry)) (now (gl .entry)) (now (ad .entry))
         (length (now («alts_out» .entry))) (length (now («gl_out» .entry))) (length (now («ad_out» .entry))))
         (outputs (now («alts_out» .entry)) (now («gl_out» .entry)) (now («ad_out» .entry)))
-        (outputs (now («alts_out» .exit)) (now («gl_out» .exit)) (now («ad_out» .exit))))
+        (outputs (now («alts_out» .exit)) (now («gl_out» .exit)) (now («ad_out» .exit)))
         r (now («alts_written» .exit)) (now («gl_written» .exit)) (now («ad_written» .exit)) ⌝ }
+    ensures none_above { λ r. ⌜ subsetNoneAbove (now (alts .entry)) (now (gt .entry)) (now («gl_written» .exit)) (now («gl_out» .exit)) ≡ true ⌝ }
 {
     let outcome = allele_subsetting_pl::subset_unused_alts_after_merged_genotyping(
         alts,

@@ -27,7 +27,9 @@ shared-slice-read-n : tie.Need-shared-slice-read-n Inv-loop μ-loop
 shared-slice-read-n c = search needs
 
 returns : tie.Need-returns Inv-loop μ-loop
-returns c = sym (all-failed _ (c .before .before .before .before .args .numbers .now) 0 (c .before .before .before .loop .i) (c .before .before .loop-test .taken) (le-ltb _ _ (c .if1 .taken))) ∙ (c .before .before .before .loop .inv .1)
+returns c =
+    let at-loop = c .before .before .before in
+    sym (all-failed _ (c .before .before .before .before .args .numbers .now) 0 (at-loop .loop .i) (c .before .before .loop-test .taken) (le-ltb _ _ (c .if1 .taken))) ∙ (at-loop .loop .inv .1)
 
 add-i : tie.Need-add-i Inv-loop μ-loop
 add-i c = search needs
@@ -36,10 +38,14 @@ loop-less : tie.Need-loop-less Inv-loop μ-loop
 loop-less c = search needs
 
 loop-again : tie.Need-loop-again Inv-loop μ-loop
-loop-again c = ((c .before .before .before .loop .inv .0), sym (all-next _ (c .before .before .before .before .args .numbers .now) 0 (c .before .before .before .loop .i) (c .before .before .loop-test .taken) (lt-ltb _ _ (c .if1 .left))) ∙ (c .before .before .before .loop .inv .1))
+loop-again c =
+    let at-loop = c .before .before .before in
+    ((at-loop .loop .inv .0), sym (all-next _ (c .before .before .before .before .args .numbers .now) 0 (at-loop .loop .i) (c .before .before .loop-test .taken) (lt-ltb _ _ (c .if1 .left))) ∙ (at-loop .loop .inv .1))
 
 returns-2 : tie.Need-returns-2 Inv-loop μ-loop
-returns-2 c = sym (all-end _ (c .before .before .args .numbers .now) (c .before .loop .i) (c .loop-test .left)) ∙ (c .before .loop .inv .1)
+returns-2 c =
+    let at-loop = c .before in
+    sym (all-end _ (c .before .before .args .numbers .now) (at-loop .loop .i) (c .loop-test .left)) ∙ (at-loop .loop .inv .1)
 
 pub all-below-spec : {M : Type 1} → statement M
 all-below-spec =

@@ -26,7 +26,9 @@ shared-slice-read-allele : tie.Need-shared-slice-read-allele Inv-loop μ-loop
 shared-slice-read-allele c = search needs
 
 put-allele-requires : tie.Need-put-allele-requires Inv-loop μ-loop
-put-allele-requires c κs = ltb-true _ _ (every-at (c .before .before .before .loop .i) 0 (c .before .before .loop-test .taken) (every-passed _ (c .before .before .before .before .before .before .args .keep .now) ((c .before .before .before .before .before .before .pre .alleles))))
+put-allele-requires c κs =
+    let at-start = c .before .before .before .before .before .before in
+    ltb-true _ _ (every-at (c .before .before .before .loop .i) 0 (c .before .before .loop-test .taken) (every-passed _ (at-start .args .keep .now) (at-start .pre .alleles)))
 
 add-i : tie.Need-add-i Inv-loop μ-loop
 add-i c = search needs
@@ -35,7 +37,11 @@ loop-less : tie.Need-loop-less Inv-loop μ-loop
 loop-less c = search needs
 
 loop-again : tie.Need-loop-again Inv-loop μ-loop
-loop-again c = next-stored (λ a. a) (c .before .before .before .before .before .before .before .before .before .args .keep .now) 0 (c .before .before .before .before .before .loop-test .taken) refl (c .before .before .put-allele .ensures) (c .before .before .before .before .before .before .loop .inv)
+loop-again c =
+    let at-loop-test = c .before .before .before .before .before in
+    let at-loop = at-loop-test .before in
+    let at-start = at-loop .before .before .before in
+    next-stored (λ a. a) (at-start .args .keep .now) 0 (at-loop-test .loop-test .taken) refl (c .before .before .put-allele .ensures) (at-loop .loop .inv)
 
 same-length : tie.Need-same-length Inv-loop μ-loop
 same-length c = unstored-length (c .before .loop .inv)

@@ -25,7 +25,9 @@ shared-slice-read-x : tie.Need-shared-slice-read-x Inv-loop μ-loop
 shared-slice-read-x c = search needs
 
 mul-out : tie.Need-mul-out Inv-loop μ-loop
-mul-out c = omega (arith, unstored-length (c .before .before .loop .inv), (c .before .before .before .pre), (c .before .before .before .good))
+mul-out c =
+    let at-start = c .before .before .before in
+    omega (arith, unstored-length (c .before .before .loop .inv), (at-start .pre), (at-start .good))
 
 slice-write-out : tie.Need-slice-write-out Inv-loop μ-loop
 slice-write-out c = omega (arith, unstored-length (c .before .before .loop .inv), (c .before .before .before .pre))

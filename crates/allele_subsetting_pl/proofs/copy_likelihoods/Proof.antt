@@ -34,7 +34,11 @@ loop-less : tie.Need-loop-less Inv-loop μ-loop
 loop-less c = search needs
 
 loop-again : tie.Need-loop-again Inv-loop μ-loop
-loop-again c = next-stored (λ x. x) (c .before .before .before .before .before .before .before .before .before .args .gl .now) nan (c .before .before .before .before .before .loop-test .taken) refl (c .before .before .put-value .ensures) (c .before .before .before .before .before .before .loop .inv)
+loop-again c =
+    let at-loop-test = c .before .before .before .before .before in
+    let at-loop = at-loop-test .before in
+    let at-start = at-loop .before .before .before in
+    next-stored (λ x. x) (at-start .args .gl .now) nan (at-loop-test .loop-test .taken) refl (c .before .before .put-value .ensures) (at-loop .loop .inv)
 
 same-length : tie.Need-same-length Inv-loop μ-loop
 same-length c = unstored-length (c .before .loop .inv)

@@ -5,7 +5,7 @@ use borrow.Author.Tests.{eq-eqb, ne-eqb}
 use lib.Dec.{eqb}
 use lib.ListN.{drop, length}
 use mathlib.Core.Path.{_∙_, _≡_, refl, sym}
-use Rattle.allele_subsetting_pl.specs.Kept.{isAssigned}
+use Rattle.allele_subsetting_pl.specs.KeepLists.{isAssigned}
 use Rattle.definitions.specs.Lists.{anyOf}
 use Rattle.likelihoods.proofs.Loops.{any-end, any-found, any-next}
 use Rattle.allele_subsetting_pl.proofs.is_assigned.Statement.{statement}
@@ -30,7 +30,10 @@ shared-slice-read-g : tie.Need-shared-slice-read-g Inv-loop μ-loop
 shared-slice-read-g c = search needs
 
 returns-2 : tie.Need-returns-2 Inv-loop μ-loop
-returns-2 c = sym (any-found _ (c .before .before .before .before .before .args .gt .now) 0 (c .before .before .before .loop .i) (c .before .before .loop-test .taken) (eq-eqb _ _ (sym (c .if2 .taken)))) ∙ (c .before .before .before .loop .inv .1)
+returns-2 c =
+    let at-loop = c .before .before .before in
+    let at-start = at-loop .before .before in
+    sym (any-found _ (at-start .args .gt .now) 0 (at-loop .loop .i) (c .before .before .loop-test .taken) (eq-eqb _ _ (sym (c .if2 .taken)))) ∙ (at-loop .loop .inv .1)
 
 add-i : tie.Need-add-i Inv-loop μ-loop
 add-i c = search needs
@@ -39,10 +42,15 @@ loop-less : tie.Need-loop-less Inv-loop μ-loop
 loop-less c = search needs
 
 loop-again : tie.Need-loop-again Inv-loop μ-loop
-loop-again c = ((c .before .before .before .loop .inv .0), sym (any-next _ (c .before .before .before .before .before .args .gt .now) 0 (c .before .before .before .loop .i) (c .before .before .loop-test .taken) (ne-eqb _ _ (λ e. (c .if2 .left) (sym e)))) ∙ (c .before .before .before .loop .inv .1))
+loop-again c =
+    let at-loop = c .before .before .before in
+    let at-start = at-loop .before .before in
+    ((at-loop .loop .inv .0), sym (any-next _ (at-start .args .gt .now) 0 (at-loop .loop .i) (c .before .before .loop-test .taken) (ne-eqb _ _ (λ e. (c .if2 .left) (sym e)))) ∙ (at-loop .loop .inv .1))
 
 returns-3 : tie.Need-returns-3 Inv-loop μ-loop
-returns-3 c = sym (any-end _ (c .before .before .before .args .gt .now) (c .before .loop .i) (c .loop-test .left)) ∙ (c .before .loop .inv .1)
+returns-3 c =
+    let at-loop = c .before in
+    sym (any-end _ (c .before .before .before .args .gt .now) (at-loop .loop .i) (c .loop-test .left)) ∙ (at-loop .loop .inv .1)
 
 pub is-assigned-spec : {M : Type 1} → statement M
 is-assigned-spec =

@@ -8,7 +8,7 @@ use mathlib.Core.Bool.{Bool, false, true}
 use mathlib.Core.List.{List}
 use mathlib.Core.Path.{_≡_, refl, sym}
 use native.Mathlib.Omega.{arith}
-use Rattle.allele_subsetting_pl.specs.Kept.{onlyAssigned}
+use Rattle.allele_subsetting_pl.specs.KeepLists.{onlyAssigned}
 use Rattle.kv_write.specs.Laid.{Laid}
 use Rattle.allele_subsetting_pl.proofs.keep_assigned.Statement.{statement}
 use Rattle.allele_subsetting_pl.proofs.keep_assigned.Tie as tie
@@ -23,10 +23,14 @@ put-in : {keep keep′ : List ℕ} {count : ℕ} (a : ℕ) (b : Bool) → b ≡ 
 put-in a b e h = rw e (record { next = refl; laid = h })
 
 returns : tie.Need-returns
-returns c = left-out (c .before .args .allele) (c .before .args .assigned) (not-true _ (c .if1 .taken))
+returns c =
+    let at-start = c .before in
+    left-out (at-start .args .allele) (at-start .args .assigned) (not-true _ (c .if1 .taken))
 
 add-next : tie.Need-add-next
-add-next c = omega (arith, room-for (c .before .args .count) (c .before .args .allele) (c .before .args .assigned) (not-false _ (c .if1 .left)) (c .before .pre))
+add-next c =
+    let at-start = c .before in
+    omega (arith, room-for (at-start .args .count) (at-start .args .allele) (at-start .args .assigned) (not-false _ (c .if1 .left)) (at-start .pre))
 
 mul-keep : tie.Need-mul-keep
 mul-keep c = search needs
@@ -38,10 +42,14 @@ same-length : tie.Need-same-length
 same-length c = search needs
 
 returns-2 : tie.Need-returns-2
-returns-2 c = put-in (c .before .before .args .allele) (c .before .before .args .assigned) (not-false _ (c .before .if1 .left)) refl
+returns-2 c =
+    let at-start = c .before .before in
+    put-in (at-start .args .allele) (at-start .args .assigned) (not-false _ (c .before .if1 .left)) refl
 
 returns-3 : tie.Need-returns-3
-returns-3 c = put-in (c .before .before .args .allele) (c .before .before .args .assigned) (not-false _ (c .before .if1 .left)) (sym (set-out (c .before .before .args .keep .now) (c .before .before .args .count) (c .before .before .args .allele) (c .if2 .left)))
+returns-3 c =
+    let at-start = c .before .before in
+    put-in (at-start .args .allele) (at-start .args .assigned) (not-false _ (c .before .if1 .left)) (sym (set-out (at-start .args .keep .now) (at-start .args .count) (at-start .args .allele) (c .if2 .left)))
 
 pub keep-assigned-spec : {M : Type 1} → statement M
 keep-assigned-spec =

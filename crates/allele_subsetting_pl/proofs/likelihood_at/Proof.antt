@@ -4,7 +4,7 @@ use lib.Ieee.{odd, ofBits, ofFields}
 use lib.ListN.{List·getD-eq-default}
 use mathlib.Core.Path.{sym}
 use Rattle.allele_subsetting_pl.proofs.Picked.{getD-any}
-use Rattle.allele_subsetting_pl.specs.Kept.{absentLikelihood}
+use Rattle.allele_subsetting_pl.specs.KeepLists.{absentLikelihood}
 use Rattle.allele_subsetting_pl.proofs.likelihood_at.Statement.{statement}
 use Rattle.allele_subsetting_pl.proofs.likelihood_at.Tie as tie
 
@@ -15,7 +15,9 @@ shared-slice-read-result : tie.Need-shared-slice-read-result
 shared-slice-read-result c = search needs
 
 returns : tie.Need-returns
-returns c = getD-any (c .before .before .args .gl .now) (c .before .before .args .place) _ absentLikelihood (c .before .if1 .taken)
+returns c =
+    let at-start = c .before .before in
+    getD-any (at-start .args .gl .now) (at-start .args .place) _ absentLikelihood (c .before .if1 .taken)
 
 returns-2 : tie.Need-returns-2
 unfolding ofBits ofFields odd

@@ -6,7 +6,7 @@ use lib.ListN.{getD, getElem?}
 use mathlib.Core.List.{List}
 use mathlib.Core.Option.{Option, Option·getD, Option·map, none, some}
 use mathlib.Core.Path.{_≡_, refl, sym}
-use Rattle.allele_subsetting_pl.specs.Kept.{absentLikelihood}
+use Rattle.allele_subsetting_pl.specs.KeepLists.{absentLikelihood}
 use Rattle.definitions.specs.Genotypes.{AllelePair, genotypePairs}
 use Rattle.genotype_values.specs.Remapped.{placeOf}
 use Rattle.genotype_values.specs.Values.{mappedPlace}
@@ -40,13 +40,17 @@ enum-told : tie.Need-enum-told
 enum-told c = search needs
 
 returns : tie.Need-returns
-returns c = found (c .before .before .before .before .before .before .before .args .gl .now) (mappedPlace (c .before .before .before .before .before .before .before .args .map .now)) (getElem? (genotypePairs 16) (c .before .before .before .before .before .before .before .args .place)) _
-    (rw (c .before .before .old .given .1) at ((c .before .before .before .before .genotype-index-map-diploid .ensures))) (c .likelihood-at .ensures)
+returns c =
+    let at-start = c .before .before .before .before .before .before .before in
+    found (at-start .args .gl .now) (mappedPlace (at-start .args .map .now)) (getElem? (genotypePairs 16) (at-start .args .place)) _
+    (rw (c .before .before .old .given .1) at (c .before .before .before .before .genotype-index-map-diploid .ensures)) (c .likelihood-at .ensures)
 
 returns-2 : tie.Need-returns-2
 unfolding ofBits ofFields odd
-returns-2 c = missing (c .before .before .before .before .before .args .gl .now) (mappedPlace (c .before .before .before .before .before .args .map .now)) (getElem? (genotypePairs 16) (c .before .before .before .before .before .args .place))
-    (rw (c .enum-told .given .1) at ((c .before .before .genotype-index-map-diploid .ensures)))
+returns-2 c =
+    let at-start = c .before .before .before .before .before in
+    missing (at-start .args .gl .now) (mappedPlace (at-start .args .map .now)) (getElem? (genotypePairs 16) (at-start .args .place))
+    (rw (c .enum-told .given .1) at (c .before .before .genotype-index-map-diploid .ensures))
 
 pub mapped-likelihood-spec : {M : Type 1} → statement M
 mapped-likelihood-spec =

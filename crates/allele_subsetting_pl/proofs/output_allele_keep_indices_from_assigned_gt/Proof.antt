@@ -4,7 +4,7 @@ use borrow.Author.Needs.{needs}
 use mathlib.Core.Path.{sym}
 use native.Mathlib.Omega.{arith}
 use Rattle.allele_subsetting_pl.proofs.Assigned.{all-assigned, assignedFrom, few-assigned, next-assigned, none-left}
-use Rattle.allele_subsetting_pl.specs.Kept.{onlyAssigned}
+use Rattle.allele_subsetting_pl.specs.KeepLists.{onlyAssigned}
 use Rattle.definitions.specs.AlleleSubset.{assignedAlleles}
 use Rattle.kv_write.proofs.Laying.{Left, done, left-length, recast, room, several, start}
 use Rattle.allele_subsetting_pl.proofs.output_allele_keep_indices_from_assigned_gt.Statement.{statement}
@@ -17,13 +17,19 @@ abbrev μ-loop : tie.MeasureT-loop
 μ-loop alleles gt keep₀ count₀ allele₀ keep count allele = alleles - allele
 
 loop-holds : tie.Need-loop-holds Inv-loop μ-loop
-loop-holds c = recast (sym (all-assigned (c .before .before .args .gt .now) (c .before .before .args .alleles))) (start (omega (arith, few-assigned (c .before .before .args .gt .now) (c .before .before .args .alleles), (c .before .before .pre))))
+loop-holds c =
+    let at-start = c .before .before in
+    recast (sym (all-assigned (at-start .args .gt .now) (at-start .args .alleles))) (start (omega (arith, few-assigned (at-start .args .gt .now) (at-start .args .alleles), (at-start .pre))))
 
 is-assigned-requires : tie.Need-is-assigned-requires Inv-loop μ-loop
 is-assigned-requires c κs = search needs
 
 keep-assigned-requires : tie.Need-keep-assigned-requires Inv-loop μ-loop
-keep-assigned-requires c κs = room (onlyAssigned (c .before .is-assigned .result) (c .before .before .before .loop .allele)) (assignedFrom (c .before .before .before .before .before .before .args .gt .now) (c .before .before .before .before .before .before .args .alleles) ((c .before .before .before .loop .allele) + 1)) (recast (next-assigned (c .before .before .before .before .before .before .args .gt .now) (c .before .before .before .before .before .before .args .alleles) (c .before .before .before .loop .allele) _ (c .before .before .loop-test .taken) (c .before .is-assigned .ensures)) (c .before .before .before .loop .inv))
+keep-assigned-requires c κs =
+    let at-is-assigned = c .before in
+    let at-loop = at-is-assigned .before .before in
+    let at-start = at-loop .before .before .before in
+    room (onlyAssigned (at-is-assigned .is-assigned .result) (at-loop .loop .allele)) (assignedFrom (at-start .args .gt .now) (at-start .args .alleles) ((at-loop .loop .allele) + 1)) (recast (next-assigned (at-start .args .gt .now) (at-start .args .alleles) (at-loop .loop .allele) _ (c .before .before .loop-test .taken) (at-is-assigned .is-assigned .ensures)) (at-loop .loop .inv))
 
 add-allele : tie.Need-add-allele Inv-loop μ-loop
 add-allele c = search needs
@@ -32,13 +38,20 @@ loop-less : tie.Need-loop-less Inv-loop μ-loop
 loop-less c = search needs
 
 loop-again : tie.Need-loop-again Inv-loop μ-loop
-loop-again c = several (c .before .before .keep-assigned .ensures) (recast (next-assigned (c .before .before .before .before .before .before .before .before .before .args .gt .now) (c .before .before .before .before .before .before .before .before .before .args .alleles) (c .before .before .before .before .before .before .loop .allele) _ (c .before .before .before .before .before .loop-test .taken) (c .before .before .before .before .is-assigned .ensures)) (c .before .before .before .before .before .before .loop .inv))
+loop-again c =
+    let at-loop-test = c .before .before .before .before .before in
+    let at-loop = at-loop-test .before in
+    let at-start = at-loop .before .before .before in
+    several (c .before .before .keep-assigned .ensures) (recast (next-assigned (at-start .args .gt .now) (at-start .args .alleles) (at-loop .loop .allele) _ (at-loop-test .loop-test .taken) (c .before .before .before .before .is-assigned .ensures)) (at-loop .loop .inv))
 
 same-length : tie.Need-same-length Inv-loop μ-loop
 same-length c = left-length (c .before .loop .inv)
 
 returns : tie.Need-returns Inv-loop μ-loop
-returns c = done (recast (none-left (c .before .before .before .before .args .gt .now) (c .before .before .before .before .args .alleles) (c .before .loop .allele) (c .loop-test .left)) (c .before .loop .inv))
+returns c =
+    let at-loop = c .before in
+    let at-start = at-loop .before .before .before in
+    done (recast (none-left (at-start .args .gt .now) (at-start .args .alleles) (at-loop .loop .allele) (c .loop-test .left)) (at-loop .loop .inv))
 
 pub output-allele-keep-indices-from-assigned-gt-spec : {M : Type 1} → statement M
 output-allele-keep-indices-from-assigned-gt-spec =

@@ -18,7 +18,9 @@ returns : tie.Need-returns
 returns c = search needs
 
 returns-2 : tie.Need-returns-2
-returns-2 c = sym (set-out (c .before .args .map .now) (c .before .args .place) (c .before .args .allele) (c .if1 .left))
+returns-2 c =
+    let at-start = c .before in
+    sym (set-out (at-start .args .map .now) (at-start .args .place) (at-start .args .allele) (c .if1 .left))
 
 pub put-allele-spec : {M : Type 1} → statement M
 put-allele-spec = tie.close (tie.spec cast-number slice-write-map same-length returns returns-2)

@@ -5,7 +5,7 @@ use lib.ListN.{drop, getD, length}
 use mathlib.Core.List.{List, [], _++_, _∷_}
 use mathlib.Core.Path.{_∙_, _≡_}
 use native.Mathlib.Omega.{arith}
-use Rattle.allele_subsetting_pl.specs.Kept.{altWith, altsWith}
+use Rattle.allele_subsetting_pl.specs.KeepLists.{altWith, altsWith}
 use Rattle.definitions.specs.Bytes.{comma}
 use Rattle.kv_write.proofs.Joined.{each-end, each-next, eachAfter, joined-first, joined-none}
 use Rattle.kv_write.proofs.Laying.{Left, done, fits-first, fits-rest, laid-append, laid-none, left-length, one, recast, room, several, start}
@@ -44,14 +44,21 @@ shared-slice-read-first : tie.Need-shared-slice-read-first Inv-loop μ-loop
 shared-slice-read-first c = search needs
 
 put-alt-requires : tie.Need-put-alt-requires Inv-loop μ-loop
-put-alt-requires c κs = fits-first _ (altWith (c .before .before .before .before .before .before .args .alts .now) _) _ (rw (first-then (c .before .before .before .before .before .before .args .alts .now) _ (c .before .before .if1 .left)) at (c .before .before .before .before .before .before .pre))
+put-alt-requires c κs =
+    let at-start = c .before .before .before .before .before .before in
+    fits-first _ (altWith (at-start .args .alts .now) _) _ (rw (first-then (at-start .args .alts .now) _ (c .before .before .if1 .left)) at (at-start .pre))
 
 loop-holds : tie.Need-loop-holds Inv-loop μ-loop
-loop-holds c = start (fits-rest _ (c .before .before .put-alt .ensures) (rw (first-then (c .before .before .before .before .before .before .before .before .before .args .alts .now) _ (c .before .before .before .before .before .if1 .left)) at (c .before .before .before .before .before .before .before .before .before .pre)))
+loop-holds c =
+    let at-if1 = c .before .before .before .before .before in
+    let at-start = at-if1 .before .before .before .before in
+    start (fits-rest _ (c .before .before .put-alt .ensures) (rw (first-then (at-start .args .alts .now) _ (at-if1 .if1 .left)) at (at-start .pre)))
 
 put-byte-requires : tie.Need-put-byte-requires Inv-loop μ-loop
 unfolding behind
-put-byte-requires c κs = omega (arith, (recast (each-next comma (altWith (c .before .before .before .before .before .before .before .before .before .before .before .before .args .alts .now)) _ 0 _ (c .before .loop-test .taken)) (c .before .before .loop .inv)) .fits)
+put-byte-requires c κs =
+    let at-start = c .before .before .before .before .before .before .before .before .before .before .before .before in
+    omega (arith, (recast (each-next comma (altWith (at-start .args .alts .now)) _ 0 _ (c .before .loop-test .taken)) (c .before .before .loop .inv)) .fits)
 
 mul-allele : tie.Need-mul-allele Inv-loop μ-loop
 mul-allele c = search needs
@@ -60,7 +67,11 @@ shared-slice-read-allele : tie.Need-shared-slice-read-allele Inv-loop μ-loop
 shared-slice-read-allele c = search needs
 
 put-alt-requires-2 : tie.Need-put-alt-requires-2 Inv-loop μ-loop
-put-alt-requires-2 c κs = room (altWith (c .before .before .before .before .before .before .before .before .before .before .before .before .before .before .before .before .before .args .alts .now) _) _ (comma-laid (c .before .before .before .before .before .before .before .before .before .before .before .before .before .before .before .before .before .args .alts .now) _ _ (c .before .before .before .before .before .before .loop-test .taken) (c .before .before .before .before .put-byte .ensures) (c .before .before .before .before .before .before .before .loop .inv))
+put-alt-requires-2 c κs =
+    let at-loop-test = c .before .before .before .before .before .before in
+    let at-loop = at-loop-test .before in
+    let at-start = at-loop .before .before .before .before .before .before .before .before .before .before in
+    room (altWith (at-start .args .alts .now) _) _ (comma-laid (at-start .args .alts .now) _ _ (at-loop-test .loop-test .taken) (c .before .before .before .before .put-byte .ensures) (at-loop .loop .inv))
 
 add-i : tie.Need-add-i Inv-loop μ-loop
 add-i c = search needs
@@ -69,15 +80,23 @@ loop-less : tie.Need-loop-less Inv-loop μ-loop
 loop-less c = search needs
 
 loop-again : tie.Need-loop-again Inv-loop μ-loop
-loop-again c = several (c .before .before .put-alt2 .ensures) (comma-laid (c .before .before .before .before .before .before .before .before .before .before .before .before .before .before .before .before .before .before .before .before .args .alts .now) _ _ (c .before .before .before .before .before .before .before .before .before .loop-test .taken) (c .before .before .before .before .before .before .before .put-byte .ensures) (c .before .before .before .before .before .before .before .before .before .before .loop .inv))
+loop-again c =
+    let at-put-byte = c .before .before .before .before .before .before .before in
+    let at-loop-test = at-put-byte .before .before in
+    let at-loop = at-loop-test .before in
+    let at-start = at-loop .before .before .before .before .before .before .before .before .before .before in
+    several (c .before .before .put-alt2 .ensures) (comma-laid (at-start .args .alts .now) _ _ (at-loop-test .loop-test .taken) (at-put-byte .put-byte .ensures) (at-loop .loop .inv))
 
 same-length : tie.Need-same-length Inv-loop μ-loop
 same-length c = left-length (c .before .loop .inv) ∙ ((c .before .before .before .before .put-alt .kept .0))
 
 returns-2 : tie.Need-returns-2 Inv-loop μ-loop
 unfolding behind
-returns-2 c = let rest = done (recast (each-end comma (altWith (c .before .before .before .before .before .before .before .before .before .before .before .args .alts .now)) _ _ (c .loop-test .left)) (c .before .loop .inv)) in
-    rw (first-then (c .before .before .before .before .before .before .before .before .before .before .before .args .alts .now) _ (c .before .before .before .before .before .before .before .if1 .left)) (laid-append (c .before .before .before .before .put-alt .ensures) rest)
+returns-2 c =
+    let at-if1 = c .before .before .before .before .before .before .before in
+    let at-start = at-if1 .before .before .before .before in
+    let rest = done (recast (each-end comma (altWith (at-start .args .alts .now)) _ _ (c .loop-test .left)) (c .before .loop .inv)) in
+    rw (first-then (at-start .args .alts .now) _ (at-if1 .if1 .left)) (laid-append (c .before .before .before .before .put-alt .ensures) rest)
 
 pub put-alts-spec : {M : Type 1} → statement M
 put-alts-spec =

@@ -17,7 +17,9 @@ array-share-prefix-map : tie.Need-array-share-prefix-map
 array-share-prefix-map c = search needs
 
 slice-aggregate-remap-ad : tie.Need-slice-aggregate-remap-ad
-slice-aggregate-remap-ad c = front-length (c .before .before .before .before .before .before .before .args .keep .now) _ (c .before .before .allele-map .ensures) ((c .before .before .before .before .before .before .before .pre .few)) refl
+slice-aggregate-remap-ad c =
+    let at-start = c .before .before .before .before .before .before .before in
+    front-length (at-start .args .keep .now) _ (c .before .before .allele-map .ensures) (at-start .pre .few) refl
 
 remap-ad-requires : tie.Need-remap-ad-requires
 remap-ad-requires c κs = search needs
@@ -26,7 +28,10 @@ same-length : tie.Need-same-length
 same-length c = search needs
 
 returns : tie.Need-returns
-returns c = (c .before .before .remap-ad .ensures) ∙ ap (λ k. sets (c .before .before .before .before .before .before .before .before .before .before .before .args .out .now) 0 (remappedAd k (c .before .before .before .before .before .before .before .before .before .before .before .args .ad .now))) (front (c .before .before .before .before .before .before .before .before .before .before .before .args .keep .now) _ (c .before .before .before .before .before .before .allele-map .ensures) ((c .before .before .before .before .before .before .before .before .before .before .before .pre .few)) refl)
+returns c =
+    let at-allele-map = c .before .before .before .before .before .before in
+    let at-start = at-allele-map .before .before .before .before .before in
+    (c .before .before .remap-ad .ensures) ∙ ap (λ k. sets (at-start .args .out .now) 0 (remappedAd k (at-start .args .ad .now))) (front (at-start .args .keep .now) _ (at-allele-map .allele-map .ensures) (at-start .pre .few) refl)
 
 pub subset-ad-spec : {M : Type 1} → statement M
 subset-ad-spec =

@@ -8,7 +8,7 @@ use native.Mathlib.Nat.{zero-add}
 use native.Mathlib.Omega.{arith}
 use Rattle.allele_subsetting_pl.proofs.Assigned.{few-assigned}
 use Rattle.allele_subsetting_pl.proofs.Fronts.{front, front-length, front-within}
-use Rattle.allele_subsetting_pl.proofs.UnusedAlts.{all-named, answered-as, answered-refused, refused-within, some-unnamed, too-many-alts, within-is}
+use Rattle.allele_subsetting_pl.proofs.UnusedAlts.{all-named, answered-as, answered-refused, refused-within, some-unnamed, too-many-alts, with-none-above, within-is}
 use Rattle.allele_subsetting_pl.specs.UnusedAlts.{AssignedKeep, outputs, subsetWithin}
 use Rattle.definitions.specs.AlleleSubset.{altFields, assignedAlleles}
 use Rattle.kv_write.specs.Laid.{Laid}
@@ -25,25 +25,28 @@ module _ (gt : List ℕ) {count r : ℕ} (before : List ℕ) {after : List ℕ} 
     as-many : r ≡ length (assignedAlleles (count + 1) gt)
     as-many = l .next ∙ zero-add _
 
-    kept-front : take r after ≡ assignedAlleles (count + 1) gt
-    kept-front = front (assignedAlleles (count + 1) gt) before (l .laid) has-place as-many
+    keep-front : take r after ≡ assignedAlleles (count + 1) gt
+    keep-front = front (assignedAlleles (count + 1) gt) before (l .laid) has-place as-many
 
-    kept-length : r ≡ length (take r after)
-    kept-length = front-length (assignedAlleles (count + 1) gt) before (l .laid) has-place as-many
+    keep-length : r ≡ length (take r after)
+    keep-length = front-length (assignedAlleles (count + 1) gt) before (l .laid) has-place as-many
 
-    kept-within : r ≤ length after
-    kept-within = front-within (assignedAlleles (count + 1) gt) before (l .laid) has-place as-many
+    keep-within : r ≤ length after
+    keep-within = front-within (assignedAlleles (count + 1) gt) before (l .laid) has-place as-many
 
     assigned-keep : (alts : List ℕ) → count ≡ length (altFields alts) → AssignedKeep alts (count + 1) (take r after)
-    assigned-keep alts e = record { gt = gt; count = omega arith; few = omega arith; assigned = kept-front }
+    assigned-keep alts e = record { gt = gt; count = omega arith; few = omega arith; assigned = keep-front }
 
 alt-count-requires : tie.Need-alt-count-requires
 alt-count-requires c κs = search needs
 
 returns : tie.Need-returns
-returns c = let out = outputs (c .before .before .before .before .before .before .before .before .before .args .alts-out .now) (c .before .before .before .before .before .before .before .before .before .args .gl-out .now) (c .before .before .before .before .before .before .before .before .before .args .ad-out .now) in
-    answered-refused (within-is (c .before .before .before .before .before .before .before .before .before .args .alts .now) (c .before .before .before .before .before .before .before .before .before .args .gt .now) (c .before .before .before .before .before .before .before .before .before .args .gl .now) (c .before .before .before .before .before .before .before .before .before .args .ad .now) out
-    ∙ refused-within out (too-many-alts (c .before .before .before .before .before .before .before .before .before .args .alts .now) (c .before .before .before .before .before .before .before .before .before .args .gt .now) (c .before .before .before .before .before .before .before .before .before .args .gl .now) (c .before .before .before .before .before .before .before .before .before .args .ad .now) (c .before .alt-count .ensures) (c .if1 .taken)))
+returns c =
+    let args = c .before .before .before .before .before .before .before .before .before .args in
+    let out = outputs (args .alts-out .now) (args .gl-out .now) (args .ad-out .now) in
+    let many = too-many-alts (args .alts .now) (args .gt .now) (args .gl .now) (args .ad .now) (c .before .alt-count .ensures) (c .if1 .taken) in
+    with-none-above (args .alts .now) (args .gt .now) (args .gl .now) (args .ad .now) out
+    (answered-refused (within-is (args .alts .now) (args .gt .now) (args .gl .now) (args .ad .now) out ∙ refused-within out many))
 
 add-alleles : tie.Need-add-alleles
 add-alleles c = search needs
@@ -67,20 +70,42 @@ same-length-3 : tie.Need-same-length-3
 same-length-3 c = search needs
 
 returns-2 : tie.Need-returns-2
-returns-2 c = let out = outputs (c .before .before .before .before .before .before .before .before .before .before .before .before .before .before .before .before .before .before .before .before .before .before .before .args .alts-out .now) (c .before .before .before .before .before .before .before .before .before .before .before .before .before .before .before .before .before .before .before .before .before .before .before .args .gl-out .now) (c .before .before .before .before .before .before .before .before .before .before .before .before .before .before .before .before .before .before .before .before .before .before .before .args .ad-out .now) in
-    let many = sym (as-many (c .before .before .before .before .before .before .before .before .before .before .before .before .before .before .before .before .before .before .before .before .before .before .before .args .gt .now) _ (c .before .before .before .before .before .before .before .before .before .before .before .before .before .before .if1 .left) refl (c .before .before .before .before .before .before .before .before .before .before .before .before .output-allele-keep-indices-from-assigned-gt .ensures)) ∙ (c .before .before .before .before .before .before .before .before .before .before .if2 .taken) in
-    answered-as (within-is (c .before .before .before .before .before .before .before .before .before .before .before .before .before .before .before .before .before .before .before .before .before .before .before .args .alts .now) (c .before .before .before .before .before .before .before .before .before .before .before .before .before .before .before .before .before .before .before .before .before .before .before .args .gt .now) (c .before .before .before .before .before .before .before .before .before .before .before .before .before .before .before .before .before .before .before .before .before .before .before .args .gl .now) (c .before .before .before .before .before .before .before .before .before .before .before .before .before .before .before .before .before .before .before .before .before .before .before .args .ad .now) out
-    ∙ ap (λ s. subsetWithin s out) (all-named (c .before .before .before .before .before .before .before .before .before .before .before .before .before .before .before .before .before .before .before .before .before .before .before .args .alts .now) (c .before .before .before .before .before .before .before .before .before .before .before .before .before .before .before .before .before .before .before .before .before .before .before .args .gt .now) (c .before .before .before .before .before .before .before .before .before .before .before .before .before .before .before .before .before .before .before .before .before .before .before .args .gl .now) (c .before .before .before .before .before .before .before .before .before .before .before .before .before .before .before .before .before .before .before .before .before .before .before .args .ad .now) (c .before .before .before .before .before .before .before .before .before .before .before .before .before .before .before .alt-count .ensures) (c .before .before .before .before .before .before .before .before .before .before .before .before .before .before .if1 .left) many))
-    (c .before .before .before .before .before .before .copy-record .ensures)
+returns-2 c =
+    let at-copy = c .before .before .before .before .before .before in
+    let at-whole = at-copy .before .before .before .before in
+    let at-keep = at-whole .before .before in
+    let at-few = at-keep .before .before in
+    let args = at-few .before .before .before .before .before .before .before .before .before .args in
+    let out = outputs (args .alts-out .now) (args .gl-out .now) (args .ad-out .now) in
+    let all = sym (as-many (args .gt .now) _ (at-few .if1 .left) refl (at-keep .output-allele-keep-indices-from-assigned-gt .ensures))
+    ∙ at-whole .if2 .taken in
+    let subset = all-named (args .alts .now) (args .gt .now) (args .gl .now) (args .ad .now) (at-few .before .alt-count .ensures) (at-few .if1 .left) all in
+    with-none-above (args .alts .now) (args .gt .now) (args .gl .now) (args .ad .now) out
+    (answered-as
+    (within-is (args .alts .now) (args .gt .now) (args .gl .now) (args .ad .now) out ∙ ap (λ s. subsetWithin s out) subset)
+    (at-copy .copy-record .ensures))
 
 array-share-prefix-keep : tie.Need-array-share-prefix-keep
-array-share-prefix-keep c = kept-within (c .before .before .before .before .before .before .before .before .before .before .before .before .before .args .gt .now) _ (c .before .before .before .before .if1 .left) refl (c .before .before .output-allele-keep-indices-from-assigned-gt .ensures)
+array-share-prefix-keep c =
+    let at-keep = c .before .before in
+    let at-few = at-keep .before .before in
+    let args = at-few .before .before .before .before .before .before .before .before .before .args in
+    keep-within (args .gt .now) _ (at-few .if1 .left) refl (at-keep .output-allele-keep-indices-from-assigned-gt .ensures)
 
 slice-aggregate-subset-record : tie.Need-slice-aggregate-subset-record
-slice-aggregate-subset-record c = kept-length (c .before .before .before .before .before .before .before .before .before .before .before .before .before .before .args .gt .now) _ (c .before .before .before .before .before .if1 .left) refl (c .before .before .before .output-allele-keep-indices-from-assigned-gt .ensures)
+slice-aggregate-subset-record c =
+    let at-keep = c .before .before .before in
+    let at-few = at-keep .before .before in
+    let args = at-few .before .before .before .before .before .before .before .before .before .args in
+    keep-length (args .gt .now) _ (at-few .if1 .left) refl (at-keep .output-allele-keep-indices-from-assigned-gt .ensures)
 
 subset-record-requires : tie.Need-subset-record-requires
-subset-record-requires c κs = assigned-keep (c .before .before .before .before .before .before .before .before .before .before .before .before .before .before .before .before .before .args .gt .now) _ (c .before .before .before .before .before .before .before .before .if1 .left) refl (c .before .before .before .before .before .before .output-allele-keep-indices-from-assigned-gt .ensures) (c .before .before .before .before .before .before .before .before .before .before .before .before .before .before .before .before .before .args .alts .now) (c .before .before .before .before .before .before .before .before .before .alt-count .ensures)
+subset-record-requires c κs =
+    let at-keep = c .before .before .before .before .before .before in
+    let at-few = at-keep .before .before in
+    let args = at-few .before .before .before .before .before .before .before .before .before .args in
+    assigned-keep (args .gt .now) _ (at-few .if1 .left) refl (at-keep .output-allele-keep-indices-from-assigned-gt .ensures)
+    (args .alts .now) (at-few .before .alt-count .ensures)
 
 same-length-4 : tie.Need-same-length-4
 same-length-4 c = search needs
@@ -92,11 +117,21 @@ same-length-6 : tie.Need-same-length-6
 same-length-6 c = search needs
 
 returns-3 : tie.Need-returns-3
-returns-3 c = let out = outputs (c .before .before .before .before .before .before .before .before .before .before .before .before .before .before .before .before .before .before .before .before .before .before .before .before .args .alts-out .now) (c .before .before .before .before .before .before .before .before .before .before .before .before .before .before .before .before .before .before .before .before .before .before .before .before .args .gl-out .now) (c .before .before .before .before .before .before .before .before .before .before .before .before .before .before .before .before .before .before .before .before .before .before .before .before .args .ad-out .now) in
-    answered-as (within-is (c .before .before .before .before .before .before .before .before .before .before .before .before .before .before .before .before .before .before .before .before .before .before .before .before .args .alts .now) (c .before .before .before .before .before .before .before .before .before .before .before .before .before .before .before .before .before .before .before .before .before .before .before .before .args .gt .now) (c .before .before .before .before .before .before .before .before .before .before .before .before .before .before .before .before .before .before .before .before .before .before .before .before .args .gl .now) (c .before .before .before .before .before .before .before .before .before .before .before .before .before .before .before .before .before .before .before .before .before .before .before .before .args .ad .now) out
-    ∙ ap (λ s. subsetWithin s out) (some-unnamed (c .before .before .before .before .before .before .before .before .before .before .before .before .before .before .before .before .before .before .before .before .before .before .before .before .args .alts .now) (c .before .before .before .before .before .before .before .before .before .before .before .before .before .before .before .before .before .before .before .before .before .before .before .before .args .gt .now) (c .before .before .before .before .before .before .before .before .before .before .before .before .before .before .before .before .before .before .before .before .before .before .before .before .args .gl .now) (c .before .before .before .before .before .before .before .before .before .before .before .before .before .before .before .before .before .before .before .before .before .before .before .before .args .ad .now) (c .before .before .before .before .before .before .before .before .before .before .before .before .before .before .before .before .alt-count .ensures) (c .before .before .before .before .before .before .before .before .before .before .before .before .before .before .before .if1 .left)
-    (λ e. (c .before .before .before .before .before .before .before .before .before .before .before .if2 .left) (as-many (c .before .before .before .before .before .before .before .before .before .before .before .before .before .before .before .before .before .before .before .before .before .before .before .before .args .gt .now) _ (c .before .before .before .before .before .before .before .before .before .before .before .before .before .before .before .if1 .left) refl (c .before .before .before .before .before .before .before .before .before .before .before .before .before .output-allele-keep-indices-from-assigned-gt .ensures) ∙ e))))
-    (rw (kept-front (c .before .before .before .before .before .before .before .before .before .before .before .before .before .before .before .before .before .before .before .before .before .before .before .before .args .gt .now) _ (c .before .before .before .before .before .before .before .before .before .before .before .before .before .before .before .if1 .left) refl (c .before .before .before .before .before .before .before .before .before .before .before .before .before .output-allele-keep-indices-from-assigned-gt .ensures)) at ((c .before .before .before .before .before .before .subset-record .ensures)))
+returns-3 c =
+    let at-subset = c .before .before .before .before .before .before in
+    let at-whole = at-subset .before .before .before .before .before in
+    let at-keep = at-whole .before .before in
+    let at-few = at-keep .before .before in
+    let args = at-few .before .before .before .before .before .before .before .before .before .args in
+    let out = outputs (args .alts-out .now) (args .gl-out .now) (args .ad-out .now) in
+    let laid = at-keep .output-allele-keep-indices-from-assigned-gt .ensures in
+    let many = as-many (args .gt .now) _ (at-few .if1 .left) refl laid in
+    let subset = some-unnamed (args .alts .now) (args .gt .now) (args .gl .now) (args .ad .now) (at-few .before .alt-count .ensures) (at-few .if1 .left)
+    (λ e. at-whole .if2 .left (many ∙ e)) in
+    with-none-above (args .alts .now) (args .gt .now) (args .gl .now) (args .ad .now) out
+    (answered-as
+    (within-is (args .alts .now) (args .gt .now) (args .gl .now) (args .ad .now) out ∙ ap (λ s. subsetWithin s out) subset)
+    (rw (keep-front (args .gt .now) _ (at-few .if1 .left) refl laid) at (at-subset .subset-record .ensures)))
 
 pub subset-unused-alts-after-merged-genotyping-spec : {M : Type 1} → statement M
 subset-unused-alts-after-merged-genotyping-spec =

@@ -29,7 +29,10 @@ in-range-requires : tie.Need-in-range-requires Inv-loop μ-loop
 in-range-requires c κs = search needs
 
 returns : tie.Need-returns Inv-loop μ-loop
-returns c = sym (all-failed inRange (c .before .before .before .before .before .before .args .values .now) nan (c .before .before .before .before .loop .i) (c .before .before .before .loop-test .taken) (failed (c .before .in-range .ensures) (c .if1 .taken))) ∙ (c .before .before .before .before .loop .inv .1)
+returns c =
+    let at-loop = c .before .before .before .before in
+    let at-start = at-loop .before .before in
+    sym (all-failed inRange (at-start .args .values .now) nan (at-loop .loop .i) (c .before .before .before .loop-test .taken) (failed (c .before .in-range .ensures) (c .if1 .taken))) ∙ (at-loop .loop .inv .1)
 
 add-i : tie.Need-add-i Inv-loop μ-loop
 add-i c = search needs
@@ -38,10 +41,15 @@ loop-less : tie.Need-loop-less Inv-loop μ-loop
 loop-less c = search needs
 
 loop-again : tie.Need-loop-again Inv-loop μ-loop
-loop-again c = ((c .before .before .before .before .loop .inv .0), sym (all-next inRange (c .before .before .before .before .before .before .args .values .now) nan (c .before .before .before .before .loop .i) (c .before .before .before .loop-test .taken) (passed (c .before .in-range .ensures) (c .if1 .left))) ∙ (c .before .before .before .before .loop .inv .1))
+loop-again c =
+    let at-loop = c .before .before .before .before in
+    let at-start = at-loop .before .before in
+    ((at-loop .loop .inv .0), sym (all-next inRange (at-start .args .values .now) nan (at-loop .loop .i) (c .before .before .before .loop-test .taken) (passed (c .before .in-range .ensures) (c .if1 .left))) ∙ (at-loop .loop .inv .1))
 
 returns-2 : tie.Need-returns-2 Inv-loop μ-loop
-returns-2 c = sym (all-end inRange (c .before .before .before .args .values .now) (c .before .loop .i) (c .loop-test .left)) ∙ (c .before .loop .inv .1)
+returns-2 c =
+    let at-loop = c .before in
+    sym (all-end inRange (c .before .before .before .args .values .now) (at-loop .loop .i) (c .loop-test .left)) ∙ (at-loop .loop .inv .1)
 
 pub all-in-range-spec : {M : Type 1} → statement M
 all-in-range-spec =

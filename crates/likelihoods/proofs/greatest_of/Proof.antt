@@ -21,7 +21,9 @@ shared-slice-read-best : tie.Need-shared-slice-read-best Inv-loop μ-loop
 shared-slice-read-best c = search needs
 
 loop-holds : tie.Need-loop-holds Inv-loop μ-loop
-loop-holds c = (refl, sym (greatest-first (c .before .before .args .values .now) (c .before .before .pre)))
+loop-holds c =
+    let at-start = c .before .before in
+    (refl, sym (greatest-first (at-start .args .values .now) (at-start .pre)))
 
 mul-v : tie.Need-mul-v Inv-loop μ-loop
 mul-v c = search needs
@@ -39,10 +41,15 @@ loop-less : tie.Need-loop-less Inv-loop μ-loop
 loop-less c = search needs
 
 loop-again : tie.Need-loop-again Inv-loop μ-loop
-loop-again c = ((c .before .before .before .loop .inv .0), rw (c .greater-of .ensures) (sym (fold-next greater (c .before .before .before .before .before .before .args .values .now) nan (c .before .before .before .loop .i) (c .before .before .before .loop .best) (c .before .before .loop-test .taken)) ∙ (c .before .before .before .loop .inv .1)))
+loop-again c =
+    let at-loop = c .before .before .before in
+    let at-start = at-loop .before .before .before in
+    ((at-loop .loop .inv .0), rw (c .greater-of .ensures) (sym (fold-next greater (at-start .args .values .now) nan (at-loop .loop .i) (at-loop .loop .best) (c .before .before .loop-test .taken)) ∙ (at-loop .loop .inv .1)))
 
 returns : tie.Need-returns Inv-loop μ-loop
-returns c = sym (fold-end greater (c .before .before .before .before .args .values .now) nan (c .before .loop .i) (c .before .loop .best) (c .loop-test .left)) ∙ (c .before .loop .inv .1)
+returns c =
+    let at-loop = c .before in
+    sym (fold-end greater (c .before .before .before .before .args .values .now) nan (at-loop .loop .i) (at-loop .loop .best) (c .loop-test .left)) ∙ (at-loop .loop .inv .1)
 
 pub greatest-of-spec : {M : Type 1} → statement M
 greatest-of-spec =

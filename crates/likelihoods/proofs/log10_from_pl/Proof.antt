@@ -13,9 +13,11 @@ int-to-float-result c = search needs
 
 returns : tie.Need-returns
 unfolding ofBits ofFields odd
-returns c = let p = (c .before .args .pl) in
-    let e = div-tenth p (omega (arith, (c .before .fits .pl))) in
-    (e, subst (λ x. NearMinusTenth p x) (sym e) (near-tenth p (omega (arith, (c .before .fits .pl)))))
+returns c =
+    let at-start = c .before in
+    let p = (at-start .args .pl) in
+    let e = div-tenth p (omega (arith, (at-start .fits .pl))) in
+    (e, subst (λ x. NearMinusTenth p x) (sym e) (near-tenth p (omega (arith, (at-start .fits .pl)))))
 
 pub log10-from-pl-spec : {M : Type 1} → statement M
 log10-from-pl-spec = tie.close (tie.spec int-to-float-result returns)

@@ -18,7 +18,9 @@ returns : tie.Need-returns
 returns c = search needs
 
 returns-2 : tie.Need-returns-2
-returns-2 c = sym (set-out (c .before .args .out .now) (c .before .args .place) (c .before .args .x) (c .if1 .left))
+returns-2 c =
+    let at-start = c .before in
+    sym (set-out (at-start .args .out .now) (at-start .args .place) (at-start .args .x) (c .if1 .left))
 
 pub put-value-spec : {M : Type 1} → statement M
 put-value-spec = tie.close (tie.spec mul-out slice-write-out same-length returns returns-2)

@@ -9,8 +9,8 @@ use native.Mathlib.Omega.{arith}
 use Rattle.definitions.specs.AlleleSubset.{greatest, lessGreatest}
 use Rattle.genotype_values.proofs.Storing.{Unstored, all-left, all-stored, next-stored, unstored-length}
 use Rattle.likelihoods.proofs.Greatest.{less-each, less-none}
-use Rattle.likelihoods.proofs.less_greatest.Statement.{statement}
-use Rattle.likelihoods.proofs.less_greatest.Tie as tie
+use Rattle.likelihoods.proofs.scale_log_space_array_for_numerical_stability.Statement.{statement}
+use Rattle.likelihoods.proofs.scale_log_space_array_for_numerical_stability.Tie as tie
 
 abbrev Inv-loop : tie.InvT-loop
 Inv-loop values out₀ best i₀ i-end out i =
@@ -44,17 +44,25 @@ loop-less : tie.Need-loop-less Inv-loop μ-loop
 loop-less c = search needs
 
 loop-again : tie.Need-loop-again Inv-loop μ-loop
-loop-again c = let values = (c .before .before .before .before .before .before .before .before .before .before .before .args .values .now) in
-    ((c .before .before .before .before .before .before .loop .inv .0), next-stored (λ x. sub binary64 x (greatest values)) values nan (c .before .before .before .before .before .loop-test .taken) (rw (c .before .before .before .before .before .before .loop .inv .0)) (c .before .before .put-value .ensures) ((c .before .before .before .before .before .before .loop .inv .1)))
+loop-again c =
+    let at-here = c .before .before .before .before .before in
+    let at-loop-test = at-here in
+    let at-loop = at-loop-test .before in
+    let at-start = at-loop .before .before .before .before .before in
+    let values = (at-start .args .values .now) in
+    ((at-loop .loop .inv .0), next-stored (λ x. sub binary64 x (greatest values)) values nan (at-loop-test .loop-test .taken) (rw (at-loop .loop .inv .0)) (c .before .before .put-value .ensures) (at-loop .loop .inv .1))
 
 same-length : tie.Need-same-length Inv-loop μ-loop
 same-length c = unstored-length ((c .before .loop .inv .1))
 
 returns-2 : tie.Need-returns-2 Inv-loop μ-loop
-returns-2 c = let values = (c .before .before .before .before .before .before .args .values .now) in all-stored (λ x. sub binary64 x (greatest values)) values (c .loop-test .left) ((c .before .loop .inv .1))
+returns-2 c =
+    let at-here = c .before .before .before .before .before .before in
+    let at-start = at-here in
+    let values = (at-start .args .values .now) in all-stored (λ x. sub binary64 x (greatest values)) values (c .loop-test .left) (c .before .loop .inv .1)
 
-pub less-greatest-spec : {M : Type 1} → statement M
-less-greatest-spec =
+pub scale-log-space-array-for-numerical-stability-spec : {M : Type 1} → statement M
+scale-log-space-array-for-numerical-stability-spec =
     tie.close
     (tie.spec
     Inv-loop

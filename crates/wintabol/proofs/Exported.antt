@@ -1,0 +1,99 @@
+-- An outcome of which an entry's promise holds, as numbers.
+-- Assumes nothing.
+use Prim.Native.Nat.{_≤_, ℕ}
+use borrow.Author.Tests.{ne-eqb}
+use lib.Dec.{eqb}
+use lib.ListN.{length}
+use mathlib.Core.List.{List}
+use mathlib.Core.Path.{_∙_, _≡_, ap, refl, sym}
+use native.Mathlib.Omega.{arith}
+use Rattle.allele_subsetting_pl.specs.UnusedAlts as unused
+use Rattle.allele_subsetting_pl.specs.UnusedAlts.{Outputs, UnusedAltsAnswered, likelihoodCountOf}
+use Rattle.allele_subsetting_pl.specs.declared.UnusedAltOutcome.{UnusedAltOutcome}
+use Rattle.allele_subsetting_pl.specs.declared.UnusedAltOutcome.the-variants as alts
+use Rattle.answers.specs.Answered.{Answered, outcomeAnswer}
+use Rattle.answers.specs.declared.Outcome.{Outcome}
+use Rattle.answers.specs.declared.Outcome.the-variants as outcome
+use Rattle.combine_gvcfs.specs.Combined.{Combined}
+use Rattle.definitions.specs.AlleleSubset.{UnusedAltSubset}
+use Rattle.definitions.specs.Answers.{Answer, answerOf, writtenOf}
+use Rattle.definitions.specs.Checked.{Checked, accepted, isAccepted, refused}
+use Rattle.definitions.specs.CombinedList.{Texts}
+use Rattle.laws.proofs.Checked.{accepted-same, not-refused}
+use Rattle.likelihoods.specs.Written.{countOf}
+use Rattle.wintabol.proofs.RefusalNumbers.{Numbered, ill, list-numbered, well}
+use Rattle.wintabol.specs.Exported.{Exported, ExportedAlts, ExportedList, UnusedAltAnswer, answer, answerAlts, answerAltsOf, outcomeAlts, outcomeNumbers}
+
+refused-same : {A : Type 0} {m n : ℕ} → _≡_ {A = Checked A} (refused m) (refused n) → m ≡ n
+refused-same e = cc
+
+-- ---- one output
+
+module _ {A : Type 0} where
+  numbers-of : (r : Outcome) (values : Checked (List A)) → outcomeAnswer r ≡ writtenOf values → outcomeNumbers r ≡ answerOf values
+  unfolding writtenOf answerOf
+  numbers-of (outcome.Written n) (accepted list) e = rw (accepted-same e)
+  numbers-of (outcome.Written n) (refused row) e = not-refused (sym e)
+  numbers-of (outcome.Refused row) (accepted list) e = not-refused e
+  numbers-of (outcome.Refused row) (refused m) e = rw (refused-same e)
+
+  number-accepts : {values : Checked (List A)} {number written : ℕ} → Numbered values → answer number written ≡ answerOf values
+      → eqb number 0 ≡ isAccepted values
+  unfolding answerOf isAccepted
+  number-accepts (well list) e = ap (λ (a : Answer). eqb (a .number) 0) e
+  number-accepts (ill row h) e = ap (λ (a : Answer). eqb (a .number) 0) e ∙ ne-eqb row 0 (λ z. omega arith)
+
+  pub exported : {values : Checked (List A)} {out out′ : List A} {r : Outcome} {number written : ℕ} → Numbered values
+      → Answered values out out′ r → outcomeNumbers r ≡ answer number written → Exported values out out′ number written
+  exported {values = values} {r = r} n a e =
+      let numbers = sym e ∙ numbers-of r values (a .answer) in
+      record { numbers = numbers; accepts = number-accepts n numbers; output = a .output }
+
+-- as many as the outcome says
+pub written-count : {number written : ℕ} (r : Outcome) → outcomeNumbers r ≡ answer number written → countOf r ≡ written
+written-count (outcome.Written n) e = ap (λ (a : Answer). a .written) e
+written-count (outcome.Refused row) e = ap (λ (a : Answer). a .written) e
+
+pub exported-list : {texts : Texts} {scratch scratch′ out out′ : List ℕ} {r : Outcome} {number written : ℕ}
+    → Combined texts scratch scratch′ out out′ r → outcomeNumbers r ≡ answer number written
+    → ExportedList texts scratch scratch′ out out′ number written
+exported-list {texts = texts} {scratch = scratch} {out = out} {r = r} c e =
+    record {
+      choose = c .choose;
+      choice = c .choice;
+      exported = exported {r = r} (list-numbered texts (length scratch) (length out) (c .choose)) (record { answer = c .answer; output = c .output }) e;
+      cleared = c .cleared;
+    }
+
+-- ---- three outputs
+
+alts-numbers : (r : UnusedAltOutcome) (subset : Checked UnusedAltSubset) → unused.outcomeAnswer r ≡ unused.writtenOf subset
+    → outcomeAlts r ≡ answerAltsOf subset
+unfolding unused.writtenOf answerAltsOf
+alts-numbers (alts.Written a b d) (accepted s) e = rw (ap (λ l. l .alts) (accepted-same e), ap (λ l. l .likelihoods) (accepted-same e), ap (λ l. l .ad) (accepted-same e))
+alts-numbers (alts.Written a b d) (refused row) e = not-refused (sym e)
+alts-numbers (alts.Refused row) (accepted s) e = not-refused e
+alts-numbers (alts.Refused row) (refused m) e = rw (refused-same e)
+
+alts-accepts : {subset : Checked UnusedAltSubset} {number a b d : ℕ} → Numbered subset → answerAlts number a b d ≡ answerAltsOf subset
+    → eqb number 0 ≡ isAccepted subset
+unfolding answerAltsOf isAccepted
+alts-accepts (well s) e = ap (λ (a : UnusedAltAnswer). eqb (a .number) 0) e
+alts-accepts (ill row h) e = ap (λ (a : UnusedAltAnswer). eqb (a .number) 0) e ∙ ne-eqb row 0 (λ z. omega arith)
+
+pub exported-alts : {subset : Checked UnusedAltSubset} {before after : Outputs} {r : UnusedAltOutcome} {number a b d : ℕ} → Numbered subset
+    → UnusedAltsAnswered subset before after r → outcomeAlts r ≡ answerAlts number a b d → ExportedAlts subset before after number a b d
+exported-alts {subset = subset} {r = r} n h e =
+    let numbers = sym e ∙ alts-numbers r subset (h .answer) in
+    record {
+      numbers = numbers;
+      accepts = alts-accepts n numbers;
+      alts-output = h .alts;
+      likelihoods-output = h .likelihoods;
+      ad-output = h .ad;
+    }
+
+-- as many likelihoods as the outcome says
+pub likelihood-count : {number a b d : ℕ} (r : UnusedAltOutcome) → outcomeAlts r ≡ answerAlts number a b d → likelihoodCountOf r ≡ b
+likelihood-count (alts.Written x y z) e = ap (λ (a : UnusedAltAnswer). a .likelihoods) e
+likelihood-count (alts.Refused row) e = ap (λ (a : UnusedAltAnswer). a .likelihoods) e
