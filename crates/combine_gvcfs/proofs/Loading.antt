@@ -11,7 +11,8 @@ use Rattle.answers.proofs.Answers.{answered-refused}
 use Rattle.answers.specs.Answered.{Answered}
 use Rattle.answers.specs.declared.Outcome.the-variants as outcome
 use Rattle.answers.specs.declared.Outcome.{Outcome}
-use Rattle.clip_and_reference.proofs.Groups.{GroupsFrom, in-order, not-in-order}
+use Rattle.clip_and_reference.proofs.Groups.{in-order, not-in-order}
+use Rattle.clip_and_reference.specs.Groups.{GroupsFrom}
 use Rattle.cohort.specs.Cohort.{CohortTo, CohortUnread, fittingCohort, sitesIn}
 use Rattle.combined_list.specs.WrittenList.{CallLoaded, listWithin}
 use Rattle.definitions.specs.Answers.{scratchAfter}
@@ -23,8 +24,8 @@ use Rattle.definitions.specs.Limits.{maxSamples, maxSites}
 use Rattle.definitions.specs.Lines.{Line}
 use Rattle.definitions.specs.Lists.{missingOr, numbersFrom, onlyIf}
 use Rattle.indexed_groups.proofs.ShortTables.{no-segment-rows, no-span-rows}
-use Rattle.indexed_groups.proofs.Storing.{segments-still}
-use Rattle.indexed_groups.specs.Indexed.{SegmentsIndexed, SegmentsOnly, SpansIndexed, SpansOnly}
+use Rattle.indexed_groups.proofs.Storing.{segments-still, segments-unchanged, spans-unchanged}
+use Rattle.indexed_groups.specs.Indexed.{SegmentsGiven, SegmentsIndexed, SegmentsOnly, SpansGiven, SpansIndexed, SpansOnly}
 use Rattle.laws.proofs.Checked.{accepted-same, after-required, not-required, required, then, then-refused}
 use Rattle.laws.proofs.Every.{every-of-each}
 use Rattle.laws.proofs.Members.{length-numbers}
@@ -35,7 +36,7 @@ use Rattle.laws.proofs.Tests.{all-three, clash}
 use Rattle.tables.proofs.Cleared.{scratch-same}
 use Rattle.tables.proofs.SameSites.{same-rows, same-sites}
 use Rattle.tables.specs.Tables.{nameAt, namesIn, siteAt, tableLength}
-use Rattle.combine_gvcfs.specs.Combined.{CohortHeld, Combined, TableWhole, TablesFit, TextsAnswered, TextsFit, TriedWith, textsOf}
+use Rattle.combine_gvcfs.specs.Combined.{CohortHeld, Combined, IfGiven, TableWhole, TablesFit, TextsAnswered, TextsFit, TriedWith, textsOf}
 use Rattle.combine_gvcfs.specs.declared.Tried.the-variants as tried
 use Rattle.combine_gvcfs.specs.declared.Tried.{Tried}
 
@@ -134,9 +135,23 @@ module _ (cohort : List ℕ) (clipped : Bool) (clip : List ℕ) (referenced : Bo
 pub still-whole : (rows rows′ : List ℕ) → length rows′ ≡ length rows → TableWhole rows → TableWhole rows′
 still-whole rows rows′ e w = ⊎-elim (λ h. inl (omega arith)) (λ h. inr (omega arith)) w
 
+segments-only : (given : Bool) {s rows after : List ℕ} → IfGiven given (SegmentsGiven s rows after) rows after → SegmentsOnly rows after
+segments-only true x = x .there refl .only
+segments-only false x = rw (x .left-out refl) (segments-unchanged _)
+
+spans-only : (given : Bool) {s rows after : List ℕ} → IfGiven given (SpansGiven s rows after) rows after → SpansOnly rows after
+spans-only true x = x .there refl .only
+spans-only false x = rw (x .left-out refl) (spans-unchanged _)
+
 module _ {s names rows : List ℕ} {samples sites : ℕ} {clipped : Bool} {clip : List ℕ} {referenced : Bool} {reference : List ℕ}
     (held : CohortHeld s names rows samples sites clipped clip referenced reference) {rows₁ rows₂ : List ℕ}
-    (first : SegmentsOnly rows rows₁) (second : SpansOnly rows₁ rows₂) where
+    (given₁ : IfGiven referenced (SegmentsGiven reference rows rows₁) rows rows₁) (given₂ : IfGiven clipped (SpansGiven clip rows₁ rows₂) rows₁ rows₂) where
+  first : SegmentsOnly rows rows₁
+  first = segments-only referenced given₁
+
+  second : SpansOnly rows₁ rows₂
+  second = spans-only clipped given₂
+
   same-numbers : (j : ℕ) → j < 90112 → getD rows₂ j 0 ≡ getD rows j 0
   same-numbers j h = second .sites-segments j (omega arith) ∙ first .sites j h
 
@@ -157,12 +172,12 @@ module _ {s names rows : List ℕ} {samples sites : ℕ} {clipped : Bool} {clip 
         whole = still-whole rows rows₂ (second .long ∙ first .long) (held .whole);
       }
 
-  pub segments-there : (referenced ≡ true → tableLength ≤ length rows → SegmentsIndexed reference rows₁) → referenced ≡ true → SegmentsIndexed reference rows₂
-  segments-there x e = ⊎-elim (λ h. segments-still reference rows₁ rows₂ second (x e h))
+  pub segments-there : referenced ≡ true → SegmentsIndexed reference rows₂
+  segments-there e = ⊎-elim (λ h. segments-still reference rows₁ rows₂ second (given₁ .there e .indexed h))
       (λ h. no-segment-rows reference rows₂ (omega (arith, first .long, second .long))) (held .whole)
 
-  pub spans-there : (clipped ≡ true → tableLength ≤ length rows₁ → SpansIndexed clip rows₂) → clipped ≡ true → SpansIndexed clip rows₂
-  spans-there x e = ⊎-elim (λ h. x e (omega (arith, first .long)))
+  pub spans-there : clipped ≡ true → SpansIndexed clip rows₂
+  spans-there e = ⊎-elim (λ h. given₂ .there e .indexed (omega (arith, first .long)))
       (λ h. no-span-rows clip rows₂ (omega (arith, first .long, second .long))) (held .whole)
 
 -- ---- texts in order

@@ -2,7 +2,7 @@
 use Prim.Native.Nat.{_*_, _<_, _≤_, ℕ}
 use lib.Dec.{leb}
 use lib.ListN.{length}
-use mathlib.Core.Bool.{Bool, _&&_, true}
+use mathlib.Core.Bool.{Bool, _&&_, false, true}
 use mathlib.Core.List.{List}
 use mathlib.Core.Logic.{_⊎_}
 use mathlib.Core.Option.{Option}
@@ -53,6 +53,11 @@ atMost most t = missingOr (λ (s : List ℕ). leb (length s) most) t
 abbrev pub TextsFit : List ℕ → Bool → List ℕ → Bool → List ℕ → Type 0
 TextsFit cohort clipped clip referenced reference =
     (fits cohort && missingOr fits (onlyIf clipped clip) && missingOr fits (onlyIf referenced reference)) ≡ true
+
+-- what a text that may be left out changes in the table: nothing, if it is
+pub record IfGiven (given : Bool) (Rows : Type 0) (rows after : List ℕ) : Type 0 where
+  pub there : given ≡ true → Rows
+  pub left-out : given ≡ false → after ≡ rows
 
 -- a table has room for the groups of the other texts, or ends before their counts
 abbrev pub TableWhole : List ℕ → Type 0

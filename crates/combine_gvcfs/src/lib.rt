@@ -1,5 +1,4 @@
 // The texts of a call, the tables that they are read into, and the library's entry.
-ghost use Prim.Native.Nat.{_≤_};
 ghost use lib.Dec.{leb};
 ghost use lib.ListN.{length};
 ghost use mathlib.Core.Bool.{_&&_, true};
@@ -9,9 +8,8 @@ ghost use Rattle.definitions.specs.Checked.{isAccepted};
 ghost use Rattle.definitions.specs.ClipAndReference.{optionalGroups, segmentOf, spanOf};
 ghost use Rattle.definitions.specs.CombinedList.{fits};
 ghost use Rattle.definitions.specs.Lists.{missingOr, onlyIf};
-ghost use Rattle.indexed_groups.specs.Indexed.{SegmentsIndexed, SegmentsOnly, SpansIndexed, SpansOnly};
-ghost use Rattle.tables.specs.Tables.{tableLength};
-ghost use Rattle.combine_gvcfs.specs.Combined.{CohortHeld, Combined, TablesFit, TextsAnswered, TextsFit, TriedWith, atMost, textsOf};
+ghost use Rattle.indexed_groups.specs.Indexed.{SegmentsGiven, SpansGiven};
+ghost use Rattle.combine_gvcfs.specs.Combined.{CohortHeld, Combined, IfGiven, TablesFit, TextsAnswered, TextsFit, TriedWith, atMost, textsOf};
 use answers::Outcome;
 use cohort::CohortRead;
 
@@ -54,8 +52,7 @@ fn reference_in_order(referenced: bool, reference: &[u8]) -> bool
 
 // Gives the first segments of the reference, if there is one, their rows in the table.
 fn index_reference(referenced: bool, reference: &[u8], rows: &mut [usize])
-    ensures others { λ _. ⌜ SegmentsOnly (now (rows .entry)) (now (rows .exit)) ⌝ }
-    ensures indexed { λ _. ⌜ (referenced ≡ true → tableLength ≤ length (now (rows .entry)) → SegmentsIndexed (now (reference .entry)) (now (rows .exit))) ⌝ }
+    ensures { λ _. ⌜ IfGiven referenced (SegmentsGiven (now (reference .entry)) (now (rows .entry)) (now (rows .exit))) (now (rows .entry)) (now (rows .exit)) ⌝ }
 {
     if !referenced {
         return;
@@ -65,8 +62,7 @@ fn index_reference(referenced: bool, reference: &[u8], rows: &mut [usize])
 
 // Gives the first spans of the clip, if there is one, their rows in the table.
 fn index_clip(clipped: bool, clip: &[u8], rows: &mut [usize])
-    ensures others { λ _. ⌜ SpansOnly (now (rows .entry)) (now (rows .exit)) ⌝ }
-    ensures indexed { λ _. ⌜ (clipped ≡ true → tableLength ≤ length (now (rows .entry)) → SpansIndexed (now (clip .entry)) (now (rows .exit))) ⌝ }
+    ensures { λ _. ⌜ IfGiven clipped (SpansGiven (now (clip .entry)) (now (rows .entry)) (now (rows .exit))) (now (rows .entry)) (now (rows .exit)) ⌝ }
 {
     if !clipped {
         return;

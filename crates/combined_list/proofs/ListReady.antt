@@ -8,7 +8,7 @@ use mathlib.Core.Path.{_∙_, _≡_, ap, sym}
 use native.Mathlib.Omega.{arith}
 use Rattle.answers.specs.Answered.{Answered}
 use Rattle.answers.specs.declared.Outcome.{Outcome}
-use Rattle.contigs.specs.Contigs.{ContigOrder}
+use Rattle.contigs.specs.Contigs.{ContigOrder, RowsFor}
 use Rattle.covering_sites.specs.Covering.{sampleSites}
 use Rattle.covering_sites.specs.Runs.{Runs}
 use Rattle.definitions.specs.Bytes.{compareBytes}
@@ -21,6 +21,10 @@ use Rattle.combined_list.specs.WrittenList.{CallLoaded, ListReady, listW
 
 module _ {s names rows : List ℕ} {samples sites : ℕ} {clipped : Bool} {clip : List ℕ} {referenced : Bool} {reference : List ℕ}
     (call : CallLoaded s names rows samples sites clipped clip referenced reference) where
+  -- the table that order_contigs is lent
+  abbrev pub rows-for : RowsFor s rows sites
+  rows-for = record { sites = call .loaded .input .cohort .sites; table = call .loaded .table; all-sites = call .all-sites }
+
   module _ {zeros firsts : List ℕ} {n : ℕ} (long : sites ≤ length zeros)
       (o : ContigOrder s rows (call .loaded .input .cohort .sites) zeros firsts n) where
     contigs-few : length (o .firsts) ≤ length zeros

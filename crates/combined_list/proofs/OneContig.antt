@@ -8,22 +8,23 @@ use mathlib.Core.List.{List, []}
 use mathlib.Core.Option.{some}
 use mathlib.Core.Path.{_∙_, _≡_, ap, refl, subst, sym}
 use native.Mathlib.Omega.{arith}
-use Rattle.clip_and_reference.proofs.Groups.{SpansFrom}
+use Rattle.clip_and_reference.proofs.Groups.{all-read}
+use Rattle.clip_and_reference.specs.Groups.{SpansFrom, spansRead}
 use Rattle.covering_sites.proofs.CoveringFound.{contig-member, member-contig}
 use Rattle.covering_sites.specs.Covering.{contigSites}
 use Rattle.covering_sites.specs.Runs.{Runs}
-use Rattle.definitions.specs.ClipAndReference.{LetterChoice, Span}
+use Rattle.definitions.specs.ClipAndReference.{LetterChoice, Span, spanOf}
 use Rattle.definitions.specs.Cohort.{Site}
 use Rattle.definitions.specs.CombinedList.{Input, contigRecords}
 use Rattle.definitions.specs.Intervals.{breakpoints}
 use Rattle.definitions.specs.Lists.{numbersFrom, onlyIf}
 use Rattle.definitions.specs.Checked.{refused}
-use Rattle.intervals.proofs.ContigSites.{NumbersOn, all-of-contig, all-stored, no-clip, no-clip-breakpoints, rows-in-range, too-many}
-use Rattle.intervals.specs.Breakpoints.{Collected, RowInRange, allBreakpoints}
+use Rattle.intervals.proofs.ContigSites.{NumbersOn, all-of-contig, all-stored, no-clip, no-clip-breakpoints, too-many}
+use Rattle.intervals.specs.Breakpoints.{Collected, allBreakpoints}
 use Rattle.intervals.specs.declared.Breakpoints.{Breakpoints}
 use Rattle.intervals.specs.declared.Breakpoints.the-variants.{Count, NoRoom}
 use Rattle.laws.proofs.Checked.{not-required, required}
-use Rattle.laws.proofs.Every.{Every, every-map, every-member, every-of, every-of-map-back}
+use Rattle.laws.proofs.Every.{Every, every-member, every-of, every-of-map-back}
 use Rattle.laws.proofs.Members.{_∈_, numbers-member}
 use Rattle.list_header.specs.Measured.{limit}
 use Rattle.merged_records.specs.Loaded.{ContigRuns, chosenLetters}
@@ -138,16 +139,14 @@ module _ {s rows : List ℕ} {samples : ℕ} {clipped : Bool} {clip : List ℕ} 
 
       -- the breakpoints that are collected are the contig's
       pub collected : {text before after : List ℕ} {answer : Breakpoints} → text ≡ givenClip clipped clip
-          → (Every (RowInRange rows) (take (getD parts samples 0) chosen) → (spans : List Span) → SpansFrom text 0 spans
-          → Collected before (allBreakpoints rows (take (getD parts samples 0) chosen) spans contig) after answer)
+          → Collected before (allBreakpoints rows (take (getD parts samples 0) chosen) (spansRead text 0) contig) after answer
           → Collected before (breakpoints (g .loaded .input .cohort .sites) (g .loaded .input .clip) contig) after answer
       unfolding sites
       collected {before = before} {after = after} {answer = answer} t h =
           let given = given-spans (g .clip-given) in
-          let in-range = rows-in-range (g .loaded .table) (g .loaded .sound .cohort .sites) _ (every-map (λ i k. k .0) (numbers-on .only)) in
           subst (λ (all : List ℕ). Collected before all after answer)
-          (all-of-contig (g .loaded .table) (given .spans) contig _ numbers-on ∙ given .same sites contig)
-          (h in-range (given .spans) (rw t (given .from)))
+          (all-of-contig (g .loaded .table) (g .loaded .sound .cohort .sites) (given .spans) contig _ numbers-on ∙ given .same sites contig)
+          (rw (t, all-read spanOf (givenClip clipped clip) (given .from)) at h)
 
       module _ {places : List ℕ} (all : places ≡ breakpoints (g .loaded .input .cohort .sites) (g .loaded .input .clip) contig) where
         pub walk-ready : WalkReady s rows samples clipped clip referenced reference contig chosen parts places

@@ -4,7 +4,7 @@ use lib.ListN.{length}
 use mathlib.Core.Bool.{Bool, true}
 use mathlib.Core.List.{List, _++_, flatMap}
 use mathlib.Core.Path.{_≡_}
-use Rattle.clip_and_reference.proofs.Groups.{SpansFrom}
+use Rattle.clip_and_reference.specs.Groups.{SpansFrom}
 use Rattle.definitions.specs.Checked.{Checked, accepted, refused}
 use Rattle.definitions.specs.ClipAndReference.{Span}
 use Rattle.definitions.specs.CombinedList.{Input}

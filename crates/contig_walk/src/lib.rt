@@ -17,6 +17,7 @@ ghost use Rattle.merged_ref.specs.Answers.{refBytes};
 ghost use Rattle.record_laws.specs.Pending.{mergedContig};
 ghost use Rattle.contig_walk.specs.Laying.{LayReady, TurnReady, Turns, laidRecord};
 ghost use Rattle.contig_walk.specs.Walk.{Begun, ClipGiven, RecordsWalked, WalkReady, WalkRoom};
+use bio_ids::GenomeLoc;
 use bio_ids::GenomePosition;
 use coalescing::Pending;
 use coalescing::Stepped;
@@ -172,7 +173,7 @@ fn passes_clip(
     if !clipped {
         return true;
     }
-    intervals::in_clip(clip, rows, contig, first.get(), last.get())
+    intervals::in_clip(clip, rows, contig, GenomeLoc::new(first, last))
 }
 
 // What a turn of the walk leaves; or the row that refuses the interval's record.

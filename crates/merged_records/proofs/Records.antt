@@ -24,12 +24,13 @@ use Rattle.definitions.specs.Records.{Record, endOf, recordOf}
 use Rattle.laws.proofs.Checked.{not-required, required, then, then-refused}
 use Rattle.laws.proofs.Every.{Every, IfThere, every-of}
 use Rattle.laws.proofs.MergedRefSound.{RefFor, covering-sound, merged-ref-sound}
-use Rattle.laws.proofs.ReferenceLetter.{first-letter}
+use Rattle.laws.proofs.ReferenceLetter.{first-letter, firstLetter}
 use Rattle.laws.proofs.SoundInput.{SoundSite}
 use Rattle.laws.proofs.SoundValues.{Letters}
 use Rattle.merged_alleles.proofs.Sound.{found-sound}
 use Rattle.merged_alleles.specs.SoundSites.{SoundSites}
-use Rattle.merged_ref.specs.Answers.{refAnswer, refBytes}
+use Rattle.merged_ref.proofs.Refs.{by-segments}
+use Rattle.merged_ref.specs.Answers.{refAnswer, refBytes, referenceSegments}
 use Rattle.merged_ref.specs.declared.Place.{Place}
 use Rattle.merged_ref.specs.declared.RefAt.{RefAt}
 use Rattle.merged_ref.specs.declared.RefAt.the-variants as ref
@@ -118,9 +119,13 @@ module _ {s rows : List ℕ} {samples : ℕ} {referenced : Bool} {reference cont
   module _ (sites : List ℕ) (here : sites ≡ numbers) where
     -- REF by the numbers of the found sites is REF of the covering sites
     pub as-merged : {c : Checked (List ℕ)}
-        → c ≡ mergedRef (onlyIf referenced (on .loaded .segments)) (chosenLetters (on .loaded)) contig position (map (siteAt s rows) sites)
+        → c ≡ mergedRef (onlyIf referenced (referenceSegments reference rows)) (firstLetter (referenceSegments reference rows)) contig position
+        (map (siteAt s rows) sites)
         → mergedRef (on .loaded .input .reference) (chosenLetters (on .loaded)) contig position (covering on position) ≡ c
-    as-merged h = sym (h ∙ rw (here, numbers-cover, on .loaded .reference-is))
+    as-merged h =
+        let l = on .loaded in
+        sym (h ∙ by-segments reference rows referenced (l .segments) (l .segments-from) (l .segments-indexed) contig position _
+        ∙ rw (here, numbers-cover, l .reference-is))
 
     module _ (at : RefAt) (some-site : 0 < length sites)
         (merged : mergedRef (on .loaded .input .reference) (chosenLetters (on .loaded)) contig position (covering on position)

@@ -4,7 +4,7 @@ use lib.ListN.{length}
 use mathlib.Core.Bool.{Bool, true}
 use mathlib.Core.List.{List}
 use mathlib.Core.Path.{_≡_}
-use Rattle.clip_and_reference.proofs.Groups.{SegmentsFrom}
+use Rattle.clip_and_reference.specs.Groups.{SegmentsFrom}
 use Rattle.covering_sites.specs.Covering.{contigSites, coveringRows}
 use Rattle.covering_sites.specs.Runs.{Runs}
 use Rattle.definitions.specs.ClipAndReference.{LetterChoice, ReferenceSegment}

@@ -1,25 +1,26 @@
 -- The letter of a reference text: where it stands, and the loops that look for it.
 use Prim.Native.Nat.{_+_, _-_, _<_, _≤_, ℕ}
-use borrow.Author.Tests.{le-leb, le-ltb, lt-leb, lt-ltb}
+use borrow.Author.Tests.{le-leb, le-ltb, leb-true, lt-leb, lt-ltb, ltb-true}
+use lib.Dec.{leb, ltb}
 use lib.ListN.{drop, getD, length, length-drop, length-take, take}
 use lib.Seq.{drop-cons, getD-drop, getD-take}
-use mathlib.Core.Bool.{Bool, _||_, false, true}
+use mathlib.Core.Bool.{Bool, _&&_, _||_, cond, false, true}
 use mathlib.Core.List.{List, [], _++_, _∷_, map}
+use mathlib.Core.Option.{Option, none, some}
 use mathlib.Core.Path.{_∙_, _≡_, ap, refl, sym}
 use native.Mathlib.Nat.{sub-zero}
 use native.Mathlib.Omega.{arith}
-use Rattle.clip_and_reference.proofs.Groups.{SegmentsFrom, first-group, no-more, none-faulty}
-use Rattle.clip_and_reference.specs.Groups.{GroupFaulty, GroupTo}
+use Rattle.clip_and_reference.proofs.Groups.{read-end, read-faulty, read-group}
+use Rattle.clip_and_reference.specs.Groups.{GroupFaulty, GroupTo, segmentsRead}
 use Rattle.definitions.specs.Bytes.{sameBytes}
 use Rattle.definitions.specs.ClipAndReference.{ReferenceSegment, segmentHolds, segmentLetter, segmentOf}
-use Rattle.definitions.specs.Lists.{anyOf, numbersFrom}
-use Rattle.indexed_groups.specs.Indexed.{SegmentsIndexed}
+use Rattle.definitions.specs.Lists.{anyOf, firstWhere, numbersFrom}
 use Rattle.kv_text.specs.Fields.{between}
 use Rattle.laws.proofs.ReferenceLetter.{firstLetter}
-use Rattle.laws.proofs.Tests.{clash, or-neither}
+use Rattle.laws.proofs.Tests.{all-three, not-none, some-same}
 use Rattle.tables.proofs.Stored.{rows-end, rows-next}
 use Rattle.tables.specs.Tables.{segmentAt, segmentCount, segmentsNext}
-use Rattle.merged_ref.specs.Answers.{LetterFound, segmentBy, segmentsIn}
+use Rattle.merged_ref.specs.Answers.{LetterFound, LetterIn, referenceSegments, segmentBy, segmentsIn}
 use Rattle.merged_ref.specs.declared.LetterAt.{LetterAt}
 use Rattle.merged_ref.specs.declared.LetterAt.the-variants.{Absent, At}
 
@@ -42,156 +43,211 @@ module _ (s contig : List ℕ) (position contigAt contigEnd first basesAt basesE
   Found = LetterFound s contig position (segmentBy s contigAt contigEnd first basesAt basesEnd ∷ [])
 
   pub off-contig : sameBytes contig (between s contigAt contigEnd) ≡ false → Found Absent
-  unfolding LetterFound anyOf segmentHolds
+  unfolding LetterFound firstWhere segmentHolds
   off-contig h = rw h
 
   module _ (h : sameBytes contig (between s contigAt contigEnd) ≡ true) where
     pub too-early : position < first → Found Absent
-    unfolding LetterFound anyOf segmentHolds
+    unfolding LetterFound firstWhere segmentHolds
     too-early k = rw (h, lt-leb first position k)
 
     module _ (low : first ≤ position) where
       pub too-late : length (between s basesAt basesEnd) ≤ position - first → Found Absent
-      unfolding LetterFound anyOf segmentHolds
+      unfolding LetterFound firstWhere segmentHolds
       too-late k = rw (h, le-leb first position low, le-ltb position (first + length (between s basesAt basesEnd)) (omega arith))
 
       pub at-index : position - first < length (between s basesAt basesEnd) → Found (At (basesAt + (position - first)))
-      unfolding LetterFound anyOf firstLetter segmentHolds segmentLetter
+      unfolding LetterFound firstWhere segmentHolds
       at-index k =
           let below = lt-ltb position (first + length (between s basesAt basesEnd)) (omega arith) in
-          (rw (h, le-leb first position low, below), rw (h, le-leb first position low, below) (part-letter s basesAt basesEnd (position - first) k))
+          record {
+            segment = segmentBy s contigAt contigEnd first basesAt basesEnd;
+            holding = rw (h, le-leb first position low, below);
+            basesAt = basesAt;
+            basesEnd = basesEnd;
+            bases = refl;
+            offset = refl;
+          }
+
+-- ---- the first that passes a test, in two lists
+
+module _ {A : Type 0} (p : A → Bool) where
+  first-front : (front rest : List A) {a : A} → firstWhere p front ≡ some a → firstWhere p (front ++ rest) ≡ some a
+  unfolding firstWhere
+  first-front [] rest e = not-none e
+  first-front (x ∷ front) rest {a} e = go (p x) e (first-front front rest)
+    where
+      go : (b : Bool) → cond b (some x) (firstWhere p front) ≡ some a → (firstWhere p front ≡ some a → firstWhere p (front ++ rest) ≡ some a)
+          → cond b (some x) (firstWhere p (front ++ rest)) ≡ some a
+      go true e later = e
+      go false e later = later e
+
+  first-behind : (front rest : List A) → firstWhere p front ≡ none → firstWhere p (front ++ rest) ≡ firstWhere p rest
+  unfolding firstWhere
+  first-behind [] rest e = refl
+  first-behind (x ∷ front) rest e = go (p x) e (first-behind front rest)
+    where
+      go : (b : Bool) → cond b (some x) (firstWhere p front) ≡ none → (firstWhere p front ≡ none → firstWhere p (front ++ rest) ≡ firstWhere p rest)
+          → cond b (some x) (firstWhere p (front ++ rest)) ≡ firstWhere p rest
+      go true e later = not-none (sym e)
+      go false e later = later e
+
+  -- it is there and passes, and no element passes where none is found
+  first-passes : (l : List A) {a : A} → firstWhere p l ≡ some a → (anyOf p l ≡ true) × (p a ≡ true)
+  unfolding firstWhere anyOf
+  first-passes [] e = not-none e
+  first-passes (x ∷ l) {a} e = go (p x) refl e (first-passes l)
+    where
+      go : (b : Bool) → p x ≡ b → cond b (some x) (firstWhere p l) ≡ some a → (firstWhere p l ≡ some a → (anyOf p l ≡ true) × (p a ≡ true))
+          → (b || anyOf p l ≡ true) × (p a ≡ true)
+      go true t e later = (refl, ap p (sym (some-same e)) ∙ t)
+      go false t e later = later e
+
+  none-passes : (l : List A) → firstWhere p l ≡ none → anyOf p l ≡ false
+  unfolding firstWhere anyOf
+  none-passes [] e = refl
+  none-passes (x ∷ l) e = go (p x) e (none-passes l)
+    where
+      go : (b : Bool) → cond b (some x) (firstWhere p l) ≡ none → (firstWhere p l ≡ none → anyOf p l ≡ false) → b || anyOf p l ≡ false
+      go true e later = not-none (sym e)
+      go false e later = later e
 
 -- ---- segments one after the other
 
-either-here : (b : Bool) → b || false ≡ true → b ≡ true
-either-here true h = refl
-either-here false h = h
-
 module _ (reference contig : List ℕ) (position : ℕ) where
-  -- these segments give the letter as all do
-  pub record SameLetter (rest segments : List ReferenceSegment) : Type 0 where
-    any : anyOf (segmentHolds contig position) rest ≡ anyOf (segmentHolds contig position) segments
-    letter : firstLetter rest contig position ≡ firstLetter segments contig position
+  abbrev Of : List ReferenceSegment → LetterAt → Type 0
+  Of = LetterFound reference contig position
 
-  pub same-start : (segments : List ReferenceSegment) → SameLetter segments segments
-  same-start segments = record { any = refl; letter = refl }
-
-  module _ {rest segments : List ReferenceSegment} (same : SameLetter rest segments) where
-    pub same-end : rest ≡ [] → LetterFound reference contig position segments Absent
-    unfolding LetterFound anyOf
-    same-end e = sym (same .any) ∙ ap (anyOf (segmentHolds contig position)) e
-
-    module _ {g : ReferenceSegment} {later : List ReferenceSegment} (e : rest ≡ g ∷ later) where
-      pub same-passed : LetterFound reference contig position (g ∷ []) Absent → SameLetter later segments
-      unfolding LetterFound firstLetter anyOf
-      same-passed f =
-          let h = or-neither (segmentHolds contig position g) false f .0 in
-          record { any = rw (e, h) at (same .any); letter = rw (e, h) at (same .letter) }
-
-      pub same-found : (i : ℕ) → LetterFound reference contig position (g ∷ []) (At i) → LetterFound reference contig position segments (At i)
-      unfolding LetterFound firstLetter anyOf
-      same-found i f =
-          let h = either-here (segmentHolds contig position g) (f .0) in
-          (sym (rw (e, h) at (same .any)), rw h at (f .1) ∙ ap (λ (x : ℕ). x ∷ []) (rw (e, h) at (same .letter)))
+  abbrev holds : ReferenceSegment → Bool
+  holds = segmentHolds contig position
 
   -- a letter of the first of two lists is that of both; if it has none, it is the letter of the second
-  pub found-first : (front rest : List ReferenceSegment) (i : ℕ) → LetterFound reference contig position front (At i)
-      → LetterFound reference contig position (front ++ rest) (At i)
-  unfolding LetterFound firstLetter anyOf
-  found-first [] rest i f = clash (f .0) refl
-  found-first (g ∷ gs) rest i f = go (segmentHolds contig position g) refl (found-first gs rest i)
-    where
-      go : (b : Bool) → segmentHolds contig position g ≡ b
-          → (LetterFound reference contig position gs (At i) → LetterFound reference contig position (gs ++ rest) (At i))
-          → LetterFound reference contig position (g ∷ (gs ++ rest)) (At i)
-      go true e later = (rw e, rw e (rw e at (f .1)))
-      go false e later = let r = later (rw e at (f .0), rw e at (f .1)) in (rw e (r .0), rw e (r .1))
-
-  pub absent-first : (front rest : List ReferenceSegment) → LetterFound reference contig position front Absent
-      → SameLetter rest (front ++ rest)
-  unfolding LetterFound firstLetter anyOf
-  absent-first [] rest f = same-start rest
-  absent-first (g ∷ gs) rest f =
-      let (h, later) = or-neither (segmentHolds contig position g) (anyOf (segmentHolds contig position) gs) f in
-      let r = absent-first gs rest later in
-      record { any = rw h (r .any); letter = rw h (r .letter) }
-
-  -- an answer for segments that give the letter as all do
-  pub found-same : {rest segments : List ReferenceSegment} → SameLetter rest segments → (r : LetterAt)
-      → LetterFound reference contig position rest r → LetterFound reference contig position segments r
+  pub found-front : (front rest : List ReferenceSegment) (i : ℕ) → Of front (At i) → Of (front ++ rest) (At i)
   unfolding LetterFound
-  found-same same Absent f = sym (same .any) ∙ f
-  found-same same (At i) f = (sym (same .any) ∙ f .0, f .1 ∙ ap (λ (x : ℕ). x ∷ []) (same .letter))
+  found-front front rest i f = record {
+    segment = f .segment;
+    holding = first-front holds front rest (f .holding);
+    basesAt = f .basesAt;
+    basesEnd = f .basesEnd;
+    bases = f .bases;
+    offset = f .offset;
+  }
 
-  -- ---- the segments with rows
+  pub found-behind : (front rest : List ReferenceSegment) → Of front Absent → (r : LetterAt) → Of rest r → Of (front ++ rest) r
+  unfolding LetterFound
+  found-behind front rest none-there Absent f = first-behind holds front rest none-there ∙ f
+  found-behind front rest none-there (At i) f = record {
+    segment = f .segment;
+    holding = first-behind holds front rest none-there ∙ f .holding;
+    basesAt = f .basesAt;
+    basesEnd = f .basesEnd;
+    bases = f .bases;
+    offset = f .offset;
+  }
 
+  none-found : {l : List ReferenceSegment} → l ≡ [] → Of l Absent
+  unfolding LetterFound firstWhere
+  none-found e = rw e
+
+  -- an answer for the rest is one for all segments
+  pub record Goes (rest all : List ReferenceSegment) : Type 0 where
+    on : (r : LetterAt) → Of rest r → Of all r
+
+  pub goes-start : (all : List ReferenceSegment) → Goes all all
+  goes-start all = record { on = λ r f. f }
+
+  module _ {rest all : List ReferenceSegment} (goes : Goes rest all) where
+    pub goes-end : rest ≡ [] → Of all Absent
+    goes-end e = goes .on Absent (none-found e)
+
+    module _ {g : ReferenceSegment} {later : List ReferenceSegment} (e : rest ≡ g ∷ later) where
+      pub goes-passed : Of (g ∷ []) Absent → Goes later all
+      goes-passed f = record { on = λ r h. goes .on r (rw e (found-behind (g ∷ []) later f r h)) }
+
+      pub goes-found : (i : ℕ) → Of (g ∷ []) (At i) → Of all (At i)
+      goes-found i f = goes .on (At i) (rw e (found-front (g ∷ []) later i f))
+
+  -- the segments with rows
   module _ (rows : List ℕ) where
     pub record RowsLeft (i : ℕ) : Type 0 where
-      same : SameLetter (map (segmentAt reference rows) (numbersFrom i (segmentCount rows - i))) (segmentsIn reference rows)
+      goes : Goes (map (segmentAt reference rows) (numbersFrom i (segmentCount rows - i))) (segmentsIn reference rows)
 
     pub rows-start : RowsLeft 0
-    rows-start = record { same = rw (sub-zero (segmentCount rows)) (same-start (segmentsIn reference rows)) }
+    rows-start = record { goes = rw (sub-zero (segmentCount rows)) (goes-start (segmentsIn reference rows)) }
 
     module _ {i : ℕ} (p : RowsLeft i) where
-      pub rows-passed : i < segmentCount rows → LetterFound reference contig position (segmentAt reference rows i ∷ []) Absent → RowsLeft (i + 1)
-      rows-passed h f = record { same = same-passed (p .same) (rows-next (segmentAt reference rows) (segmentCount rows) i h) f }
+      pub rows-passed : i < segmentCount rows → Of (segmentAt reference rows i ∷ []) Absent → RowsLeft (i + 1)
+      rows-passed h f = record { goes = goes-passed (p .goes) (rows-next (segmentAt reference rows) (segmentCount rows) i h) f }
 
-      pub rows-found : i < segmentCount rows → (k : ℕ) → LetterFound reference contig position (segmentAt reference rows i ∷ []) (At k)
-          → LetterFound reference contig position (segmentsIn reference rows) (At k)
-      rows-found h k f = same-found (p .same) (rows-next (segmentAt reference rows) (segmentCount rows) i h) k f
+      pub rows-found : i < segmentCount rows → (k : ℕ) → Of (segmentAt reference rows i ∷ []) (At k) → Of (segmentsIn reference rows) (At k)
+      rows-found h k f = goes-found (p .goes) (rows-next (segmentAt reference rows) (segmentCount rows) i h) k f
 
-      pub rows-absent : segmentCount rows ≤ i → LetterFound reference contig position (segmentsIn reference rows) Absent
-      rows-absent h = same-end (p .same) (rows-end (segmentAt reference rows) (segmentCount rows) i h)
+      pub rows-absent : segmentCount rows ≤ i → Of (segmentsIn reference rows) Absent
+      rows-absent h = goes-end (p .goes) (rows-end (segmentAt reference rows) (segmentCount rows) i h)
 
     -- and those behind them
-    module _ (x : SegmentsIndexed reference rows) (segments : List ReferenceSegment) (from : SegmentsFrom reference 0 segments) where
-      pub in-rows : (i : ℕ) → LetterFound reference contig position (segmentsIn reference rows) (At i) → LetterFound reference contig position segments (At i)
-      in-rows i f =
-          let (rest, later, e) = x .split segments from in
-          rw e (found-first (segmentsIn reference rows) rest i f)
+    pub in-rows : (i : ℕ) → Of (segmentsIn reference rows) (At i) → Of (referenceSegments reference rows) (At i)
+    unfolding referenceSegments
+    in-rows i f = found-front (segmentsIn reference rows) _ i f
 
-      pub behind-rows : LetterFound reference contig position (segmentsIn reference rows) Absent → (r : LetterAt)
-          → ((rest : List ReferenceSegment) → SegmentsFrom reference (segmentsNext rows) rest → LetterFound reference contig position rest r)
-          → LetterFound reference contig position segments r
-      behind-rows f r g =
-          let (rest, later, e) = x .split segments from in
-          rw e (found-same (absent-first (segmentsIn reference rows) rest f) r (g rest later))
+    pub behind-rows : Of (segmentsIn reference rows) Absent → (r : LetterAt) → Of (segmentsRead reference (segmentsNext rows)) r
+        → Of (referenceSegments reference rows) r
+    unfolding referenceSegments
+    behind-rows f r g = found-behind (segmentsIn reference rows) _ f r g
 
-  -- ---- the segments from an offset on
-
+  -- the segments from an offset on
   module _ (start : ℕ) where
-    record Rest (at : ℕ) (segments : List ReferenceSegment) : Type 0 where
-      rest : List ReferenceSegment
-      from : SegmentsFrom reference at rest
-      same : SameLetter rest segments
-
     pub record LetterLeft (at : ℕ) : Type 0 where
-      left : (segments : List ReferenceSegment) → SegmentsFrom reference start segments → Rest at segments
+      goes : Goes (segmentsRead reference at) (segmentsRead reference start)
 
     pub letter-start : LetterLeft start
-    letter-start = record { left = λ segments from. record { rest = segments; from = from; same = same-start segments } }
+    letter-start = record { goes = goes-start _ }
 
     module _ {at : ℕ} (p : LetterLeft at) where
-      pub letter-faulty : at < length reference → GroupFaulty reference at segmentOf
-          → (segments : List ReferenceSegment) → SegmentsFrom reference start segments → LetterFound reference contig position segments Absent
-      letter-faulty h f segments from = none-faulty segmentOf reference (p .left segments from .from) h f
+      pub letter-faulty : GroupFaulty reference at segmentOf → Of (segmentsRead reference start) Absent
+      letter-faulty f = goes-end (p .goes) (read-faulty segmentOf reference at f)
 
-      pub letter-end : length reference ≤ at
-          → (segments : List ReferenceSegment) → SegmentsFrom reference start segments → LetterFound reference contig position segments Absent
-      letter-end h segments from = let r = p .left segments from in same-end (r .same) (no-more segmentOf reference (r .from) h)
+      pub letter-end : length reference ≤ at → Of (segmentsRead reference start) Absent
+      letter-end h = goes-end (p .goes) (read-end segmentOf reference at h)
 
       module _ (g : ReferenceSegment) (next : ℕ) (to : GroupTo reference at segmentOf g next) where
-        pub letter-passed : LetterFound reference contig position (g ∷ []) Absent → LetterLeft next
-        letter-passed f = record {
-          left = λ segments from.
-              let r = p .left segments from in
-              let (later, e, more) = first-group segmentOf reference (r .from) g next to in
-              record { rest = later; from = more; same = same-passed (r .same) e f };
-        }
+        pub letter-passed : Of (g ∷ []) Absent → LetterLeft next
+        letter-passed f = record { goes = goes-passed (p .goes) (read-group segmentOf reference to) f }
 
-        pub letter-found : (i : ℕ) → LetterFound reference contig position (g ∷ []) (At i)
-            → (segments : List ReferenceSegment) → SegmentsFrom reference start segments → LetterFound reference contig position segments (At i)
-        letter-found i f segments from =
-            let r = p .left segments from in
-            let (later, e, more) = first-group segmentOf reference (r .from) g next to in
-            same-found (r .same) e i f
+        pub letter-found : (i : ℕ) → Of (g ∷ []) (At i) → Of (segmentsRead reference start) (At i)
+        letter-found i f = goes-found (p .goes) (read-group segmentOf reference to) i f
+
+  -- ---- the letter
+
+  -- the letter is that of the first segment that holds the position
+  first-gives : (segments : List ReferenceSegment) {g : ReferenceSegment} → firstWhere holds segments ≡ some g
+      → firstLetter segments contig position ≡ segmentLetter position g
+  unfolding firstWhere firstLetter
+  first-gives [] e = not-none e
+  first-gives (x ∷ segments) {g} e = go (holds x) e (first-gives segments)
+    where
+      go : (b : Bool) → cond b (some x) (firstWhere holds segments) ≡ some g
+          → (firstWhere holds segments ≡ some g → firstLetter segments contig position ≡ segmentLetter position g)
+          → cond b (segmentLetter position x) (firstLetter segments contig position) ≡ segmentLetter position g
+      go true e later = ap (segmentLetter position) (some-same e)
+      go false e later = later e
+
+  in-bases : (g : ReferenceSegment) → holds g ≡ true → (g .first ≤ position) × (position < g .first + length (g .bases))
+  unfolding segmentHolds
+  in-bases g e =
+      let (_, low, high) = all-three (sameBytes contig (g .contig)) (leb (g .first) position) (ltb position (g .first + length (g .bases))) e in
+      (leb-true _ _ low, ltb-true _ _ high)
+
+  pub letter-is : (segments : List ReferenceSegment) (i : ℕ) → Of segments (At i)
+      → (anyOf holds segments ≡ true) × (take 1 (drop i reference) ≡ firstLetter segments contig position ∷ [])
+  unfolding LetterFound segmentLetter
+  letter-is segments i f =
+      let (some-one, held) = first-passes holds segments (f .holding) in
+      let (low, high) = in-bases (f .segment) held in
+      let inside : position - f .segment .first < length (between reference (f .basesAt) (f .basesEnd)) =
+      omega (arith, low, high, ap length (f .bases)) in
+      (some-one, rw (f .offset, first-gives segments (f .holding), f .bases) (part-letter reference (f .basesAt) (f .basesEnd) _ inside))
+
+  pub letter-lacks : (segments : List ReferenceSegment) → Of segments Absent → anyOf holds segments ≡ false
+  unfolding LetterFound
+  letter-lacks segments f = none-passes holds segments f

@@ -3,16 +3,21 @@ use Prim.Native.Nat.{ℕ}
 use mathlib.Core.Bool.{Bool, false, true}
 use mathlib.Core.List.{List}
 use mathlib.Core.Path.{_∙_, _≡_, refl, sym}
+use Rattle.clip_and_reference.proofs.Groups.{all-read}
+use Rattle.clip_and_reference.specs.Groups.{SegmentsFrom}
 use Rattle.definitions.specs.Bytes.{isPrefix}
 use Rattle.definitions.specs.Checked.{accepted}
-use Rattle.definitions.specs.ClipAndReference.{ReferenceSegment}
+use Rattle.definitions.specs.ClipAndReference.{ReferenceSegment, segmentOf}
 use Rattle.definitions.specs.Cohort.{Site}
 use Rattle.definitions.specs.Lists.{allOf, onlyIf}
 use Rattle.definitions.specs.MergedRef.{firstRef, mergedRef, refLetter, sharedRef}
+use Rattle.indexed_groups.specs.Indexed.{SegmentsIndexed}
 use Rattle.laws.proofs.Checked.{not-required, required}
 use Rattle.laws.proofs.ReferenceLetter.{firstLetter}
 use Rattle.tables.specs.Tables.{partAt}
-use Rattle.merged_ref.specs.Answers.{LetterFound, LongestFound, letterBytes, refAnswer, refBytes, sitesAt, startingRefs}
+use Rattle.merged_ref.specs.Answers.{LetterFound, letterBytes, refAnswer, refBytes, referenceSegments, sitesAt, startingRefs}
+use Rattle.merged_ref.proofs.Letters.{letter-is, letter-lacks}
+use Rattle.merged_ref.proofs.Starting.{LongestFound}
 use Rattle.merged_ref.specs.declared.LetterAt.the-variants as letterAt
 use Rattle.merged_ref.specs.declared.LongestAt.the-variants as longestAt
 use Rattle.merged_ref.specs.declared.Place.the-variants.{Cohort, Reference}
@@ -40,13 +45,15 @@ module _ (s rows reference contig : List ℕ) (position : ℕ) (found : List ℕ
 
   pub letter-there : referenced ≡ true → (i : ℕ) → LetterFound reference contig position segments (letterAt.At i)
       → refAnswer s rows reference (answer.Letter (Reference i)) ≡ refLetter (onlyIf referenced segments) (firstLetter segments) contig position covering
-  unfolding refAnswer refBytes letterBytes refLetter onlyIf LetterFound
-  letter-there h i f = rw (h, f .1) (sym (required 11 _ _ (f .0) refl))
+  unfolding refAnswer refBytes letterBytes refLetter onlyIf
+  letter-there h i f =
+      let (some-one, is) = letter-is reference contig position segments i f in
+      rw (h, is) (sym (required 11 _ _ some-one refl))
 
   pub letter-lacking : referenced ≡ true → LetterFound reference contig position segments letterAt.Absent
       → refAnswer s rows reference (answer.Refused 11) ≡ refLetter (onlyIf referenced segments) (firstLetter segments) contig position covering
-  unfolding refAnswer refLetter onlyIf LetterFound
-  letter-lacking h f = rw h (sym (not-required 11 _ _ f))
+  unfolding refAnswer refLetter onlyIf
+  letter-lacking h f = rw h (sym (not-required 11 _ _ (letter-lacks reference contig position segments f)))
 
   -- ---- REF
 
@@ -67,3 +74,19 @@ module _ (s rows reference contig : List ℕ) (position : ℕ) (found : List ℕ
         → refAnswer s rows reference (answer.Refused 12) ≡ mergedRef (onlyIf referenced segments) (firstLetter segments) contig position covering
     unfolding refAnswer mergedRef sharedRef LongestFound startingRefs
     conflict h = rw (f .0, ← f .1) (sym (not-required 12 _ _ (sym e ∙ h)))
+
+-- for callers: of a reference in order whose first segments have rows, these are all segments
+pub all-segments : (reference rows : List ℕ) {segments : List ReferenceSegment} → SegmentsIndexed reference rows → SegmentsFrom reference 0 segments
+    → referenceSegments reference rows ≡ segments
+unfolding referenceSegments
+all-segments reference rows x from = sym (x .split) ∙ all-read segmentOf reference from
+
+-- and REF is that of these, if there is a reference
+pub by-segments : (reference rows : List ℕ) (referenced : Bool) (segments : List ReferenceSegment)
+    → (referenced ≡ true → SegmentsFrom reference 0 segments) → (referenced ≡ true → SegmentsIndexed reference rows)
+    → (contig : List ℕ) (position : ℕ) (covering : List Site)
+    → mergedRef (onlyIf referenced (referenceSegments reference rows)) (firstLetter (referenceSegments reference rows)) contig position covering
+    ≡ mergedRef (onlyIf referenced segments) (firstLetter segments) contig position covering
+unfolding mergedRef refLetter onlyIf
+by-segments reference rows true segments from indexed contig position covering = rw (all-segments reference rows (indexed refl) (from refl))
+by-segments reference rows false segments from indexed contig position covering = refl

@@ -1,9 +1,10 @@
 -- The REFs of the sites that start at a position, one site more at a time.
 use Prim.Native.Nat.{_<_, _≤_, ℕ}
-use borrow.Author.Tests.{eq-eqb, le-ltb, lt-ltb, ne-eqb}
+use borrow.Author.Tests.{eq-eqb, le-ltb, lt-ltb, ltb-false, ltb-true, ne-eqb}
+use lib.Dec.{ltb}
 use lib.ListN.{getD, length}
 use mathlib.Core.Bool.{Bool, _&&_, cond, false, true}
-use mathlib.Core.List.{List, [], _∷_, map}
+use mathlib.Core.List.{List, [], _∷_, foldr, map}
 use mathlib.Core.Path.{_∙_, _≡_, ap, refl, sym}
 use native.Mathlib.Omega.{arith}
 use Rattle.definitions.specs.Cohort.{Site}
@@ -13,7 +14,7 @@ use Rattle.laws.proofs.Members.{filter-no, filter-yes}
 use Rattle.laws.proofs.Tests.{or-neither}
 use Rattle.tables.proofs.Parts.{between-none, column-past}
 use Rattle.tables.specs.Tables.{column, partAt, refAltsSpelled, siteAt}
-use Rattle.merged_ref.specs.Answers.{LongestFound, sitesAt, startingRefs}
+use Rattle.merged_ref.specs.Answers.{longerOf, longerSite, longestSite, sitesAt, startingRefs}
 use Rattle.merged_ref.specs.declared.LongestAt.{LongestAt}
 use Rattle.merged_ref.specs.declared.LongestAt.the-variants as longestAt
 
@@ -90,6 +91,13 @@ module _ (s rows : List ℕ) (position site : ℕ) where
 
 -- ---- the longest, from the last site on
 
+-- which of these sites has the longest REF of those that start at the position
+unfoldable pub LongestFound : List ℕ → List ℕ → ℕ → List ℕ → LongestAt → Type 0
+LongestFound s rows position found (longestAt.Site site) =
+    (anyOf (startsAt position) (sitesAt s rows found) ≡ true)
+    × (partAt 9 10 s rows site ≡ longest (startingRefs position (sitesAt s rows found)))
+LongestFound s rows position found longestAt.NoneStarts = anyOf (startsAt position) (sitesAt s rows found) ≡ false
+
 alone : (r : List ℕ) → r ≡ longest (r ∷ [])
 unfolding longest
 alone [] = refl
@@ -97,7 +105,7 @@ alone (b ∷ r) = let h : 0 < length (b ∷ r) = omega arith in rw (lt-ltb 0 (le
 
 module _ (s rows : List ℕ) (position site : ℕ) (found : List ℕ) where
   -- the site starts elsewhere
-  pub passed : (best : LongestAt) → startsAt position (siteAt s rows site) ≡ false → LongestFound s rows position found best
+  passed : (best : LongestAt) → startsAt position (siteAt s rows site) ≡ false → LongestFound s rows position found best
       → LongestFound s rows position (site ∷ found) best
   unfolding LongestFound anyOf
   passed longestAt.NoneStarts h f = rw h f
@@ -105,16 +113,67 @@ module _ (s rows : List ℕ) (position site : ℕ) (found : List ℕ) where
 
   module _ (h : startsAt position (siteAt s rows site) ≡ true) where
     -- no later one starts there
-    pub only : LongestFound s rows position found longestAt.NoneStarts → LongestFound s rows position (site ∷ found) (longestAt.Site site)
+    only : LongestFound s rows position found longestAt.NoneStarts → LongestFound s rows position (site ∷ found) (longestAt.Site site)
     unfolding LongestFound anyOf siteRef siteAt refAltsSpelled
     only f = (rw h refl, rw (starts position _ (sitesAt s rows found) h, none-starts position _ f) (alone _))
 
     module _ (other : ℕ) (f : LongestFound s rows position found (longestAt.Site other)) where
       -- its REF is longer than the longest of the later ones, or it is not
-      pub longer : length (partAt 9 10 s rows other) < length (partAt 9 10 s rows site) → LongestFound s rows position (site ∷ found) (longestAt.Site site)
+      longer : length (partAt 9 10 s rows other) < length (partAt 9 10 s rows site) → LongestFound s rows position (site ∷ found) (longestAt.Site site)
       unfolding LongestFound anyOf siteRef siteAt refAltsSpelled longest
       longer k = (rw h refl, rw (starts position _ (sitesAt s rows found) h, ← f .1, lt-ltb _ _ k))
 
-      pub not-longer : length (partAt 9 10 s rows site) ≤ length (partAt 9 10 s rows other) → LongestFound s rows position (site ∷ found) (longestAt.Site other)
+      not-longer : length (partAt 9 10 s rows site) ≤ length (partAt 9 10 s rows other) → LongestFound s rows position (site ∷ found) (longestAt.Site other)
       unfolding LongestFound anyOf siteRef siteAt refAltsSpelled longest
       not-longer k = (rw h refl, rw (starts position _ (sitesAt s rows found) h, ← f .1, le-ltb _ _ k))
+
+-- longestSite finds it
+module _ (s rows : List ℕ) (position : ℕ) where
+  with-site : (site : ℕ) (found : List ℕ) (best : LongestAt) → LongestFound s rows position found best
+      → LongestFound s rows position (site ∷ found) (longerSite s rows position site best)
+  unfolding longerSite longerOf
+  with-site site found best f = go (startsAt position (siteAt s rows site)) refl best f
+    where
+      lengths : ℕ → Bool
+      lengths other = ltb (length (partAt 9 10 s rows other)) (length (partAt 9 10 s rows site))
+
+      pick : (h : startsAt position (siteAt s rows site) ≡ true) (other : ℕ) → LongestFound s rows position found (longestAt.Site other)
+          → (v : Bool) → lengths other ≡ v
+          → LongestFound s rows position (site ∷ found) (cond v (longestAt.Site site) (longestAt.Site other))
+      pick h other f true e = longer s rows position site found h other f (ltb-true _ _ e)
+      pick h other f false e = not-longer s rows position site found h other f (ltb-false _ _ e)
+
+      go : (b : Bool) → startsAt position (siteAt s rows site) ≡ b → (best : LongestAt) → LongestFound s rows position found best
+          → LongestFound s rows position (site ∷ found) (cond b (longerOf s rows site best) best)
+      go false h best f = passed s rows position site found best h f
+      go true h longestAt.NoneStarts f = only s rows position site found h f
+      go true h (longestAt.Site other) f = pick h other f (lengths other) refl
+
+  longest-found : (found : List ℕ) → LongestFound s rows position found (longestSite s rows position found)
+  unfolding longestSite LongestFound anyOf
+  longest-found [] = refl
+  longest-found (site ∷ found) = with-site site found (longestSite s rows position found) (longest-found found)
+
+  pub longest-is : (found : List ℕ) (r : LongestAt) → r ≡ longestSite s rows position found → LongestFound s rows position found r
+  longest-is found r e = rw e (longest-found found)
+
+  -- one site, as longer_ref finds it
+  pub site-passed : (site : ℕ) (best : LongestAt) → startsAt position (siteAt s rows site) ≡ false → best ≡ longerSite s rows position site best
+  unfolding longerSite
+  site-passed site best h = rw h
+
+  module _ (site : ℕ) (h : startsAt position (siteAt s rows site) ≡ true) where
+    pub site-only : longestAt.Site site ≡ longerSite s rows position site longestAt.NoneStarts
+    unfolding longerSite longerOf
+    site-only = rw h
+
+    module _ (other : ℕ) where
+      pub site-longer : length (partAt 9 10 s rows other) < length (partAt 9 10 s rows site)
+          → longestAt.Site site ≡ longerSite s rows position site (longestAt.Site other)
+      unfolding longerSite longerOf
+      site-longer k = rw (h, lt-ltb _ _ k)
+
+      pub site-not-longer : length (partAt 9 10 s rows site) ≤ length (partAt 9 10 s rows other)
+          → longestAt.Site other ≡ longerSite s rows position site (longestAt.Site other)
+      unfolding longerSite longerOf
+      site-not-longer k = rw (h, le-ltb _ _ k)

@@ -1,17 +1,19 @@
 -- What the answers about REF of the record at a position stand for. Sites are numbers of a table's rows, in the order of samples.
-use Prim.Native.Nat.{ℕ}
-use lib.ListN.{drop, take}
-use mathlib.Core.Bool.{false, true}
-use mathlib.Core.List.{List, [], _∷_, map}
+use Prim.Native.Nat.{_+_, _-_, ℕ}
+use lib.Dec.{ltb}
+use lib.ListN.{drop, length, take}
+use mathlib.Core.Bool.{cond}
+use mathlib.Core.List.{List, [], _++_, foldr, map}
+use mathlib.Core.Option.{none, some}
 use mathlib.Core.Path.{_≡_}
+use Rattle.clip_and_reference.specs.Groups.{segmentsRead}
 use Rattle.definitions.specs.Checked.{Checked, accepted, refused}
 use Rattle.definitions.specs.ClipAndReference.{ReferenceSegment, segmentHolds}
 use Rattle.definitions.specs.Cohort.{Site}
-use Rattle.definitions.specs.Lists.{anyOf, filterBy, numbersFrom}
-use Rattle.definitions.specs.MergedRef.{longest, siteRef, startsAt}
+use Rattle.definitions.specs.Lists.{filterBy, firstWhere, numbersFrom}
+use Rattle.definitions.specs.MergedRef.{siteRef, startsAt}
 use Rattle.kv_text.specs.Fields.{between}
-use Rattle.laws.proofs.ReferenceLetter.{firstLetter}
-use Rattle.tables.specs.Tables.{partAt, segmentAt, segmentCount, siteAt}
+use Rattle.tables.specs.Tables.{partAt, segmentAt, segmentCount, segmentsNext, siteAt}
 use Rattle.merged_ref.specs.declared.LetterAt.{LetterAt}
 use Rattle.merged_ref.specs.declared.LetterAt.the-variants as letter
 use Rattle.merged_ref.specs.declared.LongestAt.{LongestAt}
@@ -38,18 +40,38 @@ segmentBy reference contigAt contigEnd first basesAt basesEnd =
 abbrev pub segmentsIn : List ℕ → List ℕ → List ReferenceSegment
 segmentsIn reference rows = map (segmentAt reference rows) (numbersFrom 0 (segmentCount rows))
 
--- where the letter of the first segment that holds the position stands in the reference text
-unfoldable pub LetterFound : List ℕ → List ℕ → ℕ → List ReferenceSegment → LetterAt → Type 0
-LetterFound reference contig position segments (letter.At i) =
-    (anyOf (segmentHolds contig position) segments ≡ true) × (take 1 (drop i reference) ≡ firstLetter segments contig position ∷ [])
-LetterFound reference contig position segments letter.Absent = anyOf (segmentHolds contig position) segments ≡ false
+-- the segments with rows, and behind them those of the groups from the stored offset on, up to the first faulty one
+unfoldable pub referenceSegments : List ℕ → List ℕ → List ReferenceSegment
+referenceSegments reference rows = segmentsIn reference rows ++ segmentsRead reference (segmentsNext rows)
 
--- which of these sites has the longest REF of those that start at the position
-unfoldable pub LongestFound : List ℕ → List ℕ → ℕ → List ℕ → LongestAt → Type 0
-LongestFound s rows position found (longer.Site site) =
-    (anyOf (startsAt position) (sitesAt s rows found) ≡ true)
-    × (partAt 9 10 s rows site ≡ longest (startingRefs position (sitesAt s rows found)))
-LongestFound s rows position found longer.NoneStarts = anyOf (startsAt position) (sitesAt s rows found) ≡ false
+-- The offset is that of the letter at the position in the bases of the first segment that holds it, which stand in the reference text
+-- from `basesAt` to before `basesEnd`.
+pub record LetterIn (reference contig : List ℕ) (position : ℕ) (segments : List ReferenceSegment) (i : ℕ) : Type 0 where
+  pub segment : ReferenceSegment
+  pub holding : firstWhere (segmentHolds contig position) segments ≡ some segment
+  pub basesAt : ℕ
+  pub basesEnd : ℕ
+  pub bases : segment .bases ≡ between reference basesAt basesEnd
+  pub offset : i ≡ basesAt + (position - segment .first)
+
+-- where the letter of the first segment that holds the position stands in the reference text, if one holds it
+unfoldable pub LetterFound : List ℕ → List ℕ → ℕ → List ReferenceSegment → LetterAt → Type 0
+LetterFound reference contig position segments (letter.At i) = LetterIn reference contig position segments i
+LetterFound reference contig position segments letter.Absent = firstWhere (segmentHolds contig position) segments ≡ none
+
+-- the site, or the longest so far if its REF is not shorter
+unfoldable pub longerOf : List ℕ → List ℕ → ℕ → LongestAt → LongestAt
+longerOf s rows site longer.NoneStarts = longer.Site site
+longerOf s rows site (longer.Site other) =
+    cond (ltb (length (partAt 9 10 s rows other)) (length (partAt 9 10 s rows site))) (longer.Site site) (longer.Site other)
+
+-- the longest with one more site in front, if it starts at the position
+unfoldable pub longerSite : List ℕ → List ℕ → ℕ → ℕ → LongestAt → LongestAt
+longerSite s rows position site best = cond (startsAt position (siteAt s rows site)) (longerOf s rows site best) best
+
+-- which of these sites has the longest REF of those that start at the position: of equally long ones the last
+unfoldable pub longestSite : List ℕ → List ℕ → ℕ → List ℕ → LongestAt
+longestSite s rows position = foldr (longerSite s rows position) longer.NoneStarts
 
 -- a letter by its place
 unfoldable pub letterBytes : List ℕ → List ℕ → List ℕ → Place → List ℕ

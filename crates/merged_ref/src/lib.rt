@@ -1,19 +1,16 @@
 // REF of the record at a position, from the sites found over it, numbers of a table's rows in the order of samples. The answer says
 // where REF stands; `ref_bytes` hands on the part of the text. Nothing is copied.
 ghost use lib.ListN.{drop, take};
-ghost use mathlib.Core.Bool.{true};
 ghost use mathlib.Core.List.{List, [], _∷_};
 ghost use mathlib.Core.Path.{_≡_};
 ghost use Prim.Native.Nat.{ℕ};
-ghost use Rattle.clip_and_reference.proofs.Groups.{SegmentsFrom};
+ghost use Rattle.clip_and_reference.specs.Groups.{segmentsRead};
 ghost use Rattle.definitions.specs.Bytes.{isPrefix};
-ghost use Rattle.definitions.specs.ClipAndReference.{ReferenceSegment};
 ghost use Rattle.definitions.specs.Lists.{allOf, onlyIf};
 ghost use Rattle.definitions.specs.MergedRef.{firstRef, mergedRef, refLetter};
-ghost use Rattle.indexed_groups.specs.Indexed.{SegmentsIndexed};
 ghost use Rattle.laws.proofs.ReferenceLetter.{firstLetter};
 ghost use Rattle.tables.specs.Tables.{partAt, segmentAt};
-ghost use Rattle.merged_ref.specs.Answers.{LetterFound, LongestFound, letterBytes, refAnswer, refBytes, segmentBy, segmentsIn, sitesAt, startingRefs};
+ghost use Rattle.merged_ref.specs.Answers.{LetterFound, letterBytes, longerSite, longestSite, refAnswer, refBytes, referenceSegments, segmentBy, segmentsIn, sitesAt, startingRefs};
 use bio_ids::GenomePosition;
 use clip_and_reference::SegmentAt;
 
@@ -30,24 +27,25 @@ fn letter_in(
     reference: &[u8],
     contig_at: usize,
     contig_end: usize,
-    first: u64,
+    first: GenomePosition,
     bases_at: usize,
     bases_end: usize,
     contig: &[u8],
     position: GenomePosition,
 ) -> LetterAt
     ensures { λ r. ⌜ LetterFound (now (reference .entry)) (now (contig .entry)) (position .0)
-        (segmentBy (now (reference .entry)) «contig_at» «contig_end» first «bases_at» «bases_end» ∷ []) r ⌝ }
+        (segmentBy (now (reference .entry)) «contig_at» «contig_end» (first .0) «bases_at» «bases_end» ∷ []) r ⌝ }
 {
     let name = tables::part(reference, contig_at, contig_end);
     if !kv_text::same_bytes(contig, name) {
         return LetterAt::Absent;
     }
     let wanted = position.get();
-    if wanted < first {
+    let from = first.get();
+    if wanted < from {
         return LetterAt::Absent;
     }
-    let index = wanted - first;
+    let index = wanted - from;
     let bases = tables::part(reference, bases_at, bases_end);
     if bases.len() as u64 <= index {
         return LetterAt::Absent;
@@ -75,7 +73,7 @@ fn letter_in_row(
         reference,
         contig_at,
         contig_end,
-        first as u64,
+        GenomePosition::new_1based(first as u64),
         bases_at,
         bases_end,
         contig,
@@ -103,10 +101,9 @@ fn letter_in_rows(
     LetterAt::Absent
 }
 
-// The letter at the position that the first group from an offset on gives that holds it, for groups in order.
+// The letter at the position that the first group from an offset on gives that holds it, up to the first faulty one.
 fn letter_from(reference: &[u8], from: usize, contig: &[u8], position: GenomePosition) -> LetterAt
-    ensures { λ r. ⌜ ((segments : List ReferenceSegment) → SegmentsFrom (now (reference .entry)) from segments
-        → LetterFound (now (reference .entry)) (now (contig .entry)) (position .0) segments r) ⌝ }
+    ensures { λ r. ⌜ LetterFound (now (reference .entry)) (now (contig .entry)) (position .0) (segmentsRead (now (reference .entry)) from) r ⌝ }
 {
     let mut at = from;
     while at < reference.len() {
@@ -126,7 +123,7 @@ fn letter_from(reference: &[u8], from: usize, contig: &[u8], position: GenomePos
             reference,
             contig_at,
             contig_end,
-            first as u64,
+            first,
             bases_at,
             bases_end,
             contig,
@@ -140,16 +137,15 @@ fn letter_from(reference: &[u8], from: usize, contig: &[u8], position: GenomePos
     LetterAt::Absent
 }
 
-// The letter at the position that the first segment gives that holds it, for a reference in order whose first segments have rows.
+// The letter at the position that the first segment gives that holds it: of those with rows, and of the groups behind them.
 pub fn find_letter(
     reference: &[u8],
     rows: &[usize],
     contig: &[u8],
     position: GenomePosition,
 ) -> LetterAt
-    ensures { λ r. ⌜ ((segments : List ReferenceSegment) → SegmentsFrom (now (reference .entry)) 0 segments
-        → SegmentsIndexed (now (reference .entry)) (now (rows .entry))
-        → LetterFound (now (reference .entry)) (now (contig .entry)) (position .0) segments r) ⌝ }
+    ensures { λ r. ⌜ LetterFound (now (reference .entry)) (now (contig .entry)) (position .0)
+        (referenceSegments (now (reference .entry)) (now (rows .entry))) r ⌝ }
 {
     let letter = letter_in_rows(reference, rows, contig, position);
     if let LetterAt::At(i) = letter {
@@ -175,8 +171,7 @@ fn longer_ref(
     position: GenomePosition,
     best: LongestAt,
 ) -> LongestAt
-    ensures { λ r. ⌜ ((found : List ℕ) → LongestFound (now (s .entry)) (now (rows .entry)) (position .0) found best
-        → LongestFound (now (s .entry)) (now (rows .entry)) (position .0) (site ∷ found) r) ⌝ }
+    ensures { λ r. ⌜ r ≡ longerSite (now (s .entry)) (now (rows .entry)) (position .0) site best ⌝ }
 {
     if tables::start_of(rows, site).get() != position.get() {
         return best;
@@ -194,7 +189,7 @@ fn longer_ref(
 
 // Of the found sites that start at the position, one with the longest REF: of equally long ones the last.
 pub fn longest_ref(s: &[u8], rows: &[usize], found: &[usize], position: GenomePosition) -> LongestAt
-    ensures { λ r. ⌜ LongestFound (now (s .entry)) (now (rows .entry)) (position .0) (now (found .entry)) r ⌝ }
+    ensures { λ r. ⌜ r ≡ longestSite (now (s .entry)) (now (rows .entry)) (position .0) (now (found .entry)) ⌝ }
 {
     let mut best = LongestAt::NoneStarts;
     let mut i = found.len();
@@ -284,10 +279,9 @@ fn ref_letter(
     contig: &[u8],
     position: GenomePosition,
 ) -> RefAt
-    ensures { λ r. ⌜ ((s : List ℕ) (segments : List ReferenceSegment) → (referenced ≡ true → SegmentsFrom (now (reference .entry)) 0 segments)
-        → (referenced ≡ true → SegmentsIndexed (now (reference .entry)) (now (rows .entry)))
-        → refAnswer s (now (rows .entry)) (now (reference .entry)) r
-        ≡ refLetter (onlyIf referenced segments) (firstLetter segments) (now (contig .entry)) (position .0) (sitesAt s (now (rows .entry)) (now (found .entry)))) ⌝ }
+    ensures { λ r. ⌜ ((s : List ℕ) → refAnswer s (now (rows .entry)) (now (reference .entry)) r
+        ≡ refLetter (onlyIf referenced (referenceSegments (now (reference .entry)) (now (rows .entry)))) (firstLetter (referenceSegments (now (reference .entry)) (now (rows .entry))))
+        (now (contig .entry)) (position .0) (sitesAt s (now (rows .entry)) (now (found .entry)))) ⌝ }
 {
     if !referenced {
         return RefAt::Letter(Place::Cohort(first_site(rows, found)));
@@ -299,8 +293,7 @@ fn ref_letter(
     }
 }
 
-// REF of the record at a position, for a reference in order if one is lent. Row 12: a REF of the sites that start there is no prefix
-// of the longest.
+// REF of the record at a position. Row 12: a REF of the sites that start there is no prefix of the longest.
 pub fn determine_reference_allele(
     s: &[u8],
     rows: &[usize],
@@ -310,10 +303,9 @@ pub fn determine_reference_allele(
     contig: &[u8],
     position: GenomePosition,
 ) -> RefAt
-    ensures { λ r. ⌜ ((segments : List ReferenceSegment) → (referenced ≡ true → SegmentsFrom (now (reference .entry)) 0 segments)
-        → (referenced ≡ true → SegmentsIndexed (now (reference .entry)) (now (rows .entry)))
-        → refAnswer (now (s .entry)) (now (rows .entry)) (now (reference .entry)) r
-        ≡ mergedRef (onlyIf referenced segments) (firstLetter segments) (now (contig .entry)) (position .0) (sitesAt (now (s .entry)) (now (rows .entry)) (now (found .entry)))) ⌝ }
+    ensures { λ r. ⌜ refAnswer (now (s .entry)) (now (rows .entry)) (now (reference .entry)) r
+        ≡ mergedRef (onlyIf referenced (referenceSegments (now (reference .entry)) (now (rows .entry)))) (firstLetter (referenceSegments (now (reference .entry)) (now (rows .entry))))
+        (now (contig .entry)) (position .0) (sitesAt (now (s .entry)) (now (rows .entry)) (now (found .entry))) ⌝ }
 {
     let longest = longest_ref(s, rows, found, position);
     let LongestAt::Site(site) = longest else {

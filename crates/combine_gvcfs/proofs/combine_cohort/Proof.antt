@@ -27,13 +27,15 @@ index-clip-requires : tie.Need-index-clip-requires
 index-clip-requires c κs = search needs
 
 combine-loaded-requires : tie.Need-combine-loaded-requires
-combine-loaded-requires c κs = let spans = optional-in-order spanOf _ _ (sym ((c .before .before .before .before .before .before .before .before .before .before .before .before .before .before .before .before .before .clip-in-order .ensures)) ∙ not-false _ ((c .before .before .before .before .before .before .before .before .before .before .before .before .before .before .before .before .if1 .left))) in
-    let segments = optional-in-order segmentOf _ _ (sym ((c .before .before .before .before .before .before .before .before .before .before .before .before .before .before .before .reference-in-order .ensures)) ∙ not-false _ ((c .before .before .before .before .before .before .before .before .before .before .before .before .before .before .if2 .left))) in
-    let first = (c .before .before .before .before .before .before .before .before .before .before .before .before .index-reference .ensures) in
-    let second = (c .before .before .before .before .before .before .before .before .index-clip .ensures) in (
-      call-loaded (still-held (c .before .before .before .before .before .before .before .before .before .before .before .before .before .before .before .before .before .before .before .before .before .before .before .before .before .before .before .before .pre .0) (first .0) (second .0)) spans segments
-          (segments-there (c .before .before .before .before .before .before .before .before .before .before .before .before .before .before .before .before .before .before .before .before .before .before .before .before .before .before .before .before .pre .0) (first .0) (second .0) (first .1)) (spans-there (c .before .before .before .before .before .before .before .before .before .before .before .before .before .before .before .before .before .before .before .before .before .before .before .before .before .before .before .before .pre .0) (first .0) (second .0) (second .1)),
-      (c .before .before .before .before .before .before .before .before .before .before .before .before .before .before .before .before .before .before .before .before .before .before .before .before .before .before .before .before .pre .1),
+combine-loaded-requires c κs =
+    let at-reference = c .before .before .before .before .before .before .before .before .before .before .before .before .before .before in
+    let spans = optional-in-order spanOf _ _ (sym (at-reference .before .before .before .clip-in-order .ensures) ∙ not-false _ (at-reference .before .before .if1 .left)) in
+    let segments = optional-in-order segmentOf _ _ (sym (at-reference .before .reference-in-order .ensures) ∙ not-false _ (at-reference .if2 .left)) in
+    let first = c .before .before .before .before .before .before .before .before .before .before .before .before .index-reference .ensures in
+    let second = c .before .before .before .before .before .before .before .before .index-clip .ensures in
+    let held = c .before .before .before .before .before .before .before .before .before .before .before .before .before .before .before .before .before .before .before .before .before .before .before .before .before .before .before .before .pre .0 in (
+      call-loaded (still-held held first second) spans segments (segments-there held first second) (spans-there held first second),
+      c .before .before .before .before .before .before .before .before .before .before .before .before .before .before .before .before .before .before .before .before .before .before .before .before .before .before .before .before .pre .1,
     )
 
 same-length : tie.Need-same-length
@@ -55,12 +57,15 @@ same-length-6 : tie.Need-same-length-6
 same-length-6 c = search needs
 
 returns-3 : tie.Need-returns-3
-returns-3 c = let spans = optional-in-order spanOf _ _ (sym ((c .before .before .before .before .before .before .before .before .before .before .before .before .before .before .before .before .before .before .before .before .before .before .before .before .before .before .before .before .clip-in-order .ensures)) ∙ not-false _ ((c .before .before .before .before .before .before .before .before .before .before .before .before .before .before .before .before .before .before .before .before .before .before .before .before .before .before .before .if1 .left))) in
-    let segments = optional-in-order segmentOf _ _ (sym ((c .before .before .before .before .before .before .before .before .before .before .before .before .before .before .before .before .before .before .before .before .before .before .before .before .before .before .reference-in-order .ensures)) ∙ not-false _ ((c .before .before .before .before .before .before .before .before .before .before .before .before .before .before .before .before .before .before .before .before .before .before .before .before .before .if2 .left))) in
-    let first = (c .before .before .before .before .before .before .before .before .before .before .before .before .before .before .before .before .before .before .before .before .before .before .before .index-reference .ensures) in
-    let second = (c .before .before .before .before .before .before .before .before .before .before .before .before .before .before .before .before .before .before .before .index-clip .ensures) in
-    texts-answered (still-held (c .before .before .before .before .before .before .before .before .before .before .before .before .before .before .before .before .before .before .before .before .before .before .before .before .before .before .before .before .before .before .before .before .before .before .before .before .before .before .before .pre .0) (first .0) (second .0)) spans segments
-    (segments-there (c .before .before .before .before .before .before .before .before .before .before .before .before .before .before .before .before .before .before .before .before .before .before .before .before .before .before .before .before .before .before .before .before .before .before .before .before .before .before .before .pre .0) (first .0) (second .0) (first .1)) (spans-there (c .before .before .before .before .before .before .before .before .before .before .before .before .before .before .before .before .before .before .before .before .before .before .before .before .before .before .before .before .before .before .before .before .before .before .before .before .before .before .before .pre .0) (first .0) (second .0) (second .1)) _ ((c .before .before .before .before .before .before .before .before .before .before .combine-loaded .ensures))
+returns-3 c =
+    let at-reference = c .before .before .before .before .before .before .before .before .before .before .before .before .before .before .before .before .before .before .before .before .before .before .before .before .before in
+    let spans = optional-in-order spanOf _ _ (sym (at-reference .before .before .before .clip-in-order .ensures) ∙ not-false _ (at-reference .before .before .if1 .left)) in
+    let segments = optional-in-order segmentOf _ _ (sym (at-reference .before .reference-in-order .ensures) ∙ not-false _ (at-reference .if2 .left)) in
+    let first = c .before .before .before .before .before .before .before .before .before .before .before .before .before .before .before .before .before .before .before .before .before .before .before .index-reference .ensures in
+    let second = c .before .before .before .before .before .before .before .before .before .before .before .before .before .before .before .before .before .before .before .index-clip .ensures in
+    let held = c .before .before .before .before .before .before .before .before .before .before .before .before .before .before .before .before .before .before .before .before .before .before .before .before .before .before .before .before .before .before .before .before .before .before .before .before .before .before .before .pre .0 in
+    texts-answered (still-held held first second) spans segments (segments-there held first second) (spans-there held first second) _
+    (c .before .before .before .before .before .before .before .before .before .before .combine-loaded .ensures)
 
 pub combine-cohort-spec : {M : Type 1} → statement M
 combine-cohort-spec =

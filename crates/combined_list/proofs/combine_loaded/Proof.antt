@@ -1,7 +1,7 @@
 -- The sites by sample, the contigs in byte order of name, then the list.
 use borrow.Author.Needs.{needs}
 use native.Mathlib.Omega.{arith}
-use Rattle.combined_list.proofs.ListReady.{firsts-within, list-ready, loaded-answered}
+use Rattle.combined_list.proofs.ListReady.{firsts-within, list-ready, loaded-answered, rows-for}
 use Rattle.combined_list.proofs.OneContig.{taken-exactly}
 use Rattle.combined_list.proofs.combine_loaded.Statement.{statement}
 use Rattle.combined_list.proofs.combine_loaded.Tie as tie
@@ -13,19 +13,19 @@ group-by-sample-requires : tie.Need-group-by-sample-requires
 group-by-sample-requires c κs = ((c .before .before .before .before .before .before .before .before .before .before .before .before .pre .1 .for-order), omega (arith, (c .before .before .before .before .before .before .before .before .before .before .before .before .pre .0 .loaded .few)))
 
 order-contigs-requires : tie.Need-order-contigs-requires
-order-contigs-requires c κs = omega (arith, c .before .before .before .before .before .before .before .before .before .before .before .before .before .before .before .before .before .pre .1 .for-firsts)
+order-contigs-requires c κs = (omega (arith, c .before .before .before .before .before .before .before .before .before .before .before .before .before .before .before .before .before .pre .1 .for-firsts), rows-for (c .before .before .before .before .before .before .before .before .before .before .before .before .before .before .before .before .before .pre .0))
 
 slice-reshare-prefix-combine-contigs : tie.Need-slice-reshare-prefix-combine-contigs
-slice-reshare-prefix-combine-contigs c = omega (arith, firsts-within ((c .before .before .before .before .before .before .before .before .before .before .before .before .before .before .before .before .before .before .before .before .pre .0)) ((c .before .before .before .before .before .before .before .before .before .before .before .before .before .before .before .before .before .before .before .before .pre .1 .for-firsts)) ((c .before .before .order-contigs .ensures) _ ((c .before .before .before .before .before .before .before .before .before .before .before .before .before .before .before .before .before .before .before .before .pre .0 .loaded .table)) ((c .before .before .before .before .before .before .before .before .before .before .before .before .before .before .before .before .before .before .before .before .pre .0 .all-sites))))
+slice-reshare-prefix-combine-contigs c = omega (arith, firsts-within ((c .before .before .before .before .before .before .before .before .before .before .before .before .before .before .before .before .before .before .before .before .pre .0)) ((c .before .before .before .before .before .before .before .before .before .before .before .before .before .before .before .before .before .before .before .before .pre .1 .for-firsts)) (c .before .before .order-contigs .ensures (rows-for (c .before .before .before .before .before .before .before .before .before .before .before .before .before .before .before .before .before .before .before .before .pre .0))))
 
 slice-aggregate-combine-contigs : tie.Need-slice-aggregate-combine-contigs
-slice-aggregate-combine-contigs c = taken-exactly _ _ (omega (arith, firsts-within ((c .before .before .before .before .before .before .before .before .before .before .before .before .before .before .before .before .before .before .before .before .before .pre .0)) ((c .before .before .before .before .before .before .before .before .before .before .before .before .before .before .before .before .before .before .before .before .before .pre .1 .for-firsts)) ((c .before .before .before .order-contigs .ensures) _ ((c .before .before .before .before .before .before .before .before .before .before .before .before .before .before .before .before .before .before .before .before .before .pre .0 .loaded .table)) ((c .before .before .before .before .before .before .before .before .before .before .before .before .before .before .before .before .before .before .before .before .before .pre .0 .all-sites)))))
+slice-aggregate-combine-contigs c = taken-exactly _ _ (omega (arith, firsts-within ((c .before .before .before .before .before .before .before .before .before .before .before .before .before .before .before .before .before .before .before .before .before .pre .0)) ((c .before .before .before .before .before .before .before .before .before .before .before .before .before .before .before .before .before .before .before .before .before .pre .1 .for-firsts)) (c .before .before .before .order-contigs .ensures (rows-for (c .before .before .before .before .before .before .before .before .before .before .before .before .before .before .before .before .before .before .before .before .before .pre .0)))))
 
 slice-aggregate-combine-contigs-2 : tie.Need-slice-aggregate-combine-contigs-2
 slice-aggregate-combine-contigs-2 c = search needs
 
 combine-contigs-requires : tie.Need-combine-contigs-requires
-combine-contigs-requires c κs = (list-ready ((c .before .before .before .before .before .before .before .before .before .before .before .before .before .before .before .before .before .before .before .before .before .before .before .before .before .before .pre .0)) ((c .before .before .before .before .before .before .before .before .before .before .before .before .before .before .before .before .before .before .before .before .before .before .before .before .before .before .pre .1 .for-firsts)) ((c .before .before .before .before .before .before .before .before .order-contigs .ensures) _ ((c .before .before .before .before .before .before .before .before .before .before .before .before .before .before .before .before .before .before .before .before .before .before .before .before .before .before .pre .0 .loaded .table)) ((c .before .before .before .before .before .before .before .before .before .before .before .before .before .before .before .before .before .before .before .before .before .before .before .before .before .before .pre .0 .all-sites))) ((c .before .before .before .before .before .before .before .before .before .before .before .before .before .group-by-sample .ensures)), omega (arith, (c .before .before .before .before .before .before .before .before .before .before .before .before .before .before .before .before .before .before .before .before .before .before .before .before .before .before .pre .1 .for-chosen), (c .before .before .before .before .before .before .before .before .before .before .before .before .before .group-by-sample .kept .1 .1 .1 .0)))
+combine-contigs-requires c κs = (list-ready ((c .before .before .before .before .before .before .before .before .before .before .before .before .before .before .before .before .before .before .before .before .before .before .before .before .before .before .pre .0)) ((c .before .before .before .before .before .before .before .before .before .before .before .before .before .before .before .before .before .before .before .before .before .before .before .before .before .before .pre .1 .for-firsts)) (c .before .before .before .before .before .before .before .before .order-contigs .ensures (rows-for (c .before .before .before .before .before .before .before .before .before .before .before .before .before .before .before .before .before .before .before .before .before .before .before .before .before .before .pre .0))) ((c .before .before .before .before .before .before .before .before .before .before .before .before .before .group-by-sample .ensures)), omega (arith, (c .before .before .before .before .before .before .before .before .before .before .before .before .before .before .before .before .before .before .before .before .before .before .before .before .before .before .pre .1 .for-chosen), (c .before .before .before .before .before .before .before .before .before .before .before .before .before .group-by-sample .kept .1 .1 .1 .0)))
 
 same-length : tie.Need-same-length
 same-length c = search needs
@@ -43,7 +43,7 @@ same-length-5 : tie.Need-same-length-5
 same-length-5 c = search needs
 
 returns : tie.Need-returns
-returns c = λ call. loaded-answered call ((c .before .before .before .before .before .before .before .before .before .before .before .before .before .before .before .before .before .before .before .before .before .before .before .before .before .before .before .before .before .before .before .before .before .pre .1 .for-firsts)) ((c .before .before .before .before .before .before .before .before .before .before .before .before .before .before .before .order-contigs .ensures) _ (call .loaded .table) (call .all-sites)) ((c .before .before .before .before .before .before .before .before .before .before .before .before .before .before .before .before .before .before .before .before .group-by-sample .ensures)) _ ((c .before .before .before .before .before .before .combine-contigs .ensures))
+returns c = λ call. loaded-answered call ((c .before .before .before .before .before .before .before .before .before .before .before .before .before .before .before .before .before .before .before .before .before .before .before .before .before .before .before .before .before .before .before .before .before .pre .1 .for-firsts)) (c .before .before .before .before .before .before .before .before .before .before .before .before .before .before .before .order-contigs .ensures (rows-for call)) ((c .before .before .before .before .before .before .before .before .before .before .before .before .before .before .before .before .before .before .before .before .group-by-sample .ensures)) _ ((c .before .before .before .before .before .before .combine-contigs .ensures))
 
 pub combine-loaded-spec : {M : Type 1} → statement M
 combine-loaded-spec =

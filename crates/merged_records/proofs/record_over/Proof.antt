@@ -18,7 +18,7 @@ enum-told c = search needs
 
 alts-at-requires : tie.Need-alts-at-requires
 alts-at-requires c κs = let over = (c .before .before .before .before .before .before .before .before .before .before .pre .1) in
-    let m = as-merged (over .on) _ _ (over .numbers) ((c .before .before .before .determine-reference-allele .ensures) (over .on .loaded .segments) (over .on .loaded .segments-from) (over .on .loaded .segments-indexed)) in
+    let m = as-merged (over .on) _ _ (over .numbers) (c .before .before .before .determine-reference-allele .ensures) in
     ((c .before .before .before .before .before .before .before .before .before .before .pre .0), found-sites-sound (over .on) _ _ (over .numbers) _ (over .some-site) (m ∙ site-answered _ _ _ _ _ ((c .before .enum-told .given .1))))
 
 enum-told-2 : tie.Need-enum-told-2
@@ -26,26 +26,26 @@ enum-told-2 c = search needs
 
 alts-at-requires-2 : tie.Need-alts-at-requires-2
 alts-at-requires-2 c κs = let over = (c .before .before .before .before .before .before .before .before .before .before .pre .1) in
-    let m = as-merged (over .on) _ _ (over .numbers) ((c .before .before .before .determine-reference-allele .ensures) (over .on .loaded .segments) (over .on .loaded .segments-from) (over .on .loaded .segments-indexed)) in
+    let m = as-merged (over .on) _ _ (over .numbers) (c .before .before .before .determine-reference-allele .ensures) in
     ((c .before .before .before .before .before .before .before .before .before .before .pre .0), found-sites-sound (over .on) _ _ (over .numbers) _ (over .some-site) (m ∙ letter-answered _ _ _ _ _ ((c .before .enum-told2 .given .1))))
 
 returns : tie.Need-returns
 unfolding RecordFound refAnswer
-returns c = λ over. let m = as-merged (over .on) _ _ (over .numbers) ((c .before .before .before .determine-reference-allele .ensures) (over .on .loaded .segments) (over .on .loaded .segments-from) (over .on .loaded .segments-indexed)) in
+returns c = λ over. let m = as-merged (over .on) _ _ (over .numbers) (c .before .before .before .determine-reference-allele .ensures) in
     (covering-some (over .on) _ _ (over .numbers) (over .some-site), λ last. ref-refused (over .on) _ last _ (m ∙ rw ((c .before .at .given .1))))
 
 same-length : tie.Need-same-length
 same-length c = search needs
 
 returns-2 : tie.Need-returns-2
-returns-2 c = λ over. let m = as-merged (over .on) _ _ (over .numbers) ((c .before .before .before .before .before .before .determine-reference-allele .ensures) (over .on .loaded .segments) (over .on .loaded .segments-from) (over .on .loaded .segments-indexed)) in
+returns-2 c = λ over. let m = as-merged (over .on) _ _ (over .numbers) (c .before .before .before .before .before .before .determine-reference-allele .ensures) in
     record-found (over .on) _ _ (over .numbers) _ (over .some-site) (m ∙ site-answered _ _ _ _ _ ((c .before .before .before .before .enum-told .given .1))) _ _ ((c .before .before .alts-at .ensures))
 
 same-length-2 : tie.Need-same-length-2
 same-length-2 c = search needs
 
 returns-3 : tie.Need-returns-3
-returns-3 c = λ over. let m = as-merged (over .on) _ _ (over .numbers) ((c .before .before .before .before .before .before .determine-reference-allele .ensures) (over .on .loaded .segments) (over .on .loaded .segments-from) (over .on .loaded .segments-indexed)) in
+returns-3 c = λ over. let m = as-merged (over .on) _ _ (over .numbers) (c .before .before .before .before .before .before .determine-reference-allele .ensures) in
     record-found (over .on) _ _ (over .numbers) _ (over .some-site) (m ∙ letter-answered _ _ _ _ _ ((c .before .before .before .before .enum-told2 .given .1))) _ _ ((c .before .before .alts-at2 .ensures))
 
 pub record-over-spec : {M : Type 1} → statement M

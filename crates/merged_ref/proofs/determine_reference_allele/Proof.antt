@@ -2,6 +2,7 @@
 use borrow.Author.Needs.{needs}
 use mathlib.Core.Path.{_∙_}
 use Rattle.merged_ref.proofs.Refs.{by-letter, conflict, shared}
+use Rattle.merged_ref.proofs.Starting.{longest-is}
 use Rattle.merged_ref.proofs.determine_reference_allele.Statement.{statement}
 use Rattle.merged_ref.proofs.determine_reference_allele.Tie as tie
 
@@ -18,7 +19,10 @@ ref-letter-requires : tie.Need-ref-letter-requires
 ref-letter-requires c κs = search needs
 
 returns : tie.Need-returns
-returns c = λ segments from indexed. (c .ref-letter .ensures) _ segments from indexed ∙ by-letter _ _ (c .before .before .before .before .before .before .before .before .before .args .reference .now) _ _ (c .before .before .before .before .before .before .before .before .before .args .found .now) _ segments (rw ((c .before .enum-told .given .1)) at ((c .before .before .before .longest-ref .ensures)))
+returns c =
+    let a = c .before .before .before .before .before .before .before .before .before .args in
+    let f = rw (c .before .enum-told .given .1) at (longest-is _ _ _ _ _ (c .before .before .before .longest-ref .ensures)) in
+    c .ref-letter .ensures _ ∙ by-letter _ _ (a .reference .now) _ _ (a .found .now) _ _ f
 
 reference-allele-requires : tie.Need-reference-allele-requires
 reference-allele-requires c κs = search needs
@@ -27,12 +31,16 @@ refs-agree-requires : tie.Need-refs-agree-requires
 refs-agree-requires c κs = search needs
 
 returns-2 : tie.Need-returns-2
-returns-2 c = λ segments from indexed. shared _ _ _ _ _ (c .before .before .before .before .before .before .before .before .before .before .before .before .args .found .now) _ segments _ (rw ((c .before .before .before .before .longest .given .1)) at ((c .before .before .before .before .before .before .longest-ref .ensures)))
-    (rw (c .before .before .reference-allele .ensures) at ((c .before .refs-agree .ensures))) (c .if1 .taken)
+returns-2 c =
+    let f = rw (c .before .before .before .before .longest .given .1) at (longest-is _ _ _ _ _ (c .before .before .before .before .before .before .longest-ref .ensures)) in
+    let agree = rw (c .before .before .reference-allele .ensures) at (c .before .refs-agree .ensures) in
+    shared _ _ _ _ _ (c .before .before .before .before .before .before .before .before .before .before .before .before .args .found .now) _ _ _ f agree (c .if1 .taken)
 
 returns-3 : tie.Need-returns-3
-returns-3 c = λ segments from indexed. conflict _ _ _ _ _ (c .before .before .before .before .before .before .before .before .before .before .before .before .args .found .now) _ segments _ (rw ((c .before .before .before .before .longest .given .1)) at ((c .before .before .before .before .before .before .longest-ref .ensures)))
-    (rw (c .before .before .reference-allele .ensures) at ((c .before .refs-agree .ensures))) (c .if1 .left)
+returns-3 c =
+    let f = rw (c .before .before .before .before .longest .given .1) at (longest-is _ _ _ _ _ (c .before .before .before .before .before .before .longest-ref .ensures)) in
+    let agree = rw (c .before .before .reference-allele .ensures) at (c .before .refs-agree .ensures) in
+    conflict _ _ _ _ _ (c .before .before .before .before .before .before .before .before .before .before .before .before .args .found .now) _ _ _ f agree (c .if1 .left)
 
 pub determine-reference-allele-spec : {M : Type 1} → statement M
 determine-reference-allele-spec =

@@ -28,10 +28,7 @@ enum-told c = search needs
 
 returns : tie.Need-returns Inv-loop μ-loop
 unfolding SegmentRead
-returns c = letter-faulty _ _ _ _ (c .before .before .before .before .loop .inv) (c .before .before .before .loop-test .taken) (rw ((c .enum-told .given .1)) at ((c .before .before .segment-at .ensures)))
-
-cast-letter-in : tie.Need-cast-letter-in Inv-loop μ-loop
-cast-letter-in c = search needs
+returns c = letter-faulty _ _ _ _ (c .before .before .before .before .loop .inv) (rw ((c .enum-told .given .1)) at ((c .before .before .segment-at .ensures)))
 
 letter-in-requires : tie.Need-letter-in-requires Inv-loop μ-loop
 letter-in-requires c κs = search needs
@@ -68,7 +65,6 @@ letter-from-spec =
     enum-known-group
     enum-told
     returns
-    cast-letter-in
     letter-in-requires
     enum-known-letter
     returns-2

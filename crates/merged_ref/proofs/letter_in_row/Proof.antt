@@ -1,6 +1,6 @@
 -- The row's numbers are those of the segment.
 use borrow.Author.Needs.{needs}
-use mathlib.Core.Path.{sym}
+use mathlib.Core.Path.{_∙_}
 use Rattle.tables.specs.Tables.{segmentAt}
 use Rattle.merged_ref.proofs.letter_in_row.Statement.{statement}
 use Rattle.merged_ref.proofs.letter_in_row.Tie as tie
@@ -20,12 +20,24 @@ segment-column-requires-4 c κs = search needs
 segment-column-requires-5 : tie.Need-segment-column-requires-5
 segment-column-requires-5 c κs = search needs
 
+new-1based-requires : tie.Need-new-1based-requires
+new-1based-requires c κs = search needs
+
 letter-in-requires : tie.Need-letter-in-requires
 letter-in-requires c κs = search needs
 
 returns : tie.Need-returns
 unfolding segmentAt
-returns c = rw (← (c .before .before .before .before .before .segment-column .ensures), ← (c .before .before .before .before .segment-column2 .ensures), ← (c .before .before .before .segment-column3 .ensures), ← (c .before .before .segment-column4 .ensures), ← (c .before .segment-column5 .ensures)) ((c .letter-in .ensures))
+returns c =
+    let at-columns = c .before .before in
+    let is-first = c .before .new-1based .ensures ∙ at-columns .before .before .segment-column3 .ensures in
+    rw (
+      ← at-columns .before .before .before .before .segment-column .ensures,
+      ← at-columns .before .before .before .segment-column2 .ensures,
+      ← is-first,
+      ← at-columns .before .segment-column4 .ensures,
+      ← at-columns .segment-column5 .ensures,
+    ) (c .letter-in .ensures)
 
 pub letter-in-row-spec : {M : Type 1} → statement M
 letter-in-row-spec =
@@ -36,5 +48,6 @@ letter-in-row-spec =
     segment-column-requires-3
     segment-column-requires-4
     segment-column-requires-5
+    new-1based-requires
     letter-in-requires
     returns)

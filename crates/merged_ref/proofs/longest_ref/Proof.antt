@@ -4,10 +4,9 @@ use borrow.Author.Needs.{needs}
 use lib.ListN.{drop, getD, length}
 use lib.Seq.{drop-cons, drop-length}
 use mathlib.Core.List.{List, _∷_}
-use mathlib.Core.Path.{_≡_}
+use mathlib.Core.Path.{_∙_, _≡_, ap}
 use native.Mathlib.Omega.{arith}
-use Rattle.definitions.specs.Lists.{anyOf}
-use Rattle.merged_ref.specs.Answers.{LongestFound}
+use Rattle.merged_ref.specs.Answers.{longerSite, longestSite}
 use Rattle.merged_ref.specs.declared.LongestAt.the-variants.{NoneStarts}
 use Rattle.merged_ref.specs.declared.LongestAt.{LongestAt}
 use Rattle.merged_ref.proofs.longest_ref.Statement.{statement}
@@ -15,10 +14,10 @@ use Rattle.merged_ref.proofs.longest_ref.Tie as tie
 
 record Inv (s rows : List ℕ) (position : ℕ) (found : List ℕ) (best : LongestAt) (i : ℕ) : Type 0 where
   within : i ≤ length found
-  longest : LongestFound s rows position (drop i found) best
+  longest : best ≡ longestSite s rows position (drop i found)
 
 start : (s rows : List ℕ) (position : ℕ) (found : List ℕ) → Inv s rows position found NoneStarts (length found)
-unfolding LongestFound anyOf
+unfolding longestSite
 start s rows position found = record { within = omega arith; longest = rw (drop-length found) }
 
 one-more : (found : List ℕ) (i : ℕ) → 0 < i → i ≤ length found → drop (i - 1) found ≡ getD found (i - 1) 0 ∷ drop i found
@@ -27,17 +26,17 @@ one-more found i h k =
     let l : i - 1 < length found = omega arith in
     rw (drop-cons found (i - 1) 0 l, e)
 
-turn : (s rows : List ℕ) (position : ℕ) (found : List ℕ) (best next : LongestAt) (i : ℕ) → 0 < i → Inv s rows position found best i
-    → ((l : List ℕ) → LongestFound s rows position l best → LongestFound s rows position (getD found (i - 1) 0 ∷ l) next)
-    → Inv s rows position found next (i - 1)
-turn s rows position found best next i h inv more = record {
-  within = omega (arith, inv .within);
-  longest = rw (one-more found i h (inv .within)) (more (drop i found) (inv .longest));
-}
+module _ (s rows : List ℕ) (position : ℕ) (found : List ℕ) (best : LongestAt) (i : ℕ) where
+  turn : (next : LongestAt) → 0 < i → Inv s rows position found best i → next ≡ longerSite s rows position (getD found (i - 1) 0) best
+      → Inv s rows position found next (i - 1)
+  unfolding longestSite
+  turn next h inv e = record {
+    within = omega (arith, inv .within);
+    longest = e ∙ rw (one-more found i h (inv .within)) (ap (longerSite s rows position (getD found (i - 1) 0)) (inv .longest));
+  }
 
-end : (s rows : List ℕ) (position : ℕ) (found : List ℕ) (best : LongestAt) (i : ℕ) → i ≤ 0 → Inv s rows position found best i
-    → LongestFound s rows position found best
-end s rows position found best i h inv = let e : i ≡ 0 = omega arith in rw e at (inv .longest)
+  end : i ≤ 0 → Inv s rows position found best i → best ≡ longestSite s rows position found
+  end h inv = let e : i ≡ 0 = omega arith in rw e at (inv .longest)
 
 abbrev Inv-loop : tie.InvT-loop
 Inv-loop s rows found position best₀ i₀ best i = Inv s rows (position .0) found best i

@@ -9,7 +9,9 @@ first-site-requires : tie.Need-first-site-requires
 first-site-requires c κs = search needs
 
 returns : tie.Need-returns
-returns c = λ s segments from indexed. not-referenced s _ _ _ _ ((c .before .before .before .before .before .before .args .found .now)) _ segments (not-true ((c .before .before .before .before .before .before .args .referenced)) ((c .before .if1 .taken))) _ (((c .first-site .ensures)) s)
+returns c = λ s.
+    let a = c .before .before .before .before .before .before .args in
+    not-referenced s _ _ _ _ (a .found .now) _ _ (not-true (a .referenced) (c .before .if1 .taken)) _ (c .first-site .ensures s)
 
 find-letter-requires : tie.Need-find-letter-requires
 find-letter-requires c κs = search needs
@@ -21,12 +23,16 @@ enum-told : tie.Need-enum-told
 enum-told c = search needs
 
 returns-2 : tie.Need-returns-2
-returns-2 c = λ s segments from indexed. let there = not-false ((c .before .before .before .before .before .before .before .before .before .args .referenced)) ((c .before .before .before .before .if1 .left)) in
-    letter-there s _ _ _ _ ((c .before .before .before .before .before .before .before .before .before .args .found .now)) _ segments there _ (rw ((c .before .letter .given .1)) at (((c .before .before .before .find-letter .ensures)) segments (from there) (indexed there)))
+returns-2 c = λ s.
+    let a = c .before .before .before .before .before .before .before .before .before .args in
+    let there = not-false (a .referenced) (c .before .before .before .before .if1 .left) in
+    letter-there s _ _ _ _ (a .found .now) _ _ there _ (rw (c .before .letter .given .1) at (c .before .before .before .find-letter .ensures))
 
 returns-3 : tie.Need-returns-3
-returns-3 c = λ s segments from indexed. let there = not-false ((c .before .before .before .before .before .before .before .before .args .referenced)) ((c .before .before .before .if1 .left)) in
-    letter-lacking s _ _ _ _ ((c .before .before .before .before .before .before .before .before .args .found .now)) _ segments there (rw ((c .enum-told .given .1)) at (((c .before .before .find-letter .ensures)) segments (from there) (indexed there)))
+returns-3 c = λ s.
+    let a = c .before .before .before .before .before .before .before .before .args in
+    let there = not-false (a .referenced) (c .before .before .before .if1 .left) in
+    letter-lacking s _ _ _ _ (a .found .now) _ _ there (rw (c .enum-told .given .1) at (c .before .before .find-letter .ensures))
 
 pub ref-letter-spec : {M : Type 1} → statement M
 ref-letter-spec =
