@@ -22,7 +22,7 @@ part-requires-3 : tie.Need-part-requires-3
 part-requires-3 c κs = search needs
 
 put-called-record-requires : tie.Need-put-called-record-requires
-put-called-record-requires c κs = rw ((c .before .before .before .part .ensures), (c .before .before .part2 .ensures), (c .before .part3 .ensures)) (record-fits (c .before .before .before .before .before .before .before .before .before .pre))
+put-called-record-requires c κs = rw ((c .before .before .before .before .part .ensures), (c .before .before .before .part2 .ensures), (c .before .before .part3 .ensures)) (record-fits (c .before .before .before .before .before .before .before .before .before .before .pre))
 
 cap-requires : tie.Need-cap-requires
 cap-requires c κs = search needs
@@ -34,7 +34,7 @@ same-length : tie.Need-same-length
 same-length c = search needs
 
 returns-2 : tie.Need-returns-2
-returns-2 c = λ ready. rw ((c .before .cap .ensures), (c .count-more .ensures)) (laid-one ready (by-numbers ready ∙ sym (c .before .before .before .before .before .before .before .before .before .before .is-called .ensures) ∙ not-false _ (c .before .before .before .before .before .before .before .before .before .if1 .left)) (rw ((c .before .before .before .before .before .before .before .before .part .ensures), (c .before .before .before .before .before .before .before .part2 .ensures), (c .before .before .before .before .before .before .part3 .ensures)) at (c .before .before .before .before .put-called-record .ensures)))
+returns-2 c = λ ready. rw ((c .before .cap .ensures), (c .count-more .ensures)) (laid-one ready (by-numbers ready ∙ sym (c .before .before .before .before .before .before .before .before .before .before .before .is-called .ensures) ∙ not-false _ (c .before .before .before .before .before .before .before .before .before .before .if1 .left)) (rw ((c .before .before .before .before .before .before .before .before .before .part .ensures), (c .before .before .before .before .before .before .before .before .part2 .ensures), (c .before .before .before .before .before .before .before .part3 .ensures)) at (c .before .before .before .before .put-called-record .ensures)))
 
 pub genotype-one-record-spec : {M : Type 1} → statement M
 genotype-one-record-spec =
