@@ -17,28 +17,48 @@ slice-aggregate-put-line : tie.Need-slice-aggregate-put-line
 slice-aggregate-put-line c = search needs
 
 put-line-requires : tie.Need-put-line-requires
-put-line-requires c κs = omega (arith, (c .before .before .before .before .before .before .before .pre .fits), head-length (c .before .before .before .before .before .before .before .args .contig .now) (c .before .before .before .before .before .before .before .args .pos .0) (c .before .before .before .before .before .before .before .args .reference .now) (c .before .before .before .before .before .before .before .args .alts .now))
+put-line-requires c κs =
+    let args = c .before .before .before .before .before .before .before .args in
+    omega (arith, (c .before .before .before .before .before .before .before .pre .fits), head-length (args .contig .now) (args .pos .0) (args .reference .now) (args .alts .now))
 
 slice-aggregate-put-number-line : tie.Need-slice-aggregate-put-number-line
 slice-aggregate-put-number-line c = search needs
 
 put-number-line-requires : tie.Need-put-number-line-requires
-put-number-line-requires c κs = rw (c .before .before .before .before .before .before .before .get .ensures) (omega (arith, (c .before .before .before .before .before .before .before .before .before .before .before .before .pre .fits), (c .before .before .before .before .put-line .ensures .next), head-length (c .before .before .before .before .before .before .before .before .before .before .before .before .args .contig .now) (c .before .before .before .before .before .before .before .before .before .before .before .before .args .pos .0) (c .before .before .before .before .before .before .before .before .before .before .before .before .args .reference .now) (c .before .before .before .before .before .before .before .before .before .before .before .before .args .alts .now)))
+put-number-line-requires c κs =
+    let args = c .before .before .before .before .before .before .before .before .before .before .before .before .args in
+    rw (c .before .before .before .before .before .before .before .get .ensures)
+    (omega (arith, (c .before .before .before .before .before .before .before .before .before .before .before .before .pre .fits), (c .before .before .before .before .put-line .ensures .next), head-length (args .contig .now) (args .pos .0) (args .reference .now) (args .alts .now)))
 
 slice-aggregate-put-line-2 : tie.Need-slice-aggregate-put-line-2
 slice-aggregate-put-line-2 c = search needs
 
 put-line-requires-2 : tie.Need-put-line-requires-2
-put-line-requires-2 c κs = let pos = rw (c .before .before .before .before .before .before .before .before .before .before .before .before .get .ensures) at (c .before .before .before .before .put-number-line .ensures) in omega (arith, (c .before .before .before .before .before .before .before .before .before .before .before .before .before .before .before .before .before .pre .fits), (c .before .before .before .before .before .before .before .before .before .put-line .ensures .next), pos .next, head-length (c .before .before .before .before .before .before .before .before .before .before .before .before .before .before .before .before .before .args .contig .now) (c .before .before .before .before .before .before .before .before .before .before .before .before .before .before .before .before .before .args .pos .0) (c .before .before .before .before .before .before .before .before .before .before .before .before .before .before .before .before .before .args .reference .now) (c .before .before .before .before .before .before .before .before .before .before .before .before .before .before .before .before .before .args .alts .now))
+put-line-requires-2 c κs =
+    let args = c .before .before .before .before .before .before .before .before .before .before .before .before .before .before .before .before .before .args in
+    let pos = rw (c .before .before .before .before .before .before .before .before .before .before .before .before .get .ensures) at
+    (c .before .before .before .before .put-number-line .ensures) in omega
+    (arith, (c .before .before .before .before .before .before .before .before .before .before .before .before .before .before .before .before .before .pre .fits), (c .before .before .before .before .before .before .before .before .before .put-line .ensures .next), pos .next, head-length (args .contig .now) (args .pos .0) (args .reference .now) (args .alts .now))
 
 put-called-alts-requires : tie.Need-put-called-alts-requires
-put-called-alts-requires c κs = let pos = rw (c .before .before .before .before .before .before .before .before .before .before .before .before .before .before .before .before .get .ensures) at (c .before .before .before .before .before .before .before .before .put-number-line .ensures) in omega (arith, (c .before .before .before .before .before .before .before .before .before .before .before .before .before .before .before .before .before .before .before .before .before .pre .fits), (c .before .before .before .before .before .before .before .before .before .before .before .before .before .put-line .ensures .next), pos .next, (c .before .before .before .put-line2 .ensures .next), head-length (c .before .before .before .before .before .before .before .before .before .before .before .before .before .before .before .before .before .before .before .before .before .args .contig .now) (c .before .before .before .before .before .before .before .before .before .before .before .before .before .before .before .before .before .before .before .before .before .args .pos .0) (c .before .before .before .before .before .before .before .before .before .before .before .before .before .before .before .before .before .before .before .before .before .args .reference .now) (c .before .before .before .before .before .before .before .before .before .before .before .before .before .before .before .before .before .before .before .before .before .args .alts .now))
+put-called-alts-requires c κs =
+    let args = c .before .before .before .before .before .before .before .before .before .before .before .before .before .before .before .before .before .before .before .before .before .args in
+    let pos = rw (c .before .before .before .before .before .before .before .before .before .before .before .before .before .before .before .before .get .ensures) at (c .before .before .before .before .before .before .before .before .put-number-line .ensures) in omega (arith, (c .before .before .before .before .before .before .before .before .before .before .before .before .before .before .before .before .before .before .before .before .before .pre .fits), (c .before .before .before .before .before .before .before .before .before .before .before .before .before .put-line .ensures .next), pos .next, (c .before .before .before .put-line2 .ensures .next), head-length (args .contig .now) (args .pos .0) (args .reference .now) (args .alts .now))
 
 same-length : tie.Need-same-length
 same-length c = search needs
 
 returns : tie.Need-returns
-returns c = head-laid (c .before .before .before .before .before .before .before .before .before .before .before .before .before .before .before .before .before .before .before .before .before .before .before .before .args .contig .now) (c .before .before .before .before .before .before .before .before .before .before .before .before .before .before .before .before .before .before .before .before .before .before .before .before .args .pos .0) (c .before .before .before .before .before .before .before .before .before .before .before .before .before .before .before .before .before .before .before .before .before .before .before .before .args .reference .now) (c .before .before .before .before .before .before .before .before .before .before .before .before .before .before .before .before .before .before .before .before .before .before .before .before .args .alts .now) (c .before .before .before .before .before .before .before .before .before .before .before .before .before .before .before .before .put-line .ensures) (rw (c .before .before .before .before .before .before .before .before .before .before .before .before .before .before .before .before .before .before .before .get .ensures) at (c .before .before .before .before .before .before .before .before .before .before .before .put-number-line .ensures)) (c .before .before .before .before .before .before .put-line2 .ensures) (c .before .before .put-called-alts .ensures)
+returns c =
+    let at-put-called-alts = c .before .before in
+    let at-put-line2 = at-put-called-alts .before .before .before .before in
+    let at-put-number-line = at-put-line2 .before .before .before .before .before in
+    let at-put-line = at-put-number-line .before .before .before .before .before in
+    let at-get = at-put-line .before .before .before in
+    let at-args = at-get .before .before .before .before .before in
+    head-laid (at-args .args .contig .now) (at-args .args .pos .0) (at-args .args .reference .now) (at-args .args .alts .now)
+    (at-put-line .put-line .ensures) (rw (at-get .get .ensures) at (at-put-number-line .put-number-line .ensures)) (at-put-line2 .put-line2 .ensures)
+    (at-put-called-alts .put-called-alts .ensures)
 
 pub put-called-head-spec : {M : Type 1} → statement M
 put-called-head-spec =

@@ -21,12 +21,16 @@ new-requires : tie.Need-new-requires Inv-loop μ-loop
 new-requires c κs = search needs
 
 put-called-sample-requires : tie.Need-put-called-sample-requires Inv-loop μ-loop
-put-called-sample-requires c κs = record {
-      atLeast = (c .before .before .before .before .before .before .before .pre .atLeast);
-      atMost = (c .before .before .before .before .before .before .before .pre .atMost);
-      dropped = (c .before .before .before .before .before .before .before .pre .dropped);
-      entries = rw (c .before .new .ensures) (sample-entries _ _ _ _ _ _ (c .before .before .before .before .before .before .before .pre) (c .before .before .loop-test .taken));
-      fits = rw (c .before .new .ensures) (room (calledSample _ _ _ _ _) _ (recast (samples-next _ _ _ _ _ _ (c .before .before .loop-test .taken)) (c .before .before .before .loop .inv)));
+put-called-sample-requires c κs =
+    let at-loop-test = c .before .before in
+    let at-loop = at-loop-test .before in
+    let at-pre = at-loop .before .before .before .before in
+    record {
+      atLeast = (at-pre .pre .atLeast);
+      atMost = (at-pre .pre .atMost);
+      dropped = (at-pre .pre .dropped);
+      entries = rw (c .before .new .ensures) (sample-entries _ _ _ _ _ _ (at-pre .pre) (at-loop-test .loop-test .taken));
+      fits = rw (c .before .new .ensures) (room (calledSample _ _ _ _ _) _ (recast (samples-next _ _ _ _ _ _ (at-loop-test .loop-test .taken)) (at-loop .loop .inv)));
     }
 
 add-sample : tie.Need-add-sample Inv-loop μ-loop
@@ -36,7 +40,13 @@ loop-less : tie.Need-loop-less Inv-loop μ-loop
 loop-less c = search needs
 
 loop-again : tie.Need-loop-again Inv-loop μ-loop
-loop-again c = several (rw (c .before .before .before .before .new .ensures) at (c .before .before .put-called-sample .ensures)) (recast (samples-next _ _ _ _ _ _ (c .before .before .before .before .before .loop-test .taken)) (c .before .before .before .before .before .before .loop .inv))
+loop-again c =
+    let at-put-called-sample = c .before .before in
+    let at-new = at-put-called-sample .before .before in
+    let at-loop-test = at-new .before in
+    let at-loop = at-loop-test .before in
+    several (rw (at-new .new .ensures) at (at-put-called-sample .put-called-sample .ensures))
+    (recast (samples-next _ _ _ _ _ _ (at-loop-test .loop-test .taken)) (at-loop .loop .inv))
 
 same-length : tie.Need-same-length Inv-loop μ-loop
 same-length c = left-length (c .before .loop .inv)

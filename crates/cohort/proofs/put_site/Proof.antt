@@ -34,7 +34,13 @@ same-length : tie.Need-same-length
 same-length c = search needs
 
 returns : tie.Need-returns
-returns c = rw (← (c .before .before .before .before .before .before .before .flag .ensures), ← (c .before .before .before .before .before .before .before .before .before .before .get .ensures), ← (c .before .before .before .before .before .before .before .before .before .get2 .ensures), ← (c .before .before .before .before .before .before .before .before .get3 .ensures)) (c .before .before .store-row .ensures)
+returns c =
+    let at-store-row = c .before .before in
+    let at-flag = at-store-row .before .before .before .before .before in
+    let at-get3 = at-flag .before in
+    let at-get2 = at-get3 .before in
+    let at-get = at-get2 .before in
+    rw (← (at-flag .flag .ensures), ← (at-get .get .ensures), ← (at-get2 .get2 .ensures), ← (at-get3 .get3 .ensures)) (at-store-row .store-row .ensures)
 
 pub put-site-spec : {M : Type 1} → statement M
 put-site-spec =

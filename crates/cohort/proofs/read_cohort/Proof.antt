@@ -62,14 +62,19 @@ same-length-6 c = search needs
 
 returns-3 : tie.Need-returns-3
 unfolding CohortAt CohortFitting cohortAnswer
-returns-3 c = let r = rw (c .before .before .before .before .before .before .before .enum-told .given .1) at (c .before .before .before .before .before .before .before .before .before .before .before .before .before .read-fitting .ensures) in (
-  rw (le-ltb _ 128 (c .before .before .before .before .before .before .before .before .before .before .before .before .before .before .before .before .if1 .left)) (r .0),
-  record {
+returns-3 c =
+    let at-clear-tables2 = c .before .before .before .before in
+    let at-enum-told = at-clear-tables2 .before .before .before in
+    let at-read-fitting = at-enum-told .before .before .before .before .before .before in
+    let at-if1 = at-read-fitting .before .before .before in
+    let r = rw (at-enum-told .enum-told .given .1) at (at-read-fitting .read-fitting .ensures) in (
+      rw (le-ltb _ 128 (at-if1 .if1 .left)) (r .0),
+      record {
     no-room = inr (r .1);
-    names-cleared = (c .before .before .before .before .clear-tables2 .ensures .1) ∙ scratch-same _ _ (c .before .before .before .before .before .before .before .before .before .before .before .before .before .read-fitting .kept .1 .0);
-    rows-cleared = (c .before .before .before .before .clear-tables2 .ensures .0) ∙ scratch-same _ _ (c .before .before .before .before .before .before .before .before .before .before .before .before .before .read-fitting .kept .1 .1 .0);
-  },
-)
+    names-cleared = (at-clear-tables2 .clear-tables2 .ensures .1) ∙ scratch-same _ _ (at-read-fitting .read-fitting .kept .1 .0);
+    rows-cleared = (at-clear-tables2 .clear-tables2 .ensures .0) ∙ scratch-same _ _ (at-read-fitting .read-fitting .kept .1 .1 .0);
+      },
+    )
 
 same-length-7 : tie.Need-same-length-7
 same-length-7 c = search needs
@@ -84,8 +89,10 @@ returns-4 c = let r = rw (c .before .before .before .before .before .before .bef
   record {
     room = omega (arith, (c .before .before .before .before .before .before .before .before .before .before .before .before .before .before .before .before .before .if1 .left));
     value = r .1;
-    names-cleared = (c .before .before .before .before .clear-tables3 .ensures .1) ∙ scratch-same _ _ (c .before .before .before .before .before .before .before .before .before .before .before .before .before .before .read-fitting .kept .1 .0);
-    rows-cleared = (c .before .before .before .before .clear-tables3 .ensures .0) ∙ scratch-same _ _ (c .before .before .before .before .before .before .before .before .before .before .before .before .before .before .read-fitting .kept .1 .1 .0);
+    names-cleared = (c .before .before .before .before .clear-tables3 .ensures .1) ∙ scratch-same _ _
+    (c .before .before .before .before .before .before .before .before .before .before .before .before .before .before .read-fitting .kept .1 .0);
+    rows-cleared = (c .before .before .before .before .clear-tables3 .ensures .0) ∙ scratch-same _ _
+    (c .before .before .before .before .before .before .before .before .before .before .before .before .before .before .read-fitting .kept .1 .1 .0);
   },
 )
 

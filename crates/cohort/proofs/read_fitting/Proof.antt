@@ -47,8 +47,11 @@ same-length-2 c = search needs
 
 returns-3 : tie.Need-returns-3
 unfolding CohortFitting Header
-returns-3 c = let h = rw (c .before .header .given .1) at (c .before .before .before .before .before .read-samples .ensures) in
-    (header-answer _ (c .before .before .before .before .before .before .before .if1 .left) _ _ _ (h .value), header-refused _ (c .before .before .before .before .before .before .before .if1 .left) _ (h .value))
+returns-3 c =
+    let at-read-samples = c .before .before .before .before .before in
+    let at-if1 = at-read-samples .before .before in
+    let h = rw (c .before .header .given .1) at (at-read-samples .read-samples .ensures) in
+    (header-answer _ (at-if1 .if1 .left) _ _ _ (h .value), header-refused _ (at-if1 .if1 .left) _ (h .value))
 
 same-length-3 : tie.Need-same-length-3
 same-length-3 c = search needs
@@ -58,9 +61,14 @@ same-length-4 c = search needs
 
 returns-4 : tie.Need-returns-4
 unfolding CohortFitting Header SitesRead
-returns-4 c = let h = rw (c .before .before .before .before .before .before .before .header2 .given .1) at (c .before .before .before .before .before .before .before .before .before .before .before .read-samples .ensures) in
-    let r = rw (c .enum-told2 .given .1) at (c .before .before .before .before .read-sites .ensures) in
-    (sites-said _ (c .before .before .before .before .before .before .before .before .before .before .before .before .before .if1 .left) _ _ _ (h .value) (h .behind) _ _ (r .0 _ (names-count _ _ _)), r .1)
+returns-4 c =
+    let at-read-sites = c .before .before .before .before in
+    let at-header2 = at-read-sites .before .before .before in
+    let at-read-samples = at-header2 .before .before .before .before in
+    let at-if1 = at-read-samples .before .before in
+    let h = rw (at-header2 .header2 .given .1) at (at-read-samples .read-samples .ensures) in
+    let r = rw (c .enum-told2 .given .1) at (at-read-sites .read-sites .ensures) in
+    (sites-said _ (at-if1 .if1 .left) _ _ _ (h .value) (h .behind) _ _ (r .0 _ (names-count _ _ _)), r .1)
 
 same-length-5 : tie.Need-same-length-5
 same-length-5 c = search needs
@@ -70,10 +78,15 @@ same-length-6 c = search needs
 
 returns-5 : tie.Need-returns-5
 unfolding CohortFitting Header SitesRead
-returns-5 c = let h = rw (c .before .before .before .before .before .before .before .before .header2 .given .1) at (c .before .before .before .before .before .before .before .before .before .before .before .before .read-samples .ensures) in
-    let r = rw (c .before .sites .given .1) at (c .before .before .before .before .before .read-sites .ensures) in (
-      sites-said _ (c .before .before .before .before .before .before .before .before .before .before .before .before .before .before .if1 .left) _ _ _ (h .value) (h .behind) _ _ (r .0 _ (names-count _ _ _)),
-      sites-refused _ (c .before .before .before .before .before .before .before .before .before .before .before .before .before .before .if1 .left) _ _ _ (h .value) (h .behind) _ (r .1 _ (names-count _ _ _)),
+returns-5 c =
+    let at-read-sites = c .before .before .before .before .before in
+    let at-header2 = at-read-sites .before .before .before in
+    let at-read-samples = at-header2 .before .before .before .before in
+    let at-if1 = at-read-samples .before .before in
+    let h = rw (at-header2 .header2 .given .1) at (at-read-samples .read-samples .ensures) in
+    let r = rw (c .before .sites .given .1) at (at-read-sites .read-sites .ensures) in (
+      sites-said _ (at-if1 .if1 .left) _ _ _ (h .value) (h .behind) _ _ (r .0 _ (names-count _ _ _)),
+      sites-refused _ (at-if1 .if1 .left) _ _ _ (h .value) (h .behind) _ (r .1 _ (names-count _ _ _)),
     )
 
 same-length-7 : tie.Need-same-length-7
@@ -84,12 +97,18 @@ same-length-8 c = search needs
 
 returns-6 : tie.Need-returns-6
 unfolding CohortFitting Header SitesRead
-returns-6 c = let h = rw (c .before .before .before .before .before .before .before .before .header2 .given .1) at (c .before .before .before .before .before .before .before .before .before .before .before .before .read-samples .ensures) in
-    let (answer, r) = rw (c .before .sites2 .given .1) at (c .before .before .before .before .before .read-sites .ensures) in (
-      sites-said _ (c .before .before .before .before .before .before .before .before .before .before .before .before .before .before .if1 .left) _ _ _ (h .value) (h .behind) _ _ (answer _ (names-count _ _ _)),
+returns-6 c =
+    let at-read-sites = c .before .before .before .before .before in
+    let at-header2 = at-read-sites .before .before .before in
+    let at-read-samples = at-header2 .before .before .before .before in
+    let at-if1 = at-read-samples .before .before in
+    let at-pre = at-if1 .before .before .before .before in
+    let h = rw (at-header2 .header2 .given .1) at (at-read-samples .read-samples .ensures) in
+    let (answer, r) = rw (c .before .sites2 .given .1) at (at-read-sites .read-sites .ensures) in (
+      sites-said _ (at-if1 .if1 .left) _ _ _ (h .value) (h .behind) _ _ (answer _ (names-count _ _ _)),
       record {
-        room = record { for-names = (c .before .before .before .before .before .before .before .before .before .before .before .before .before .before .before .before .before .before .pre); for-rows = r .room };
-        value = all-read _ (c .before .before .before .before .before .before .before .before .before .before .before .before .before .before .if1 .left) _ _ _ (h .value) (h .behind) _ (r .value _ (names-count _ _ _));
+        room = record { for-names = (at-pre .pre); for-rows = r .room };
+        value = all-read _ (at-if1 .if1 .left) _ _ _ (h .value) (h .behind) _ (r .value _ (names-count _ _ _));
         table = r .table;
         some-sample = h .not-none;
         few-samples = h .few;

@@ -36,8 +36,12 @@ same-length c = (c .before .before .before .before .before .before .before .befo
 
 returns : tie.Need-returns Inv-loop μ-loop
 unfolding SiteRead
-returns c = let faulty = (rw (c .before .group .given .1) at (c .before .before .before .before .before .site-at .ensures)) .0 in
-    (refused-answer _ _ _ _ _ _ _ (c .before .before .before .before .before .before .before .before .before .loop .inv .0) (c .before .before .before .before .before .before .before .before .loop-test .taken) _ faulty, site-refused _ _ _ _ _ _ _ (c .before .before .before .before .before .before .before .before .before .loop .inv .0) (c .before .before .before .before .before .before .before .before .loop-test .taken) _ faulty)
+returns c =
+    let at-site-at = c .before .before .before .before .before in
+    let at-loop-test = at-site-at .before .before .before in
+    let at-loop = at-loop-test .before in
+    let faulty = (rw (c .before .group .given .1) at (at-site-at .site-at .ensures)) .0 in
+    (refused-answer _ _ _ _ _ _ _ (at-loop .loop .inv .0) (at-loop-test .loop-test .taken) _ faulty, site-refused _ _ _ _ _ _ _ (at-loop .loop .inv .0) (at-loop-test .loop-test .taken) _ faulty)
 
 enum-known-group-2 : tie.Need-enum-known-group-2 Inv-loop μ-loop
 enum-known-group-2 c = search needs
@@ -62,16 +66,24 @@ part-requires : tie.Need-part-requires Inv-loop μ-loop
 part-requires c κs = search needs
 
 contig-number-requires : tie.Need-contig-number-requires Inv-loop μ-loop
-contig-number-requires c κs = (c .before .before .before .before .before .before .before .before .before .before .before .before .loop .inv .0 .numbered .contigs)
+contig-number-requires c κs =
+    let at-loop = c .before .before .before .before .before .before .before .before .before .before .before .before in
+    (at-loop .loop .inv .0 .numbered .contigs)
 
 put-site-requires : tie.Need-put-site-requires Inv-loop μ-loop
 put-site-requires c κs = omega (arith, (c .before .before .before .before .if1 .left))
 
 slice-aggregate-put-numbers : tie.Need-slice-aggregate-put-numbers Inv-loop μ-loop
-slice-aggregate-put-numbers c = sym ((c .before .before .before .before .before .before .before .before .before .before .before .before .before .before .before .site-at .kept .1 .1 .1 .1 .0) ∙ (c .before .before .before .before .before .before .before .before .before .before .before .before .before .before .before .before .before .before .before .loop .inv .1))
+slice-aggregate-put-numbers c =
+    let at-site-at = c .before .before .before .before .before .before .before .before .before .before .before .before .before .before .before in
+    let at-loop = at-site-at .before .before .before .before in
+    sym ((at-site-at .site-at .kept .1 .1 .1 .1 .0) ∙ (at-loop .loop .inv .1))
 
 slice-aggregate-put-numbers-2 : tie.Need-slice-aggregate-put-numbers-2 Inv-loop μ-loop
-slice-aggregate-put-numbers-2 c = sym ((c .before .before .before .before .before .before .before .before .before .before .before .before .before .before .before .before .site-at .kept .1 .1 .1 .1 .1 .0) ∙ (c .before .before .before .before .before .before .before .before .before .before .before .before .before .before .before .before .before .before .before .before .loop .inv .2))
+slice-aggregate-put-numbers-2 c =
+    let at-site-at = c .before .before .before .before .before .before .before .before .before .before .before .before .before .before .before .before in
+    let at-loop = at-site-at .before .before .before .before in
+    sym ((at-site-at .site-at .kept .1 .1 .1 .1 .1 .0) ∙ (at-loop .loop .inv .2))
 
 put-numbers-requires : tie.Need-put-numbers-requires Inv-loop μ-loop
 put-numbers-requires c κs = omega (arith, (c .before .before .before .before .before .before .before .before .before .before .if1 .left), (c .before .before .before .before .before .put-site .kept .0))
@@ -85,16 +97,19 @@ loop-less c = let to = (rw (c .before .before .before .before .before .before .b
 
 loop-again : tie.Need-loop-again Inv-loop μ-loop
 unfolding SiteRead
-loop-again c = let g = rw (c .before .before .before .before .before .before .before .before .before .before .before .before .before .before .before .group2 .given .1) at (c .before .before .before .before .before .before .before .before .before .before .before .before .before .before .before .before .before .before .before .site-at .ensures) in
-    let ad-long = (c .before .before .before .before .before .before .before .before .before .before .before .before .before .before .before .before .before .before .before .site-at .kept .1 .1 .1 .1 .0) ∙ (c .before .before .before .before .before .before .before .before .before .before .before .before .before .before .before .before .before .before .before .before .before .before .before .loop .inv .1) in
-    let pl-long = (c .before .before .before .before .before .before .before .before .before .before .before .before .before .before .before .before .before .before .before .site-at .kept .1 .1 .1 .1 .1 .0) ∙ (c .before .before .before .before .before .before .before .before .before .before .before .before .before .before .before .before .before .before .before .before .before .before .before .loop .inv .2) in
-    (numbers-read (c .before .before .before .before .before .before .before .before .before .before .before .before .before .before .before .before .before .before .before .before .before .before .before .loop .inv .0) (c .before .before .before .before .before .before .before .before .before .before .before .before .before .before .before .before .before .before .before .before .before .before .loop-test .taken) (g .0) _ (rw (c .before .before .before .before .before .before .before .before .before .before .before .before .part .ensures) at (c .before .before .before .before .before .before .before .before .before .before .contig-number .ensures)) (omega (arith, (c .before .before .before .before .before .before .before .before .before .before .before .before .before .if1 .left))) (record { ad₀ = _; pl₀ = _; ad-stored = g .1 .0; pl-stored = g .1 .1; ad-long = ad-long; pl-long = pl-long }) (c .before .before .before .before .before .before .before .before .put-site .ensures) (c .before .before .put-numbers .ensures), ad-long, pl-long)
+loop-again c =
+    let turn = c .before .before .before .before .before .before .before .before .before .before .before .before .before .before .before .before .before .before .before .before .before .before .before .loop in
+    let g = rw (c .before .before .before .before .before .before .before .before .before .before .before .before .before .before .before .group2 .given .1) at (c .before .before .before .before .before .before .before .before .before .before .before .before .before .before .before .before .before .before .before .site-at .ensures) in
+    let ad-long = (c .before .before .before .before .before .before .before .before .before .before .before .before .before .before .before .before .before .before .before .site-at .kept .1 .1 .1 .1 .0) ∙ (turn .inv .1) in
+    let pl-long = (c .before .before .before .before .before .before .before .before .before .before .before .before .before .before .before .before .before .before .before .site-at .kept .1 .1 .1 .1 .1 .0) ∙ (turn .inv .2) in
+    (numbers-read (turn .inv .0) (c .before .before .before .before .before .before .before .before .before .before .before .before .before .before .before .before .before .before .before .before .before .before .loop-test .taken) (g .0) _ (rw (c .before .before .before .before .before .before .before .before .before .before .before .before .part .ensures) at (c .before .before .before .before .before .before .before .before .before .before .contig-number .ensures)) (omega (arith, (c .before .before .before .before .before .before .before .before .before .before .before .before .before .if1 .left))) (record { ad₀ = _; pl₀ = _; ad-stored = g .1 .0; pl-stored = g .1 .1; ad-long = ad-long; pl-long = pl-long }) (c .before .before .before .before .before .before .before .before .put-site .ensures) (c .before .before .put-numbers .ensures), ad-long, pl-long)
 
 same-length-3 : tie.Need-same-length-3 Inv-loop μ-loop
 same-length-3 c = (c .before .loop .inv .0 .long)
 
 returns-3 : tie.Need-returns-3 Inv-loop μ-loop
-returns-3 c = (sites-answer _ _ _ _ _ _ _ (c .before .loop .inv .0) (c .loop-test .left), sites-end _ _ _ _ _ _ _ (c .before .loop .inv .0) (c .loop-test .left))
+returns-3 c =
+    (sites-answer _ _ _ _ _ _ _ (c .before .loop .inv .0) (c .loop-test .left), sites-end _ _ _ _ _ _ _ (c .before .loop .inv .0) (c .loop-test .left))
 
 pub read-sites-spec : {M : Type 1} → statement M
 read-sites-spec =

@@ -22,7 +22,7 @@ enum-known-read-2 c = search needs
 
 combine-cohort-requires : tie.Need-combine-cohort-requires
 unfolding CohortAt
-combine-cohort-requires c κs = let to = rw ((c .before .before .before .before .before .before .before .before .read2 .given .1)) at ((c .before .before .before .before .before .before .before .before .before .before .before .before .before .before .read-cohort .ensures)) in
+combine-cohort-requires c κs = let to = rw ((c .before .before .before .before .before .before .before .before .read2 .given .1)) at ((c .before .before .before .before .before .before .before .before .before .before .before .before .before .before .read-cohort .ensures .1)) in
     (cohort-held _ _ _ _ _ (c .before .before .before .before .before .before .before .before .before .before .before .before .before .before .before .before .before .before .before .before .before .before .before .before .before .before .before .pre .0) (omega (arith, (c .before .before .before .before .before .before .before .before .before .before .before .before .before .before .before .before .before .before .before .before .before .before .before .before .before .before .before .pre .1 .for-names), (c .before .before .before .before .before .before .before .before .before .before .before .before .before .before .read-cohort .kept .1 .0))) (still-whole (c .before .before .before .before .before .before .before .before .before .before .before .before .before .before .before .before .before .before .before .before .before .before .before .before .before .before .before .args .rows .now) (c .before .before .before .before .before .before .before .before .before .before .before .before .before .before .read-cohort .last .1 .1 .0) ((c .before .before .before .before .before .before .before .before .before .before .before .before .before .before .read-cohort .kept .1 .1 .0)) ((c .before .before .before .before .before .before .before .before .before .before .before .before .before .before .before .before .before .before .before .before .before .before .before .before .before .before .before .pre .1 .whole))) to, ((c .before .before .before .before .before .before .before .before .before .before .before .before .before .before .before .before .before .before .before .before .before .before .before .before .before .before .before .pre .1 .for-sites) _ (to .few-sites) (to .room .for-rows)))
 
 same-length : tie.Need-same-length
@@ -33,7 +33,7 @@ same-length-2 c = search needs
 
 returns : tie.Need-returns
 unfolding CohortAt TriedWith
-returns c = (refl, rows-short ((c .before .before .before .before .before .before .before .before .before .before .before .before .before .before .before .before .before .before .before .pre .1 .for-names)) (rw ((c .enum-told .given .1)) at ((c .before .before .before .before .before .before .read-cohort .ensures))))
+returns c = (refl, rows-short ((c .before .before .before .before .before .before .before .before .before .before .before .before .before .before .before .before .before .before .before .pre .1 .for-names)) (rw ((c .enum-told .given .1)) at ((c .before .before .before .before .before .before .read-cohort .ensures .1))))
 
 same-length-3 : tie.Need-same-length-3
 same-length-3 c = search needs
@@ -43,7 +43,7 @@ same-length-4 c = search needs
 
 returns-2 : tie.Need-returns-2
 unfolding CohortAt TriedWith
-returns-2 c = texts-refused (cohort-refused _ _ _ _ _ (c .before .before .before .before .before .before .before .before .before .before .before .before .before .before .before .before .before .before .before .before .pre .0) ((rw ((c .before .read .given .1)) at ((c .before .before .before .before .before .before .before .read-cohort .ensures))) .value)) refl
+returns-2 c = texts-refused (cohort-refused _ _ _ _ _ (c .before .before .before .before .before .before .before .before .before .before .before .before .before .before .before .before .before .before .before .before .pre .0) ((rw ((c .before .read .given .1)) at ((c .before .before .before .before .before .before .before .read-cohort .ensures .1))) .value)) refl
 
 same-length-5 : tie.Need-same-length-5
 same-length-5 c = search needs

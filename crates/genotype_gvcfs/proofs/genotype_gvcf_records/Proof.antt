@@ -5,8 +5,8 @@ use lib.ListN.{length}
 use mathlib.Core.Path.{_∙_, _≡_, refl}
 use native.Mathlib.Omega.{arith}
 use Rattle.genotype_gvcfs.proofs.Walking.{Going, going-end, going-next, going-past, going-refused, going-start, lay-ready}
-use Rattle.list_reader.specs.RecordGroups.{RecordRead}
 use Rattle.genotype_gvcfs.specs.Walk.{WalkReady}
+use Rattle.list_reader.specs.RecordGroups.{RecordRead}
 use Rattle.genotype_gvcfs.proofs.genotype_gvcf_records.Statement.{statement}
 use Rattle.genotype_gvcfs.proofs.genotype_gvcf_records.Tie as tie
 
@@ -28,34 +28,51 @@ enum-known-found : tie.Need-enum-known-found Inv-loop μ-loop
 enum-known-found c = search needs
 
 same-length : tie.Need-same-length Inv-loop μ-loop
-same-length c = (c .before .before .before .before .before .record-at .kept .1 .1 .1 .1 .0) ∙ (c .before .before .before .before .before .before .before .before .loop .inv .0)
+same-length c =
+    let at-record-at = c .before .before .before .before .before in
+    let at-loop = at-record-at .before .before .before in
+    (at-record-at .record-at .kept .1 .1 .1 .1 .0) ∙ (at-loop .loop .inv .0)
 
 same-length-2 : tie.Need-same-length-2 Inv-loop μ-loop
 same-length-2 c = (c .before .before .before .before .before .before .before .before .loop .inv .1)
 
 returns : tie.Need-returns Inv-loop μ-loop
 unfolding RecordRead
-returns c = λ ready. going-refused _ _ _ _ ready ((c .before .before .before .before .before .before .before .before .loop .inv .3) ready) (c .before .before .before .before .before .before .before .loop-test .taken) _ ((rw ((c .before .found .given .1)) at (c .before .before .before .before .before .record-at .ensures)) .value)
+returns c =
+    let at-record-at = c .before .before .before .before .before in
+    let at-loop-test = at-record-at .before .before in
+    let at-loop = at-loop-test .before in
+    λ ready. going-refused _ _ _ _ ready ((at-loop .loop .inv .3) ready) (at-loop-test .loop-test .taken) _
+    ((rw (c .before .found .given .1) at (at-record-at .record-at .ensures)) .value)
 
 enum-known-found-2 : tie.Need-enum-known-found-2 Inv-loop μ-loop
 enum-known-found-2 c = search needs
 
 genotype-one-record-requires : tie.Need-genotype-one-record-requires Inv-loop μ-loop
 unfolding RecordRead
-genotype-one-record-requires c κs = lay-ready _ _ _ _ (c .before .before .before .before .before .before .before .before .before .before .before .before .before .before .pre) ((c .before .before .before .before .before .before .before .before .before .before .loop .inv .3) (c .before .before .before .before .before .before .before .before .before .before .before .before .before .before .pre)) (c .before .before .before .before .before .before .before .before .before .loop-test .taken) (rw ((c .before .before .before .found2 .given .1)) at (c .before .before .before .before .before .before .before .record-at .ensures))
+genotype-one-record-requires c κs =
+    let at-found2 = c .before .before .before in
+    let at-record-at = at-found2 .before .before .before .before in
+    let at-loop-test = at-record-at .before .before in
+    let at-loop = at-loop-test .before in
+    let at-pre = at-loop .before .before .before .before in
+    lay-ready _ _ _ _ (at-pre .pre) ((at-loop .loop .inv .3) (at-pre .pre)) (at-loop-test .loop-test .taken)
+    (rw (at-found2 .found2 .given .1) at (at-record-at .record-at .ensures))
 
 record-end-requires : tie.Need-record-end-requires Inv-loop μ-loop
 record-end-requires c κs = search needs
 
 add-read : tie.Need-add-read Inv-loop μ-loop
-add-read c = omega (arith, (c .before .before .before .before .before .before .before .before .before .before .before .before .before .before .loop-test .taken), (c .before .before .before .before .before .before .before .before .before .before .before .before .before .before .before .before .before .before .before .good .1 .1 .1 .0))
+add-read c = omega (arith, (c .before .before .before .before .before .before .before .before .before .before .before .before .before .before .before .loop-test .taken), (c .before .before .before .before .before .before .before .before .before .before .before .before .before .before .before .before .before .before .before .before .good .1 .1 .1 .0))
 
 loop-less : tie.Need-loop-less Inv-loop μ-loop
 loop-less c = search needs
 
 loop-again : tie.Need-loop-again Inv-loop μ-loop
 unfolding RecordRead
-loop-again c = ((c .before .before .before .before .before .before .before .before .before .before .before .before .record-at .kept .1 .1 .1 .1 .0) ∙ (c .before .before .before .before .before .before .before .before .before .before .before .before .before .before .before .loop .inv .0), (c .before .before .before .before .genotype-one-record .kept .1 .1 .1 .1 .0) ∙ (c .before .before .before .before .before .before .before .before .before .before .before .before .before .before .before .loop .inv .1), omega (arith, (c .before .before .before .before .before .before .before .before .before .before .before .before .before .before .loop-test .taken)), λ ready. going-next _ _ _ _ ready ((c .before .before .before .before .before .before .before .before .before .before .before .before .before .before .before .loop .inv .3) ready) (c .before .before .before .before .before .before .before .before .before .before .before .before .before .before .loop-test .taken) (rw ((c .before .before .before .before .before .before .before .before .found2 .given .1)) at (c .before .before .before .before .before .before .before .before .before .before .before .before .record-at .ensures)) (c .before .record-end .ensures) (c .before .before .before .before .genotype-one-record .ensures))
+loop-again c =
+    let turn = c .before .before .before .before .before .before .before .before .before .before .before .before .before .before .before .before .loop in
+    ((c .before .before .before .before .before .before .before .before .before .before .before .before .before .record-at .kept .1 .1 .1 .1 .0) ∙ (turn .inv .0), (c .before .before .before .before .before .genotype-one-record .kept .1 .1 .1 .1 .0) ∙ (turn .inv .1), omega (arith, (c .before .before .before .before .before .before .before .before .before .before .before .before .before .before .before .loop-test .taken)), λ ready. going-next _ _ _ _ ready ((turn .inv .3) ready) (c .before .before .before .before .before .before .before .before .before .before .before .before .before .before .before .loop-test .taken) (rw (c .before .before .before .before .before .before .before .before .before .found2 .given .1) at (c .before .before .before .before .before .before .before .before .before .before .before .before .before .record-at .ensures)) (c .before .record-end .ensures) (c .before .before .before .before .before .genotype-one-record .ensures))
 
 same-length-3 : tie.Need-same-length-3 Inv-loop μ-loop
 same-length-3 c = (c .before .before .loop .inv .0)
@@ -73,7 +90,9 @@ same-length-6 : tie.Need-same-length-6 Inv-loop μ-loop
 same-length-6 c = (c .before .before .loop .inv .1)
 
 returns-3 : tie.Need-returns-3 Inv-loop μ-loop
-returns-3 c = λ ready. going-end _ _ _ _ ready ((c .before .before .loop .inv .3) ready) (c .before .loop-test .left) (c .before .before .loop .inv .2) (c .if1 .left)
+returns-3 c =
+    let at-loop = c .before .before in
+    λ ready. going-end _ _ _ _ ready ((at-loop .loop .inv .3) ready) (c .before .loop-test .left) (at-loop .loop .inv .2) (c .if1 .left)
 
 pub genotype-gvcf-records-spec : {M : Type 1} → statement M
 genotype-gvcf-records-spec =

@@ -22,7 +22,12 @@ part-requires-3 : tie.Need-part-requires-3
 part-requires-3 c κs = search needs
 
 put-called-record-requires : tie.Need-put-called-record-requires
-put-called-record-requires c κs = rw ((c .before .before .before .part .ensures), (c .before .before .part2 .ensures), (c .before .part3 .ensures)) (record-fits (c .before .before .before .before .before .before .before .before .before .pre))
+put-called-record-requires c κs =
+    let at-part3 = c .before .before in
+    let at-part2 = at-part3 .before in
+    let at-part = at-part2 .before in
+    let at-pre = at-part .before .before .before .before .before .before in
+    rw ((at-part .part .ensures), (at-part2 .part2 .ensures), (at-part3 .part3 .ensures)) (record-fits (at-pre .pre))
 
 cap-requires : tie.Need-cap-requires
 cap-requires c κs = search needs
@@ -34,7 +39,15 @@ same-length : tie.Need-same-length
 same-length c = search needs
 
 returns-2 : tie.Need-returns-2
-returns-2 c = λ ready. rw ((c .before .cap .ensures), (c .count-more .ensures)) (laid-one ready (by-numbers ready ∙ sym (c .before .before .before .before .before .before .before .before .before .before .is-called .ensures) ∙ not-false _ (c .before .before .before .before .before .before .before .before .before .if1 .left)) (rw ((c .before .before .before .before .before .before .before .before .part .ensures), (c .before .before .before .before .before .before .before .part2 .ensures), (c .before .before .before .before .before .before .part3 .ensures)) at (c .before .before .before .before .put-called-record .ensures)))
+returns-2 c =
+    let at-put-called-record = c .before .before .before .before in
+    let at-part3 = at-put-called-record .before .before .before in
+    let at-part2 = at-part3 .before in
+    let at-part = at-part2 .before in
+    let at-if1 = at-part .before in
+    let at-is-called = at-if1 .before in
+    λ ready. rw ((c .before .cap .ensures), (c .count-more .ensures))
+    (laid-one ready (by-numbers ready ∙ sym (at-is-called .is-called .ensures) ∙ not-false _ (at-if1 .if1 .left)) (rw ((at-part .part .ensures), (at-part2 .part2 .ensures), (at-part3 .part3 .ensures)) at (at-put-called-record .put-called-record .ensures)))
 
 pub genotype-one-record-spec : {M : Type 1} → statement M
 genotype-one-record-spec =

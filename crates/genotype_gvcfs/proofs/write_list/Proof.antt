@@ -12,7 +12,10 @@ put-header-requires : tie.Need-put-header-requires
 put-header-requires c κs = (c .before .before .before .before .before .pre .0 .header)
 
 genotype-gvcf-records-requires : tie.Need-genotype-gvcf-records-requires
-genotype-gvcf-records-requires c κs = writing ((c .before .before .before .before .before .before .before .before .before .before .pre .0)) _ ((c .before .before .before .before .before .before .before .before .before .before .pre .1)) (c .before .before .before .before .put-header .ensures)
+genotype-gvcf-records-requires c κs =
+    let at-put-header = c .before .before .before .before in
+    let at-pre = at-put-header .before .before .before .before .before .before in
+    writing ((at-pre .pre .0)) _ ((at-pre .pre .1)) (at-put-header .put-header .ensures)
 
 same-length : tie.Need-same-length
 same-length c = search needs
@@ -21,7 +24,11 @@ same-length-2 : tie.Need-same-length-2
 same-length-2 c = search needs
 
 returns : tie.Need-returns
-returns c = λ m exact. list-written m _ ((c .before .before .before .before .before .before .before .before .before .before .before .before .before .before .before .pre .1)) (c .before .before .before .before .before .before .before .before .before .put-header .ensures) _ (c .before .before .before .before .genotype-gvcf-records .ensures) exact
+returns c =
+    let at-genotype-gvcf-records = c .before .before .before .before in
+    let at-put-header = at-genotype-gvcf-records .before .before .before .before .before in
+    let at-pre = at-put-header .before .before .before .before .before .before in
+    λ m exact. list-written m _ ((at-pre .pre .1)) (at-put-header .put-header .ensures) _ (at-genotype-gvcf-records .genotype-gvcf-records .ensures) exact
 
 pub write-list-spec : {M : Type 1} → statement M
 write-list-spec =

@@ -12,13 +12,17 @@ get-requires : tie.Need-get-requires
 get-requires c κs = search needs
 
 returns : tie.Need-returns
-returns c = position-0 _ (c .before .before .before .before .args .head) (c .before .before .before .before .args .previous) (c .before .before .before .before .args .fit) (omega arith)
+returns c =
+    let args = c .before .before .before .before .args in
+    position-0 _ (args .head) (args .previous) (args .fit) (omega arith)
 
 end-past-requires : tie.Need-end-past-requires
 end-past-requires c κs = search needs
 
 returns-2 : tie.Need-returns-2
-returns-2 c = end-not-past _ (c .before .before .before .before .before .before .args .head) (c .before .before .before .before .before .before .args .previous) (c .before .before .before .before .before .before .args .fit) (omega arith) (sym (c .before .end-past .ensures) ∙ not-true _ (c .if2 .taken))
+returns-2 c =
+    let args = c .before .before .before .before .before .before .args in
+    end-not-past _ (args .head) (args .previous) (args .fit) (omega arith) (sym (c .before .end-past .ensures) ∙ not-true _ (c .if2 .taken))
 
 part-requires : tie.Need-part-requires
 part-requires c κs = search needs
@@ -27,7 +31,11 @@ comes-after-requires : tie.Need-comes-after-requires
 comes-after-requires c κs = search needs
 
 returns-3 : tie.Need-returns-3
-returns-3 c = too-early _ (c .before .before .before .before .before .before .before .before .before .args .head) (c .before .before .before .before .before .before .before .before .before .args .previous) (c .before .before .before .before .before .before .before .before .before .args .fit) (omega arith) (sym (c .before .before .before .before .end-past .ensures) ∙ not-false _ (c .before .before .before .if2 .left)) (rw (c .before .before .part .ensures) at (sym (c .before .comes-after .ensures) ∙ not-true _ (c .if3 .taken)))
+returns-3 c =
+    let args = c .before .before .before .before .before .before .before .before .before .args in
+    too-early _ (args .head) (args .previous) (args .fit) (omega arith)
+    (sym (c .before .before .before .before .end-past .ensures) ∙ not-false _ (c .before .before .before .if2 .left))
+    (rw (c .before .before .part .ensures) at (sym (c .before .comes-after .ensures) ∙ not-true _ (c .if3 .taken)))
 
 part-requires-2 : tie.Need-part-requires-2
 part-requires-2 c κs = search needs
@@ -46,13 +54,19 @@ enum-told c = search needs
 
 returns-4 : tie.Need-returns-4
 unfolding AllelesFound
-returns-4 c = allele-faulty _ (c .before .before .before .before .before .before .before .before .before .before .before .before .before .before .args .head) (c .before .before .before .before .before .before .before .before .before .before .before .before .before .before .args .previous) (c .before .before .before .before .before .before .before .before .before .before .before .before .before .before .args .fit) (omega arith) (sym (c .before .before .before .before .before .before .before .before .before .end-past .ensures) ∙ not-false _ (c .before .before .before .before .before .before .before .before .if2 .left)) (rw (c .before .before .before .before .before .before .before .part .ensures) at (sym (c .before .before .before .before .before .before .comes-after .ensures) ∙ not-false _ (c .before .before .before .before .before .if3 .left)))
+returns-4 c =
+    let args = c .before .before .before .before .before .before .before .before .before .before .before .before .before .before .args in
+    allele-faulty _ (args .head) (args .previous) (args .fit) (omega arith)
+    (sym (c .before .before .before .before .before .before .before .before .before .end-past .ensures) ∙ not-false _ (c .before .before .before .before .before .before .before .before .if2 .left)) (rw (c .before .before .before .before .before .before .before .part .ensures) at (sym (c .before .before .before .before .before .before .comes-after .ensures) ∙ not-false _ (c .before .before .before .before .before .if3 .left)))
     (rw ((c .before .before .before .before .part2 .ensures), (c .before .before .before .part3 .ensures), (c .enum-told .given .1)) at (c .before .before .check-alleles .ensures))
 
 returns-5 : tie.Need-returns-5
 unfolding AllelesFound
-returns-5 c = let r = rw ((c .before .before .before .before .before .before .part2 .ensures), (c .before .before .before .before .before .part3 .ensures), (c .before .before .read .given .1)) at (c .before .before .before .before .check-alleles .ensures) in
-    no-non-ref _ (c .before .before .before .before .before .before .before .before .before .before .before .before .before .before .before .before .args .head) (c .before .before .before .before .before .before .before .before .before .before .before .before .before .before .before .before .args .previous) (c .before .before .before .before .before .before .before .before .before .before .before .before .before .before .before .before .args .fit) (omega arith) (sym (c .before .before .before .before .before .before .before .before .before .before .before .end-past .ensures) ∙ not-false _ (c .before .before .before .before .before .before .before .before .before .before .if2 .left)) (rw (c .before .before .before .before .before .before .before .before .before .part .ensures) at (sym (c .before .before .before .before .before .before .before .before .comes-after .ensures) ∙ not-false _ (c .before .before .before .before .before .before .before .if3 .left)))
+returns-5 c =
+    let args = c .before .before .before .before .before .before .before .before .before .before .before .before .before .before .before .before .args in
+    let r = rw ((c .before .before .before .before .before .before .part2 .ensures), (c .before .before .before .before .before .part3 .ensures), (c .before .before .read .given .1)) at (c .before .before .before .before .check-alleles .ensures) in
+    no-non-ref _ (args .head) (args .previous) (args .fit) (omega arith)
+    (sym (c .before .before .before .before .before .before .before .before .before .before .before .end-past .ensures) ∙ not-false _ (c .before .before .before .before .before .before .before .before .before .before .if2 .left)) (rw (c .before .before .before .before .before .before .before .before .before .part .ensures) at (sym (c .before .before .before .before .before .before .before .before .comes-after .ensures) ∙ not-false _ (c .before .before .before .before .before .before .before .if3 .left)))
     _ _ r (not-true _ (c .if4 .taken))
 
 end-allowed-requires : tie.Need-end-allowed-requires
@@ -60,21 +74,32 @@ end-allowed-requires c κs = search needs
 
 returns-6 : tie.Need-returns-6
 unfolding AllelesFound
-returns-6 c = let r = rw ((c .before .before .before .before .before .before .before .before .part2 .ensures), (c .before .before .before .before .before .before .before .part3 .ensures), (c .before .before .before .before .read .given .1)) at (c .before .before .before .before .before .before .check-alleles .ensures) in
-    end-wrong _ (c .before .before .before .before .before .before .before .before .before .before .before .before .before .before .before .before .before .before .args .head) (c .before .before .before .before .before .before .before .before .before .before .before .before .before .before .before .before .before .before .args .previous) (c .before .before .before .before .before .before .before .before .before .before .before .before .before .before .before .before .before .before .args .fit) (omega arith) (sym (c .before .before .before .before .before .before .before .before .before .before .before .before .before .end-past .ensures) ∙ not-false _ (c .before .before .before .before .before .before .before .before .before .before .before .before .if2 .left)) (rw (c .before .before .before .before .before .before .before .before .before .before .before .part .ensures) at (sym (c .before .before .before .before .before .before .before .before .before .before .comes-after .ensures) ∙ not-false _ (c .before .before .before .before .before .before .before .before .before .if3 .left)))
+returns-6 c =
+    let args = c .before .before .before .before .before .before .before .before .before .before .before .before .before .before .before .before .before .before .args in
+    let r = rw ((c .before .before .before .before .before .before .before .before .part2 .ensures), (c .before .before .before .before .before .before .before .part3 .ensures), (c .before .before .before .before .read .given .1)) at (c .before .before .before .before .before .before .check-alleles .ensures) in
+    end-wrong _ (args .head) (args .previous) (args .fit) (omega arith)
+    (sym (c .before .before .before .before .before .before .before .before .before .before .before .before .before .end-past .ensures) ∙ not-false _ (c .before .before .before .before .before .before .before .before .before .before .before .before .if2 .left)) (rw (c .before .before .before .before .before .before .before .before .before .before .before .part .ensures) at (sym (c .before .before .before .before .before .before .before .before .before .before .comes-after .ensures) ∙ not-false _ (c .before .before .before .before .before .before .before .before .before .if3 .left)))
     _ _ r (not-false _ (c .before .before .if4 .left)) (rw (c .before .before .before .before .before .before .before .before .part2 .ensures) at (sym (c .before .end-allowed .ensures) ∙ not-true _ (c .if5 .taken)))
 
 returns-7 : tie.Need-returns-7
 unfolding AllelesFound
-returns-7 c = let r = rw ((c .before .before .before .before .before .before .before .before .before .part2 .ensures), (c .before .before .before .before .before .before .before .before .part3 .ensures), (c .before .before .before .before .before .read .given .1)) at (c .before .before .before .before .before .before .before .check-alleles .ensures) in
-    counts-wrong _ (c .before .before .before .before .before .before .before .before .before .before .before .before .before .before .before .before .before .before .before .args .head) (c .before .before .before .before .before .before .before .before .before .before .before .before .before .before .before .before .before .before .before .args .previous) (c .before .before .before .before .before .before .before .before .before .before .before .before .before .before .before .before .before .before .before .args .fit) (omega arith) (sym (c .before .before .before .before .before .before .before .before .before .before .before .before .before .before .end-past .ensures) ∙ not-false _ (c .before .before .before .before .before .before .before .before .before .before .before .before .before .if2 .left)) (rw (c .before .before .before .before .before .before .before .before .before .before .before .before .part .ensures) at (sym (c .before .before .before .before .before .before .before .before .before .before .before .comes-after .ensures) ∙ not-false _ (c .before .before .before .before .before .before .before .before .before .before .if3 .left)))
-    _ _ r (not-false _ (c .before .before .before .if4 .left)) (rw (c .before .before .before .before .before .before .before .before .before .part2 .ensures) at (sym (c .before .before .end-allowed .ensures) ∙ not-false _ (c .before .if5 .left))) (not-true _ (c .if6 .taken))
+returns-7 c =
+    let args = c .before .before .before .before .before .before .before .before .before .before .before .before .before .before .before .before .before .before .before .args in
+    let r = rw ((c .before .before .before .before .before .before .before .before .before .part2 .ensures), (c .before .before .before .before .before .before .before .before .part3 .ensures), (c .before .before .before .before .before .read .given .1)) at (c .before .before .before .before .before .before .before .check-alleles .ensures) in
+    counts-wrong _ (args .head) (args .previous) (args .fit) (omega arith)
+    (sym (c .before .before .before .before .before .before .before .before .before .before .before .before .before .before .end-past .ensures) ∙ not-false _ (c .before .before .before .before .before .before .before .before .before .before .before .before .before .if2 .left)) (rw (c .before .before .before .before .before .before .before .before .before .before .before .before .part .ensures) at (sym (c .before .before .before .before .before .before .before .before .before .before .before .comes-after .ensures) ∙ not-false _ (c .before .before .before .before .before .before .before .before .before .before .if3 .left)))
+    _ _ r (not-false _ (c .before .before .before .if4 .left))
+    (rw (c .before .before .before .before .before .before .before .before .before .part2 .ensures) at (sym (c .before .before .end-allowed .ensures) ∙ not-false _ (c .before .if5 .left))) (not-true _ (c .if6 .taken))
 
 returns-8 : tie.Need-returns-8
 unfolding AllelesFound
-returns-8 c = let r = rw ((c .before .before .before .before .before .before .before .before .before .part2 .ensures), (c .before .before .before .before .before .before .before .before .part3 .ensures), (c .before .before .before .before .before .read .given .1)) at (c .before .before .before .before .before .before .before .check-alleles .ensures) in
-    record-right _ (c .before .before .before .before .before .before .before .before .before .before .before .before .before .before .before .before .before .before .before .args .head) (c .before .before .before .before .before .before .before .before .before .before .before .before .before .before .before .before .before .before .before .args .previous) (c .before .before .before .before .before .before .before .before .before .before .before .before .before .before .before .before .before .before .before .args .fit) (omega arith) (sym (c .before .before .before .before .before .before .before .before .before .before .before .before .before .before .end-past .ensures) ∙ not-false _ (c .before .before .before .before .before .before .before .before .before .before .before .before .before .if2 .left)) (rw (c .before .before .before .before .before .before .before .before .before .before .before .before .part .ensures) at (sym (c .before .before .before .before .before .before .before .before .before .before .before .comes-after .ensures) ∙ not-false _ (c .before .before .before .before .before .before .before .before .before .before .if3 .left)))
-    _ _ r (not-false _ (c .before .before .before .if4 .left)) (rw (c .before .before .before .before .before .before .before .before .before .part2 .ensures) at (sym (c .before .before .end-allowed .ensures) ∙ not-false _ (c .before .if5 .left))) (not-false _ (c .if6 .left))
+returns-8 c =
+    let args = c .before .before .before .before .before .before .before .before .before .before .before .before .before .before .before .before .before .before .before .args in
+    let r = rw ((c .before .before .before .before .before .before .before .before .before .part2 .ensures), (c .before .before .before .before .before .before .before .before .part3 .ensures), (c .before .before .before .before .before .read .given .1)) at (c .before .before .before .before .before .before .before .check-alleles .ensures) in
+    record-right _ (args .head) (args .previous) (args .fit) (omega arith)
+    (sym (c .before .before .before .before .before .before .before .before .before .before .before .before .before .before .end-past .ensures) ∙ not-false _ (c .before .before .before .before .before .before .before .before .before .before .before .before .before .if2 .left)) (rw (c .before .before .before .before .before .before .before .before .before .before .before .before .part .ensures) at (sym (c .before .before .before .before .before .before .before .before .before .before .before .comes-after .ensures) ∙ not-false _ (c .before .before .before .before .before .before .before .before .before .before .if3 .left)))
+    _ _ r (not-false _ (c .before .before .before .if4 .left))
+    (rw (c .before .before .before .before .before .before .before .before .before .part2 .ensures) at (sym (c .before .before .end-allowed .ensures) ∙ not-false _ (c .before .if5 .left))) (not-false _ (c .if6 .left))
 
 pub check-record-spec : {M : Type 1} → statement M
 check-record-spec =

@@ -36,15 +36,28 @@ enum-told-4 c = search needs
 
 returns-2 : tie.Need-returns-2
 unfolding byOrder
-returns-2 c = rw ((c .before .before .before .before .before .previous .given .1), ← (c .before .before .before .part .ensures), ← (c .before .before .compare-bytes .ensures), (c .enum-told2 .given .1))
+returns-2 c =
+    let at-compare-bytes = c .before .before in
+    let at-part = at-compare-bytes .before in
+    let at-previous = at-part .before .before in
+    rw ((at-previous .previous .given .1), ← (at-part .part .ensures), ← (at-compare-bytes .compare-bytes .ensures), (c .enum-told2 .given .1))
 
 returns-3 : tie.Need-returns-3
 unfolding byOrder
-returns-3 c = rw ((c .before .before .before .before .before .before .before .previous .given .1), ← (c .before .before .before .before .before .part .ensures), ← (c .before .before .before .before .compare-bytes .ensures), (c .before .before .enum-told3 .given .1), (c .before .get .ensures), (c .get2 .ensures))
+returns-3 c =
+    let at-enum-told3 = c .before .before in
+    let at-compare-bytes = at-enum-told3 .before .before in
+    let at-part = at-compare-bytes .before in
+    let at-previous = at-part .before .before in
+    rw ((at-previous .previous .given .1), ← (at-part .part .ensures), ← (at-compare-bytes .compare-bytes .ensures), (at-enum-told3 .enum-told3 .given .1), (c .before .get .ensures), (c .get2 .ensures))
 
 returns-4 : tie.Need-returns-4
 unfolding byOrder
-returns-4 c = rw ((c .before .before .before .before .before .previous .given .1), ← (c .before .before .before .part .ensures), ← (c .before .before .compare-bytes .ensures), (c .enum-told4 .given .1))
+returns-4 c =
+    let at-compare-bytes = c .before .before in
+    let at-part = at-compare-bytes .before in
+    let at-previous = at-part .before .before in
+    rw ((at-previous .previous .given .1), ← (at-part .part .ensures), ← (at-compare-bytes .compare-bytes .ensures), (c .enum-told4 .given .1))
 
 pub comes-after-spec : {M : Type 1} → statement M
 comes-after-spec =

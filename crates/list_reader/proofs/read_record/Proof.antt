@@ -35,16 +35,24 @@ same-length-2 c = search needs
 
 returns-2 : tie.Need-returns-2
 unfolding TextRead
-returns-2 c = let t = rw (c .before .before .before .before .before .before .before .before .text .given .1) at (c .before .before .before .before .before .before .before .before .before .before .before .before .record-text .ensures) in
-    record-refused t _ _ (rw (c .before .check .given .1) at (c .before .before .before .before .before .before .check-record .ensures))
+returns-2 c =
+    let at-check-record = c .before .before .before .before .before .before in
+    let at-text = at-check-record .before .before in
+    let at-record-text = at-text .before .before .before .before in
+    let t = rw (at-text .text .given .1) at (at-record-text .record-text .ensures) in
+    record-refused t _ _ (rw (c .before .check .given .1) at (at-check-record .check-record .ensures))
 
 same-length-3 : tie.Need-same-length-3
 same-length-3 c = search needs
 
 returns-3 : tie.Need-returns-3
 unfolding TextRead
-returns-3 c = let t = rw (c .before .before .before .before .before .before .before .before .text .given .1) at (c .before .before .before .before .before .before .before .before .before .before .before .before .record-text .ensures) in
-    record-found t _ _ (rw (c .before .check2 .given .1) at (c .before .before .before .before .before .before .check-record .ensures))
+returns-3 c =
+    let at-check-record = c .before .before .before .before .before .before in
+    let at-text = at-check-record .before .before in
+    let at-record-text = at-text .before .before .before .before in
+    let t = rw (at-text .text .given .1) at (at-record-text .record-text .ensures) in
+    record-found t _ _ (rw (c .before .check2 .given .1) at (at-check-record .check-record .ensures))
 
 pub read-record-spec : {M : Type 1} → statement M
 read-record-spec =

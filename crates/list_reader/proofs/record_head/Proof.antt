@@ -43,7 +43,12 @@ enum-told-2 c = search needs
 
 returns-2 : tie.Need-returns-2
 unfolding keyOf text
-returns-2 c = pos-wrong _ _ _ _ ((rw (c .before .before .before .before .before .name .given .1) at (c .before .before .before .before .before .before .before .name-line .ensures)) .0) (rw (c .enum-told2 .given .1) at (c .before .before .number-line .ensures))
+returns-2 c =
+    let at-number-line = c .before .before in
+    let at-name = at-number-line .before .before .before in
+    let at-name-line = at-name .before .before in
+    pos-wrong _ _ _ _ ((rw (at-name .name .given .1) at (at-name-line .name-line .ensures)) .0)
+    (rw (c .enum-told2 .given .1) at (at-number-line .number-line .ensures))
 
 add-end-line : tie.Need-add-end-line
 add-end-line c = let h = line-within _ _ _ number _ _ (rw (c .before .first .given .1) at (c .before .before .before .number-line .ensures)) in omega arith
@@ -59,7 +64,14 @@ enum-told-3 c = search needs
 
 returns-3 : tie.Need-returns-3
 unfolding keyOf text
-returns-3 c = end-wrong _ _ _ _ ((rw (c .before .before .before .before .before .before .before .before .before .name .given .1) at (c .before .before .before .before .before .before .before .before .before .before .before .name-line .ensures)) .0) _ _ (rw (c .before .before .before .before .first .given .1) at (c .before .before .before .before .before .before .number-line .ensures)) (rw (c .enum-told3 .given .1) at (c .before .before .end-line .ensures))
+returns-3 c =
+    let at-end-line = c .before .before in
+    let at-first = at-end-line .before .before in
+    let at-number-line = at-first .before .before in
+    let at-name = at-number-line .before .before .before in
+    let at-name-line = at-name .before .before in
+    end-wrong _ _ _ _ ((rw (at-name .name .given .1) at (at-name-line .name-line .ensures)) .0) _ _
+    (rw (at-first .first .given .1) at (at-number-line .number-line .ensures)) (rw (c .enum-told3 .given .1) at (at-end-line .end-line .ensures))
 
 add-value-line : tie.Need-add-value-line
 add-value-line c = let h = line-within _ _ _ (orMissing number) _ _ (rw (c .before .last .given .1) at (c .before .before .before .end-line .ensures)) in omega arith
@@ -78,8 +90,18 @@ enum-told-4 c = search needs
 
 returns-4 : tie.Need-returns-4
 unfolding keyOf text
-returns-4 c = ref-wrong _ _ _ _ ((rw (c .before .before .before .before .before .before .before .before .before .before .before .before .before .before .name .given .1) at (c .before .before .before .before .before .before .before .before .before .before .before .before .before .before .before .before .name-line .ensures)) .0) _ _ (rw (c .before .before .before .before .before .before .before .before .before .first .given .1) at (c .before .before .before .before .before .before .before .before .before .before .before .number-line .ensures)) (c .before .before .before .before .before .last .given .0 .0) _ (rw (c .before .before .before .before .before .last .given .1) at (c .before .before .before .before .before .before .before .end-line .ensures))
-    ((rw (c .enum-told4 .given .1) at (c .before .before .value-line .ensures)) .0)
+returns-4 c =
+    let at-value-line = c .before .before in
+    let at-last = at-value-line .before .before .before in
+    let at-end-line = at-last .before .before in
+    let at-first = at-end-line .before .before in
+    let at-number-line = at-first .before .before in
+    let at-name = at-number-line .before .before .before in
+    let at-name-line = at-name .before .before in
+    ref-wrong _ _ _ _ ((rw (at-name .name .given .1) at (at-name-line .name-line .ensures)) .0) _ _
+    (rw (at-first .first .given .1) at (at-number-line .number-line .ensures)) (at-last .last .given .0 .0) _
+    (rw (at-last .last .given .1) at (at-end-line .end-line .ensures))
+    ((rw (c .enum-told4 .given .1) at (at-value-line .value-line .ensures)) .0)
 
 add-value-line-2 : tie.Need-add-value-line-2
 add-value-line-2 c = let h = line-within _ _ _ some _ _ ((rw (c .before .reference .given .1) at (c .before .before .before .value-line .ensures)) .0) in omega arith
@@ -98,8 +120,21 @@ enum-told-5 c = search needs
 
 returns-5 : tie.Need-returns-5
 unfolding keyOf text
-returns-5 c = alt-wrong _ _ _ _ ((rw (c .before .before .before .before .before .before .before .before .before .before .before .before .before .before .before .before .before .before .before .name .given .1) at (c .before .before .before .before .before .before .before .before .before .before .before .before .before .before .before .before .before .before .before .before .before .name-line .ensures)) .0) _ _ (rw (c .before .before .before .before .before .before .before .before .before .before .before .before .before .before .first .given .1) at (c .before .before .before .before .before .before .before .before .before .before .before .before .before .before .before .before .number-line .ensures)) (c .before .before .before .before .before .before .before .before .before .before .last .given .0 .0) _ (rw (c .before .before .before .before .before .before .before .before .before .before .last .given .1) at (c .before .before .before .before .before .before .before .before .before .before .before .before .end-line .ensures))
-    _ _ ((rw (c .before .before .before .before .before .reference .given .1) at (c .before .before .before .before .before .before .before .value-line .ensures)) .0) ((rw (c .enum-told5 .given .1) at (c .before .before .value-line2 .ensures)) .0)
+returns-5 c =
+    let at-value-line2 = c .before .before in
+    let at-reference = at-value-line2 .before .before .before in
+    let at-value-line = at-reference .before .before in
+    let at-last = at-value-line .before .before .before in
+    let at-end-line = at-last .before .before in
+    let at-first = at-end-line .before .before in
+    let at-number-line = at-first .before .before in
+    let at-name = at-number-line .before .before .before in
+    let at-name-line = at-name .before .before in
+    alt-wrong _ _ _ _ ((rw (at-name .name .given .1) at (at-name-line .name-line .ensures)) .0) _ _
+    (rw (at-first .first .given .1) at (at-number-line .number-line .ensures)) (at-last .last .given .0 .0) _
+    (rw (at-last .last .given .1) at (at-end-line .end-line .ensures))
+    _ _ ((rw (at-reference .reference .given .1) at (at-value-line .value-line .ensures)) .0)
+    ((rw (c .enum-told5 .given .1) at (at-value-line2 .value-line2 .ensures)) .0)
 
 add-next : tie.Need-add-next
 add-next c = let h = line-within _ _ _ some _ _ ((rw (c .before .alternate .given .1) at (c .before .before .before .value-line2 .ensures)) .0) in omega (arith, h, (c .before .before .before .before .before .before .before .before .before .before .before .before .before .before .before .before .before .before .before .before .before .before .before .before .before .good))
@@ -112,8 +147,22 @@ new-1based-requires c κs = search needs
 
 returns-6 : tie.Need-returns-6
 unfolding keyOf text
-returns-6 c = head-read _ _ _ _ ((rw (c .before .before .before .before .before .before .before .before .before .before .before .before .before .before .before .before .before .before .before .before .before .name .given .1) at (c .before .before .before .before .before .before .before .before .before .before .before .before .before .before .before .before .before .before .before .before .before .before .before .name-line .ensures)) .0) _ _ (rw (c .before .before .before .before .before .before .before .before .before .before .before .before .before .before .before .before .first .given .1) at (c .before .before .before .before .before .before .before .before .before .before .before .before .before .before .before .before .before .before .number-line .ensures)) (c .before .before .before .before .before .before .before .before .before .before .before .before .last .given .0 .0) _ (rw (c .before .before .before .before .before .before .before .before .before .before .before .before .last .given .1) at (c .before .before .before .before .before .before .before .before .before .before .before .before .before .before .end-line .ensures))
-    _ _ ((rw (c .before .before .before .before .before .before .before .reference .given .1) at (c .before .before .before .before .before .before .before .before .before .value-line .ensures)) .0) _ _ ((rw (c .before .before .alternate .given .1) at (c .before .before .before .before .value-line2 .ensures)) .0) (c .new-1based .ensures)
+returns-6 c =
+    let at-alternate = c .before .before in
+    let at-value-line2 = at-alternate .before .before in
+    let at-reference = at-value-line2 .before .before .before in
+    let at-value-line = at-reference .before .before in
+    let at-last = at-value-line .before .before .before in
+    let at-end-line = at-last .before .before in
+    let at-first = at-end-line .before .before in
+    let at-number-line = at-first .before .before in
+    let at-name = at-number-line .before .before .before in
+    let at-name-line = at-name .before .before in
+    head-read _ _ _ _ ((rw (at-name .name .given .1) at (at-name-line .name-line .ensures)) .0) _ _
+    (rw (at-first .first .given .1) at (at-number-line .number-line .ensures)) (at-last .last .given .0 .0) _
+    (rw (at-last .last .given .1) at (at-end-line .end-line .ensures))
+    _ _ ((rw (at-reference .reference .given .1) at (at-value-line .value-line .ensures)) .0) _ _
+    ((rw (at-alternate .alternate .given .1) at (at-value-line2 .value-line2 .ensures)) .0) (c .new-1based .ensures)
 
 pub record-head-spec : {M : Type 1} → statement M
 record-head-spec =

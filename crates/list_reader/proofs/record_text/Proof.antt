@@ -38,7 +38,10 @@ new-requires c κs = search needs
 
 loop-holds : tie.Need-loop-holds Inv-loop μ-loop
 unfolding HeadRead
-loop-holds c = reading-start _ _ _ _ _ (rw (c .before .before .before .before .before .before .before .first .given .1) at (c .before .before .before .before .before .before .before .before .before .record-head .ensures))
+loop-holds c =
+    let at-first = c .before .before .before .before .before .before .before in
+    let at-record-head = at-first .before .before in
+    reading-start _ _ _ _ _ (rw (at-first .first .given .1) at (at-record-head .record-head .ensures))
 
 sample-lines-requires : tie.Need-sample-lines-requires Inv-loop μ-loop
 sample-lines-requires c κs = search needs
@@ -54,8 +57,17 @@ same-length c = (c .before .before .before .before .loop .inv .long)
 
 returns-2 : tie.Need-returns-2 Inv-loop μ-loop
 unfolding HeadRead TextRead comma
-returns-2 c = sample-wrong _ _ _ _ _ _ _ _ _ _ (c .before .before .before .before .loop .inv) (c .before .before .before .loop-test .taken) _ (rw (c .before .before .before .before .before .before .before .before .part .ensures) at (c .before .before .before .before .before .before .before .count-fields .ensures))
-    (rw (c .before .before .before .before .before .before .before .before .before .before .before .before .first .given .1) at (c .before .before .before .before .before .before .before .before .before .before .before .before .before .before .record-head .ensures)) (rw (c .enum-told2 .given .1) at (c .before .before .sample-lines .ensures))
+returns-2 c =
+    let at-sample-lines = c .before .before in
+    let at-loop-test = at-sample-lines .before in
+    let at-loop = at-loop-test .before in
+    let at-count-fields = at-loop .before .before .before in
+    let at-part = at-count-fields .before in
+    let at-first = at-part .before .before .before .before in
+    let at-record-head = at-first .before .before in
+    sample-wrong _ _ _ _ _ _ _ _ _ _ (at-loop .loop .inv) (at-loop-test .loop-test .taken) _
+    (rw (at-part .part .ensures) at (at-count-fields .count-fields .ensures))
+    (rw (at-first .first .given .1) at (at-record-head .record-head .ensures)) (rw (c .enum-told2 .given .1) at (at-sample-lines .sample-lines .ensures))
 
 put-site-requires : tie.Need-put-site-requires Inv-loop μ-loop
 put-site-requires c κs = omega (arith, (c .before .before .before .before .before .before .before .before .before .before .before .before .before .before .before .before .before .before .before .pre), (c .before .before .before .before .before .before .loop .inv .long), (c .before .before .before .before .before .loop-test .taken))
@@ -74,15 +86,30 @@ loop-less c = search needs
 
 loop-again : tie.Need-loop-again Inv-loop μ-loop
 unfolding SampleRead comma
-loop-again c = sample-next _ _ _ _ _ _ _ _ _ _ (c .before .before .before .before .before .before .before .before .before .before .before .loop .inv) (c .before .before .before .before .before .before .before .before .before .before .loop-test .taken) _ (rw (c .before .before .before .before .before .before .before .before .before .before .before .before .before .before .before .part .ensures) at (c .before .before .before .before .before .before .before .before .before .before .before .before .before .before .count-fields .ensures))
-    _ (rw (c .before .before .before .before .before .before .before .lines .given .1) at (c .before .before .before .before .before .before .before .before .before .sample-lines .ensures)) (c .before .before .before .before .before .before .before .before .before .before .before .before .before .before .before .before .before .before .before .before .before .before .before .before .pre) (record { sample = _; contig = _; start = _; end = _; next = 0 }) _ (c .before .before .before .before .put-site .kept .0) (c .before .before .before .before .put-site .ensures) _ _ (c .before .some-pl .ensures) (c .counts-fit .ensures)
+loop-again c =
+    let at-put-site = c .before .before .before .before in
+    let at-lines = at-put-site .before .before .before in
+    let at-sample-lines = at-lines .before .before in
+    let at-loop-test = at-sample-lines .before in
+    let at-loop = at-loop-test .before in
+    let at-count-fields = at-loop .before .before .before in
+    let at-part = at-count-fields .before in
+    let at-pre = at-part .before .before .before .before .before .before .before .before .before in
+    sample-next _ _ _ _ _ _ _ _ _ _ (at-loop .loop .inv) (at-loop-test .loop-test .taken) _
+    (rw (at-part .part .ensures) at (at-count-fields .count-fields .ensures))
+    _ (rw (at-lines .lines .given .1) at (at-sample-lines .sample-lines .ensures)) (at-pre .pre)
+    (record { sample = _; contig = _; start = _; end = _; next = 0 }) _ (at-put-site .put-site .kept .0) (at-put-site .put-site .ensures) _ _
+    (c .before .some-pl .ensures) (c .counts-fit .ensures)
 
 same-length-2 : tie.Need-same-length-2 Inv-loop μ-loop
 same-length-2 c = search needs
 
 returns-3 : tie.Need-returns-3 Inv-loop μ-loop
 unfolding HeadRead TextRead
-returns-3 c = samples-end _ _ _ _ _ _ _ _ _ _ (c .before .loop .inv) (rw (c .before .before .before .before .before .before .before .before .before .first .given .1) at (c .before .before .before .before .before .before .before .before .before .before .before .record-head .ensures)) (c .loop-test .left)
+returns-3 c =
+    let at-first = c .before .before .before .before .before .before .before .before .before in
+    let at-record-head = at-first .before .before in
+    samples-end _ _ _ _ _ _ _ _ _ _ (c .before .loop .inv) (rw (at-first .first .given .1) at (at-record-head .record-head .ensures)) (c .loop-test .left)
 
 pub record-text-spec : {M : Type 1} → statement M
 record-text-spec =

@@ -9,25 +9,33 @@ use Rattle.site_groups.proofs.check_site.Statement.{statement}
 use Rattle.site_groups.proofs.check_site.Tie as tie
 
 returns : tie.Need-returns
-returns c = too-many _ (c .before .before .args .place) (c .before .before .args .alleles) (c .before .before .args .values) (c .before .before .args .samples) (c .before .before .args .before) (c .if1 .taken)
+returns c =
+    let at-args = c .before .before in
+    too-many _ (at-args .args .place) (at-args .args .alleles) (at-args .args .values) (at-args .args .samples) (at-args .args .before) (c .if1 .taken)
 
 get-requires : tie.Need-get-requires
 get-requires c κs = search needs
 
 returns-2 : tie.Need-returns-2
-returns-2 c = no-sample _ (c .before .before .before .before .args .place) (c .before .before .before .before .args .alleles) (c .before .before .before .before .args .values) (c .before .before .before .before .args .samples) (c .before .before .before .before .args .before) (omega arith) (omega arith)
+returns-2 c =
+    let args = c .before .before .before .before .args in
+    no-sample _ (args .place) (args .alleles) (args .values) (args .samples) (args .before) (omega arith) (omega arith)
 
 get-requires-2 : tie.Need-get-requires-2
 get-requires-2 c κs = search needs
 
 returns-3 : tie.Need-returns-3
-returns-3 c = position-0 _ (c .before .before .before .before .before .before .args .place) (c .before .before .before .before .before .before .args .alleles) (c .before .before .before .before .before .before .args .values) (c .before .before .before .before .before .before .args .samples) (c .before .before .before .before .before .before .args .before) (omega arith) (omega arith) (omega arith)
+returns-3 c =
+    let args = c .before .before .before .before .before .before .args in
+    position-0 _ (args .place) (args .alleles) (args .values) (args .samples) (args .before) (omega arith) (omega arith) (omega arith)
 
 get-requires-3 : tie.Need-get-requires-3
 get-requires-3 c κs = search needs
 
 returns-4 : tie.Need-returns-4
-returns-4 c = end-before _ (c .before .before .before .before .before .before .before .before .args .place) (c .before .before .before .before .before .before .before .before .args .alleles) (c .before .before .before .before .before .before .before .before .args .values) (c .before .before .before .before .before .before .before .before .args .samples) (c .before .before .before .before .before .before .before .before .args .before) (omega arith) (omega arith) (omega arith) (omega arith)
+returns-4 c =
+    let args = c .before .before .before .before .before .before .before .before .args in
+    end-before _ (args .place) (args .alleles) (args .values) (args .samples) (args .before) (omega arith) (omega arith) (omega arith) (omega arith)
 
 part-requires : tie.Need-part-requires
 part-requires c κs = search needs
@@ -46,12 +54,18 @@ enum-told c = search needs
 
 returns-5 : tie.Need-returns-5
 unfolding AllelesFound
-returns-5 c = allele-faulty _ (c .before .before .before .before .before .before .before .before .before .before .before .before .before .args .place) (c .before .before .before .before .before .before .before .before .before .before .before .before .before .args .alleles) (c .before .before .before .before .before .before .before .before .before .before .before .before .before .args .values) (c .before .before .before .before .before .before .before .before .before .before .before .before .before .args .samples) (c .before .before .before .before .before .before .before .before .before .before .before .before .before .args .before) (omega arith) (omega arith) (omega arith) (omega arith) (rw ((c .before .before .before .before .part .ensures), (c .before .before .before .part2 .ensures), (c .enum-told .given .1)) at (c .before .before .check-alleles .ensures))
+returns-5 c =
+    let args = c .before .before .before .before .before .before .before .before .before .before .before .before .before .args in
+    allele-faulty _ (args .place) (args .alleles) (args .values) (args .samples) (args .before) (omega arith) (omega arith) (omega arith)
+    (omega arith) (rw ((c .before .before .before .before .part .ensures), (c .before .before .before .part2 .ensures), (c .enum-told .given .1)) at (c .before .before .check-alleles .ensures))
 
 returns-6 : tie.Need-returns-6
 unfolding AllelesFound
-returns-6 c = let r = rw ((c .before .before .before .before .before .before .part .ensures), (c .before .before .before .before .before .part2 .ensures), (c .before .before .read .given .1)) at (c .before .before .before .before .check-alleles .ensures) in
-    no-non-ref _ (c .before .before .before .before .before .before .before .before .before .before .before .before .before .before .before .args .place) (c .before .before .before .before .before .before .before .before .before .before .before .before .before .before .before .args .alleles) (c .before .before .before .before .before .before .before .before .before .before .before .before .before .before .before .args .values) (c .before .before .before .before .before .before .before .before .before .before .before .before .before .before .before .args .samples) (c .before .before .before .before .before .before .before .before .before .before .before .before .before .before .before .args .before) (omega arith) (omega arith) (omega arith) (omega arith) _ _ r (not-true _ (c .if5 .taken))
+returns-6 c =
+    let args = c .before .before .before .before .before .before .before .before .before .before .before .before .before .before .before .args in
+    let r = rw ((c .before .before .before .before .before .before .part .ensures), (c .before .before .before .before .before .part2 .ensures), (c .before .before .read .given .1)) at (c .before .before .before .before .check-alleles .ensures) in
+    no-non-ref _ (args .place) (args .alleles) (args .values) (args .samples) (args .before) (omega arith) (omega arith) (omega arith) (omega arith)
+    _ _ r (not-true _ (c .if5 .taken))
 
 add-positions : tie.Need-add-positions
 add-positions c = search needs
@@ -61,8 +75,11 @@ end-fits-requires c κs = search needs
 
 returns-7 : tie.Need-returns-7
 unfolding AllelesFound
-returns-7 c = let r = rw ((c .before .before .before .before .before .before .before .before .part .ensures), (c .before .before .before .before .before .before .before .part2 .ensures), (c .before .before .before .before .read .given .1)) at (c .before .before .before .before .before .before .check-alleles .ensures) in
-    end-wrong _ (c .before .before .before .before .before .before .before .before .before .before .before .before .before .before .before .before .before .args .place) (c .before .before .before .before .before .before .before .before .before .before .before .before .before .before .before .before .before .args .alleles) (c .before .before .before .before .before .before .before .before .before .before .before .before .before .before .before .before .before .args .values) (c .before .before .before .before .before .before .before .before .before .before .before .before .before .before .before .before .before .args .samples) (c .before .before .before .before .before .before .before .before .before .before .before .before .before .before .before .before .before .args .before) (omega arith) (omega arith) (omega arith) (omega arith) _ _ r (not-false _ (c .before .before .if5 .left)) (rw ((c .before .before .before .before .before .before .before .before .part .ensures), (c .before .before .before .before .before .before .before .before .before .before .before .before .get2 .ensures), (c .before .before .before .before .before .before .before .before .before .before .get3 .ensures)) at (sym (c .before .end-fits .ensures) ∙ not-true _ (c .if6 .taken)))
+returns-7 c =
+    let args = c .before .before .before .before .before .before .before .before .before .before .before .before .before .before .before .before .before .args in
+    let r = rw ((c .before .before .before .before .before .before .before .before .part .ensures), (c .before .before .before .before .before .before .before .part2 .ensures), (c .before .before .before .before .read .given .1)) at (c .before .before .before .before .before .before .check-alleles .ensures) in
+    end-wrong _ (args .place) (args .alleles) (args .values) (args .samples) (args .before) (omega arith) (omega arith) (omega arith) (omega arith) _
+    _ r (not-false _ (c .before .before .if5 .left)) (rw ((c .before .before .before .before .before .before .before .before .part .ensures), (c .before .before .before .before .before .before .before .before .before .before .before .before .get2 .ensures), (c .before .before .before .before .before .before .before .before .before .before .get3 .ensures)) at (sym (c .before .end-fits .ensures) ∙ not-true _ (c .if6 .taken)))
 
 cast-counts-fit : tie.Need-cast-counts-fit
 unfolding AllelesFound
@@ -74,13 +91,21 @@ counts-fit-requires c κs = search needs
 
 returns-8 : tie.Need-returns-8
 unfolding AllelesFound
-returns-8 c = let r = rw ((c .before .before .before .before .before .before .before .before .before .before .part .ensures), (c .before .before .before .before .before .before .before .before .before .part2 .ensures), (c .before .before .before .before .before .before .read .given .1)) at (c .before .before .before .before .before .before .before .before .check-alleles .ensures) in
-    counts-wrong _ (c .before .before .before .before .before .before .before .before .before .before .before .before .before .before .before .before .before .before .before .args .place) (c .before .before .before .before .before .before .before .before .before .before .before .before .before .before .before .before .before .before .before .args .alleles) (c .before .before .before .before .before .before .before .before .before .before .before .before .before .before .before .before .before .before .before .args .values) (c .before .before .before .before .before .before .before .before .before .before .before .before .before .before .before .before .before .before .before .args .samples) (c .before .before .before .before .before .before .before .before .before .before .before .before .before .before .before .before .before .before .before .args .before) (omega arith) (omega arith) (omega arith) (omega arith) _ _ r (not-false _ (c .before .before .before .before .if5 .left)) (rw ((c .before .before .before .before .before .before .before .before .before .before .part .ensures), (c .before .before .before .before .before .before .before .before .before .before .before .before .before .before .get2 .ensures), (c .before .before .before .before .before .before .before .before .before .before .before .before .get3 .ensures)) at (sym (c .before .before .before .end-fits .ensures) ∙ not-false _ (c .before .before .if6 .left))) (sym (c .before .counts-fit .ensures) ∙ not-true _ (c .if7 .taken))
+returns-8 c =
+    let args = c .before .before .before .before .before .before .before .before .before .before .before .before .before .before .before .before .before .before .before .args in
+    let r = rw ((c .before .before .before .before .before .before .before .before .before .before .part .ensures), (c .before .before .before .before .before .before .before .before .before .part2 .ensures), (c .before .before .before .before .before .before .read .given .1)) at (c .before .before .before .before .before .before .before .before .check-alleles .ensures) in
+    counts-wrong _ (args .place) (args .alleles) (args .values) (args .samples) (args .before) (omega arith) (omega arith) (omega arith)
+    (omega arith) _ _ r (not-false _ (c .before .before .before .before .if5 .left))
+    (rw ((c .before .before .before .before .before .before .before .before .before .before .part .ensures), (c .before .before .before .before .before .before .before .before .before .before .before .before .before .before .get2 .ensures), (c .before .before .before .before .before .before .before .before .before .before .before .before .get3 .ensures)) at (sym (c .before .before .before .end-fits .ensures) ∙ not-false _ (c .before .before .if6 .left))) (sym (c .before .counts-fit .ensures) ∙ not-true _ (c .if7 .taken))
 
 returns-9 : tie.Need-returns-9
 unfolding AllelesFound
-returns-9 c = let r = rw ((c .before .before .before .before .before .before .before .before .before .before .part .ensures), (c .before .before .before .before .before .before .before .before .before .part2 .ensures), (c .before .before .before .before .before .before .read .given .1)) at (c .before .before .before .before .before .before .before .before .check-alleles .ensures) in
-    site-right _ (c .before .before .before .before .before .before .before .before .before .before .before .before .before .before .before .before .before .before .before .args .place) (c .before .before .before .before .before .before .before .before .before .before .before .before .before .before .before .before .before .before .before .args .alleles) (c .before .before .before .before .before .before .before .before .before .before .before .before .before .before .before .before .before .before .before .args .values) (c .before .before .before .before .before .before .before .before .before .before .before .before .before .before .before .before .before .before .before .args .samples) (c .before .before .before .before .before .before .before .before .before .before .before .before .before .before .before .before .before .before .before .args .before) (omega arith) (omega arith) (omega arith) (omega arith) _ _ r (not-false _ (c .before .before .before .before .if5 .left)) (rw ((c .before .before .before .before .before .before .before .before .before .before .part .ensures), (c .before .before .before .before .before .before .before .before .before .before .before .before .before .before .get2 .ensures), (c .before .before .before .before .before .before .before .before .before .before .before .before .get3 .ensures)) at (sym (c .before .before .before .end-fits .ensures) ∙ not-false _ (c .before .before .if6 .left))) (sym (c .before .counts-fit .ensures) ∙ not-false _ (c .if7 .left))
+returns-9 c =
+    let args = c .before .before .before .before .before .before .before .before .before .before .before .before .before .before .before .before .before .before .before .args in
+    let r = rw ((c .before .before .before .before .before .before .before .before .before .before .part .ensures), (c .before .before .before .before .before .before .before .before .before .part2 .ensures), (c .before .before .before .before .before .before .read .given .1)) at (c .before .before .before .before .before .before .before .before .check-alleles .ensures) in
+    site-right _ (args .place) (args .alleles) (args .values) (args .samples) (args .before) (omega arith) (omega arith) (omega arith) (omega arith)
+    _ _ r (not-false _ (c .before .before .before .before .if5 .left))
+    (rw ((c .before .before .before .before .before .before .before .before .before .before .part .ensures), (c .before .before .before .before .before .before .before .before .before .before .before .before .before .before .get2 .ensures), (c .before .before .before .before .before .before .before .before .before .before .before .before .get3 .ensures)) at (sym (c .before .before .before .end-fits .ensures) ∙ not-false _ (c .before .before .if6 .left))) (sym (c .before .counts-fit .ensures) ∙ not-false _ (c .if7 .left))
 
 pub check-site-spec : {M : Type 1} → statement M
 check-site-spec =

@@ -42,7 +42,12 @@ enum-told-2 c = search needs
 
 returns-2 : tie.Need-returns-2
 unfolding keyOf text
-returns-2 c = contig-wrong _ _ _ _ (rw (c .before .before .before .before .before .site .given .1) at (c .before .before .before .before .before .before .before .number-line .ensures)) ((rw (c .enum-told2 .given .1) at (c .before .before .name-line .ensures)) .0)
+returns-2 c =
+    let at-name-line = c .before .before in
+    let at-site = at-name-line .before .before .before in
+    let at-number-line = at-site .before .before in
+    contig-wrong _ _ _ _ (rw (at-site .site .given .1) at (at-number-line .number-line .ensures))
+    ((rw (c .enum-told2 .given .1) at (at-name-line .name-line .ensures)) .0)
 
 add-number-line : tie.Need-add-number-line
 add-number-line c = let h = line-within _ _ _ name _ _ ((rw (c .before .contig .given .1) at (c .before .before .before .name-line .ensures)) .0) in omega arith
@@ -61,9 +66,15 @@ enum-told-3 c = search needs
 
 returns-3 : tie.Need-returns-3
 unfolding keyOf text
-returns-3 c = let contig = rw (c .before .before .before .before .before .contig .given .1) at (c .before .before .before .before .before .before .before .name-line .ensures) in
-    start-wrong _ _ _ _ (rw (c .before .before .before .before .before .before .before .before .before .before .site .given .1) at (c .before .before .before .before .before .before .before .before .before .before .before .before .number-line .ensures)) _ _ (contig .0) (contig .1)
-    (rw (c .enum-told3 .given .1) at (c .before .before .number-line2 .ensures))
+returns-3 c =
+    let at-number-line2 = c .before .before in
+    let at-contig = at-number-line2 .before .before .before in
+    let at-name-line = at-contig .before .before in
+    let at-site = at-name-line .before .before .before in
+    let at-number-line = at-site .before .before in
+    let contig = rw (at-contig .contig .given .1) at (at-name-line .name-line .ensures) in
+    start-wrong _ _ _ _ (rw (at-site .site .given .1) at (at-number-line .number-line .ensures)) _ _ (contig .0) (contig .1)
+    (rw (c .enum-told3 .given .1) at (at-number-line2 .number-line2 .ensures))
 
 add-number-line-2 : tie.Need-add-number-line-2
 add-number-line-2 c = let h = line-within _ _ _ number _ _ (rw (c .before .from .given .1) at (c .before .before .before .number-line2 .ensures)) in omega arith
@@ -82,9 +93,17 @@ enum-told-4 c = search needs
 
 returns-4 : tie.Need-returns-4
 unfolding keyOf text
-returns-4 c = let contig = rw (c .before .before .before .before .before .before .before .before .before .before .contig .given .1) at (c .before .before .before .before .before .before .before .before .before .before .before .before .name-line .ensures) in
-    end-wrong _ _ _ _ (rw (c .before .before .before .before .before .before .before .before .before .before .before .before .before .before .before .site .given .1) at (c .before .before .before .before .before .before .before .before .before .before .before .before .before .before .before .before .before .number-line .ensures)) _ _ (contig .0) (contig .1)
-    _ _ (rw (c .before .before .before .before .before .from .given .1) at (c .before .before .before .before .before .before .before .number-line2 .ensures)) (rw (c .enum-told4 .given .1) at (c .before .before .number-line3 .ensures))
+returns-4 c =
+    let at-number-line3 = c .before .before in
+    let at-from = at-number-line3 .before .before .before in
+    let at-number-line2 = at-from .before .before in
+    let at-contig = at-number-line2 .before .before .before in
+    let at-name-line = at-contig .before .before in
+    let at-site = at-name-line .before .before .before in
+    let at-number-line = at-site .before .before in
+    let contig = rw (at-contig .contig .given .1) at (at-name-line .name-line .ensures) in
+    end-wrong _ _ _ _ (rw (at-site .site .given .1) at (at-number-line .number-line .ensures)) _ _ (contig .0) (contig .1)
+    _ _ (rw (at-from .from .given .1) at (at-number-line2 .number-line2 .ensures)) (rw (c .enum-told4 .given .1) at (at-number-line3 .number-line3 .ensures))
 
 cast-new : tie.Need-cast-new
 cast-new c = search needs
@@ -109,9 +128,20 @@ add-t34 c = let h = line-within _ _ _ number _ _ (rw (c .before .before .before 
 
 returns-5 : tie.Need-returns-5
 unfolding keyOf text
-returns-5 c = let contig = rw (c .before .before .before .before .before .before .before .before .before .before .before .before .before .before .contig .given .1) at (c .before .before .before .before .before .before .before .before .before .before .before .before .before .before .before .before .name-line .ensures) in
-    place-read _ _ _ _ (rw (c .before .before .before .before .before .before .before .before .before .before .before .before .before .before .before .before .before .before .before .site .given .1) at (c .before .before .before .before .before .before .before .before .before .before .before .before .before .before .before .before .before .before .before .before .before .number-line .ensures)) _ _ (contig .0) (contig .1)
-    _ _ (rw (c .before .before .before .before .before .before .before .before .before .from .given .1) at (c .before .before .before .before .before .before .before .before .before .before .before .number-line2 .ensures)) _ _ (rw (c .before .before .before .before .to .given .1) at (c .before .before .before .before .before .before .number-line3 .ensures)) (c .before .before .new .ensures) (c .before .new-1based .ensures) (c .new-1based2 .ensures)
+returns-5 c =
+    let at-new = c .before .before in
+    let at-to = at-new .before .before in
+    let at-number-line3 = at-to .before .before in
+    let at-from = at-number-line3 .before .before .before in
+    let at-number-line2 = at-from .before .before in
+    let at-contig = at-number-line2 .before .before .before in
+    let at-name-line = at-contig .before .before in
+    let at-site = at-name-line .before .before .before in
+    let at-number-line = at-site .before .before in
+    let contig = rw (at-contig .contig .given .1) at (at-name-line .name-line .ensures) in
+    place-read _ _ _ _ (rw (at-site .site .given .1) at (at-number-line .number-line .ensures)) _ _ (contig .0) (contig .1)
+    _ _ (rw (at-from .from .given .1) at (at-number-line2 .number-line2 .ensures)) _ _
+    (rw (at-to .to .given .1) at (at-number-line3 .number-line3 .ensures)) (at-new .new .ensures) (c .before .new-1based .ensures) (c .new-1based2 .ensures)
 
 pub site-place-spec : {M : Type 1} → statement M
 site-place-spec =
