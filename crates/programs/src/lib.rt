@@ -44,7 +44,9 @@ fn combine_files<'a>(
     scratch: &mut [u64; 8192],
     list: &mut [u8; 65536],
 ) -> Outcome
-    ensures { λ r. ⌜ FilesCombined (readText «of_cohort» (now (cohort .entry))) (readText «of_clip» (now (clip .entry))) (readText «of_reference» (now (reference .entry))) (now (scratch .entry)) (now (scratch .exit)) (now (list .entry)) (now (list .exit)) r ⌝ }
+    ensures { λ r. ⌜ FilesCombined
+        (readText «of_cohort» (now (cohort .entry))) (readText «of_clip» (now (clip .entry))) (readText «of_reference» (now (reference .entry)))
+        (now (scratch .entry)) (now (scratch .exit)) (now (list .entry)) (now (list .exit)) r ⌝ }
 {
     if any_too_long(of_cohort, of_clip, of_reference) {
         tables::clear_places(scratch);
@@ -72,7 +74,9 @@ pub fn combine_program<'a>(
     scratch: &mut [u64; 8192],
     list: &mut [u8; 65536],
 ) -> usize
-    ensures { λ r. ⌜ CombinePrinted (readText «of_cohort» (now (cohort .entry))) (readText «of_clip» (now (clip .entry))) (readText «of_reference» (now (reference .entry))) (now (scratch .entry)) (now (scratch .exit)) (now (list .entry)) (now (list .exit)) r ⌝ }
+    ensures { λ r. ⌜ CombinePrinted
+        (readText «of_cohort» (now (cohort .entry))) (readText «of_clip» (now (clip .entry))) (readText «of_reference» (now (reference .entry)))
+        (now (scratch .entry)) (now (scratch .exit)) (now (list .entry)) (now (list .exit)) r ⌝ }
 {
     let outcome = combine_files(
         of_cohort,
