@@ -4,11 +4,11 @@ use borrow.Author.Tests.{le-leb, lt-leb}
 use lib.ListN.{take}
 use mathlib.Core.Bool.{Bool, false, true}
 use mathlib.Core.List.{List, []}
-use mathlib.Core.Option.{Option, Option·getD, some}
+use mathlib.Core.Option.{Option, Option·getD}
 use mathlib.Core.Path.{_≡_, refl, sym}
 use native.Mathlib.Nat.{sub-zero}
 use Rattle.definitions.specs.Answers.{fileFits, fileText}
-use Rattle.definitions.specs.Checked.{Checked, accepted, refused}
+use Rattle.definitions.specs.Checked.{accepted, refused}
 use Rattle.definitions.specs.Lists.{missingOr, onlyIf}
 use Rattle.laws.proofs.Checked.{not-required, required}
 use Rattle.files.specs.FileTexts.{ReadWhole, absent, hasText, long, readText, textLength, tooLong, whole}
