@@ -1,14 +1,14 @@
 -- What is taken of a file.
-use Prim.Native.Nat.{ℕ}
+use Prim.Native.Nat.{_-_, ℕ}
 use borrow.Author.Tests.{le-leb, lt-leb}
 use lib.ListN.{take}
 use mathlib.Core.Bool.{Bool, false, true}
 use mathlib.Core.List.{List, []}
-use mathlib.Core.Option.{Option, Option·getD, some}
+use mathlib.Core.Option.{Option, Option·getD}
 use mathlib.Core.Path.{_≡_, refl, sym}
-use native.Mathlib.Omega.{arith}
+use native.Mathlib.Nat.{sub-zero}
 use Rattle.definitions.specs.Answers.{fileFits, fileText}
-use Rattle.definitions.specs.Checked.{Checked, accepted, refused}
+use Rattle.definitions.specs.Checked.{accepted, refused}
 use Rattle.definitions.specs.Lists.{missingOr, onlyIf}
 use Rattle.laws.proofs.Checked.{not-required, required}
 use Rattle.files.specs.FileTexts.{ReadWhole, absent, hasText, long, readText, textLength, tooLong, whole}
@@ -39,6 +39,10 @@ text-or-empty (Text count) buffer = refl
 text-or-empty Absent buffer = refl
 text-or-empty TooLong buffer = refl
 text-or-empty Failed buffer = refl
+
+-- a part from the start on
+pub from-start : (s : List ℕ) {part : List ℕ} {count n : ℕ} → count ≡ n → part ≡ take (count - 0) s → part ≡ take n s
+from-start s e p = rw (← e) (rw sub-zero at p)
 
 -- ---- from its contents
 

@@ -13,7 +13,7 @@ use Rattle.answers.specs.declared.Outcome.the-variants as outcome
 use Rattle.definitions.specs.Answers.{outputAfter, printedAnswer, writtenOf}
 use Rattle.definitions.specs.Bytes.{text}
 use Rattle.definitions.specs.Checked.{Checked, accepted, refused}
-use Rattle.definitions.specs.Lines.{keyOf, line}
+use Rattle.definitions.specs.Lines.{keyOf}
 use Rattle.definitions.specs.Numbers.{decimal}
 use Rattle.kv_write.proofs.Laying.{sets-front}
 use Rattle.kv_write.specs.Keyed.{keyed}

@@ -2,7 +2,7 @@
 use Prim.Native.Nat.{_<_, _≤_, ℕ}
 use lib.ListN.{length, take}
 use mathlib.Core.Bool.{Bool, false, true}
-use mathlib.Core.List.{List, []}
+use mathlib.Core.List.{List}
 use mathlib.Core.Option.{Option, none, some}
 use mathlib.Core.Path.{_≡_}
 use Rattle.definitions.specs.Checked.{Checked, accepted, refused}

@@ -1,1 +1,3 @@
+pub mod FilesTaken
 pub mod Programs
+pub mod WholePrograms

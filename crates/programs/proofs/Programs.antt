@@ -1,85 +1,29 @@
--- The programs by what is taken of their files.
+-- The answers of `combine` and `call`, from what the library promises.
 use Prim.Native.Nat.{ℕ}
 use lib.ListN.{length, take}
-use mathlib.Core.Bool.{Bool, _||_, false, true}
-use mathlib.Core.List.{List, []}
-use mathlib.Core.Option.{Option, none, some}
-use mathlib.Core.Path.{_∙_, _≡_, ap, refl, sym}
+use mathlib.Core.Bool.{Bool, false, true}
+use mathlib.Core.List.{List}
+use mathlib.Core.Option.{Option}
+use mathlib.Core.Path.{_∙_, _≡_, sym}
 use Rattle.answers.proofs.Answers.{answered-refused}
 use Rattle.answers.specs.Answered.{Answered}
 use Rattle.answers.specs.declared.Outcome.{Outcome}
 use Rattle.answers.specs.declared.Outcome.the-variants as outcome
 use Rattle.combine_gvcfs.specs.Combined.{Combined, textsOf}
-use Rattle.definitions.specs.Answers.{callProgram, calledFile, combineProgram, combinedFiles, printedAnswer, scratchAfter}
+use Rattle.definitions.specs.Answers.{calledFile, combinedFiles, printedAnswer, scratchAfter}
 use Rattle.definitions.specs.CalledList.{calledList}
-use Rattle.definitions.specs.Checked.{Checked, _>>=_, accepted, refused}
+use Rattle.definitions.specs.Checked.{Checked, accepted}
 use Rattle.definitions.specs.ClipAndReference.{LetterChoice}
-use Rattle.definitions.specs.CombinedList.{Texts, combinedList}
+use Rattle.definitions.specs.CombinedList.{combinedList}
 use Rattle.definitions.specs.Limits.{programBytes, programScratch}
-use Rattle.files.proofs.FileTexts.{read-whole, taken-long, taken-whole, text-or-empty}
+use Rattle.files.proofs.FileTexts.{taken-long, taken-whole, text-or-empty}
 use Rattle.files.proofs.Printing.{answered-printed}
-use Rattle.files.specs.FileTexts.{ReadWhole, hasText, readText, textLength, tooLong}
+use Rattle.files.specs.FileTexts.{hasText, readText, textLength, tooLong}
 use Rattle.files.specs.Printing.{Printed, writtenValues}
 use Rattle.files.specs.declared.FileRead.{FileRead}
-use Rattle.files.specs.declared.FileRead.the-variants.{Absent, Failed, Text, TooLong}
 use Rattle.laws.proofs.Checked.{accepted-same, not-refused, then, then-refused}
+use Rattle.programs.proofs.FilesTaken.{by-texts, texts-long, texts-taken}
 use Rattle.programs.specs.Programs.{CombinePrinted, FilesCombined, anyTooLong, takenTexts}
-
--- ---- three files
-
-or-left : (p q : Bool) → (p || q) ≡ false → p ≡ false
-or-left true q e = e
-or-left false q e = refl
-
-or-right : (p q : Bool) → (p || q) ≡ false → q ≡ false
-or-right true q e = let z : _≡_ {A = Bool} true false = e in cc
-or-right false q e = e
-
--- the list of three files is that of their texts
-by-texts : (cohort clip reference : Checked (Option (List ℕ))) (choose : LetterChoice)
-    → combinedFiles cohort clip reference choose
-    ≡ (takenTexts cohort clip reference >>= λ t. combinedList t programScratch programBytes choose)
-unfolding combinedFiles takenTexts _>>=_
-by-texts (refused n) clip reference choose = refl
-by-texts (accepted c) (refused n) reference choose = refl
-by-texts (accepted c) (accepted l) (refused n) choose = refl
-by-texts (accepted c) (accepted l) (accepted r) choose = refl
-
--- one of them is too long
-third-long : (c l : Option (List ℕ)) (third : FileRead) (buffer : List ℕ) → tooLong third ≡ true
-    → takenTexts (accepted c) (accepted l) (readText third buffer) ≡ refused 2
-unfolding takenTexts _>>=_
-third-long c l third buffer e = rw (taken-long third buffer e)
-
-later-long : (c : Option (List ℕ)) (second third : FileRead) (s t : List ℕ) → (tooLong second || tooLong third) ≡ true
-    → takenTexts (accepted c) (readText second s) (readText third t) ≡ refused 2
-unfolding takenTexts _>>=_
-later-long c (Text n) third s t e = third-long c (some (take n s)) third t e
-later-long c Absent third s t e = third-long c none third t e
-later-long c TooLong third s t e = refl
-later-long c Failed third s t e = third-long c none third t e
-
-texts-long : (first second third : FileRead) (r s t : List ℕ) → anyTooLong first second third ≡ true
-    → takenTexts (readText first r) (readText second s) (readText third t) ≡ refused 2
-unfolding takenTexts _>>=_
-texts-long (Text n) second third r s t e = later-long (some (take n r)) second third s t e
-texts-long Absent second third r s t e = later-long none second third s t e
-texts-long TooLong second third r s t e = refl
-texts-long Failed second third r s t e = later-long none second third s t e
-
--- none of them is
-texts-taken : (first second third : FileRead) (r s t : List ℕ) → anyTooLong first second third ≡ false
-    → takenTexts (readText first r) (readText second s) (readText third t)
-    ≡ accepted (textsOf (take (textLength first) r) (hasText second) (take (textLength second) s) (hasText third) (take (textLength third) t))
-unfolding takenTexts _>>=_
-texts-taken first second third r s t e =
-    let later = or-right (tooLong first) (tooLong second || tooLong third) e in
-    rw (
-      taken-whole first r (or-left (tooLong first) _ e),
-      taken-whole second s (or-left (tooLong second) _ later),
-      taken-whole third t (or-right (tooLong second) _ later),
-      text-or-empty first r,
-    )
 
 -- ---- combine
 
@@ -126,15 +70,6 @@ pub combine-printed : (cohort clip reference : Checked (Option (List ℕ))) {scr
 combine-printed cohort clip reference o m p =
     record { choose = m .choose; choice = m .choice; printed = answered-printed _ o (m .answered) p; cleared = m .cleared }
 
--- for files that were read whole, the program of the definitions, by their contents
-module _ {cohort clip reference : Option (List ℕ)} {first second third : FileRead} {r s t : List ℕ} where
-  pub combine-program : {scratch scratch′ list list′ : List ℕ} {n : ℕ}
-      → ReadWhole cohort first r → ReadWhole clip second s → ReadWhole reference third t
-      → (m : CombinePrinted (readText first r) (readText second s) (readText third t) scratch scratch′ list list′ n)
-      → take n list′ ≡ combineProgram cohort clip reference (m .choose)
-  unfolding combineProgram
-  combine-program p q u m = rw (← read-whole p, ← read-whole q, ← read-whole u) (m .printed .printed)
-
 -- ---- call
 
 pub file-refused : (read : FileRead) (buffer : List ℕ) {list list′ : List ℕ} → tooLong read ≡ true → list′ ≡ list
@@ -150,17 +85,3 @@ file-called read buffer {s} {list} e text bytes m = rw same m
   where
     same : calledFile (readText read buffer) ≡ calledList s (length list)
     same = then _ _ (taken-whole read buffer e) (rw (text-or-empty read buffer, text, bytes))
-
--- the same
-pub call-program : {contents : Option (List ℕ)} {read : FileRead} {buffer list list′ : List ℕ} {n : ℕ} → ReadWhole contents read buffer
-    → Printed (printedAnswer (calledFile (readText read buffer))) list list′ n → take n list′ ≡ callProgram contents
-unfolding callProgram
-call-program p m = rw (← read-whole p) (m .printed)
-
--- ---- tests
-
-pub or-first : (p q : Bool) → p ≡ true → true ≡ (p || q)
-or-first p q e = rw e
-
-pub or-later : (p q : Bool) {r : Bool} → p ≡ false → r ≡ q → r ≡ (p || q)
-or-later p q e k = rw e k

@@ -1,4 +1,4 @@
-// The programs `combine` and `call`: the files of the working folder in, a list or `refused=` and the number out. Between reading and
+// The programs `combine` and `call`: files of the working folder in, a list or `refused=` and the number out. Between reading and
 // writing one function makes all that is printed: `combine_program` and `call_program`.
 //
 // A file longer than 65,536 bytes is refused with 2. An absent cohort.kv or combined.kv is an empty text; an absent clip.kv or reference.kv is
@@ -44,7 +44,9 @@ fn combine_files<'a>(
     scratch: &mut [u64; 8192],
     list: &mut [u8; 65536],
 ) -> Outcome
-    ensures { λ r. ⌜ FilesCombined (readText «of_cohort» (now (cohort .entry))) (readText «of_clip» (now (clip .entry))) (readText «of_reference» (now (reference .entry))) (now (scratch .entry)) (now (scratch .exit)) (now (list .entry)) (now (list .exit)) r ⌝ }
+    ensures { λ r. ⌜ FilesCombined
+        (readText «of_cohort» (now (cohort .entry))) (readText «of_clip» (now (clip .entry))) (readText «of_reference» (now (reference .entry)))
+        (now (scratch .entry)) (now (scratch .exit)) (now (list .entry)) (now (list .exit)) r ⌝ }
 {
     if any_too_long(of_cohort, of_clip, of_reference) {
         tables::clear_places(scratch);
@@ -72,7 +74,9 @@ pub fn combine_program<'a>(
     scratch: &mut [u64; 8192],
     list: &mut [u8; 65536],
 ) -> usize
-    ensures { λ r. ⌜ CombinePrinted (readText «of_cohort» (now (cohort .entry))) (readText «of_clip» (now (clip .entry))) (readText «of_reference» (now (reference .entry))) (now (scratch .entry)) (now (scratch .exit)) (now (list .entry)) (now (list .exit)) r ⌝ }
+    ensures { λ r. ⌜ CombinePrinted
+        (readText «of_cohort» (now (cohort .entry))) (readText «of_clip» (now (clip .entry))) (readText «of_reference» (now (reference .entry)))
+        (now (scratch .entry)) (now (scratch .exit)) (now (list .entry)) (now (list .exit)) r ⌝ }
 {
     let outcome = combine_files(
         of_cohort,
@@ -87,16 +91,16 @@ pub fn combine_program<'a>(
     files::put_answer(outcome, list)
 }
 
-// Combines cohort.kv with clip.kv and reference.kv.
-pub fn run_combine() {
+// The program on files with these names.
+pub fn combine_named(cohort_name: &[u8], clip_name: &[u8], reference_name: &[u8]) {
     let mut cohort = [0u8; 65537];
     let mut clip = [0u8; 65537];
     let mut reference = [0u8; 65537];
     let mut scratch = [0u64; 8192];
     let mut list = [0u8; 65536];
-    let of_cohort = read_file(b"cohort.kv", &mut cohort);
-    let of_clip = read_file(b"clip.kv", &mut clip);
-    let of_reference = read_file(b"reference.kv", &mut reference);
+    let of_cohort = read_file(cohort_name, &mut cohort);
+    let of_clip = read_file(clip_name, &mut clip);
+    let of_reference = read_file(reference_name, &mut reference);
     if is_failed(of_cohort) || is_failed(of_clip) || is_failed(of_reference) {
         return;
     }
@@ -111,6 +115,11 @@ pub fn run_combine() {
         &mut list,
     );
     files::print_first(&list, count);
+}
+
+// Combines cohort.kv with clip.kv and reference.kv.
+pub fn run_combine() {
+    combine_named(b"cohort.kv", b"clip.kv", b"reference.kv");
 }
 
 // ---- call
@@ -133,14 +142,19 @@ pub fn call_program(of_combined: FileRead, combined: &[u8], list: &mut [u8; 6553
     files::put_answer(outcome, list)
 }
 
-// Calls combined.kv, a combined list.
-pub fn run_call() {
+// The program on a file with this name.
+pub fn call_named(combined_name: &[u8]) {
     let mut combined = [0u8; 65537];
     let mut list = [0u8; 65536];
-    let of_combined = read_file(b"combined.kv", &mut combined);
+    let of_combined = read_file(combined_name, &mut combined);
     if is_failed(of_combined) {
         return;
     }
     let count = call_program(of_combined, &combined, &mut list);
     files::print_first(&list, count);
+}
+
+// Calls combined.kv, a combined list.
+pub fn run_call() {
+    call_named(b"combined.kv");
 }

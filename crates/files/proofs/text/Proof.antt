@@ -1,6 +1,7 @@
 -- A part that begins where the buffer does.
 use borrow.Author.Needs.{needs}
-use native.Mathlib.Nat.{sub-zero}
+use denote.Ref.{now}
+use Rattle.files.proofs.FileTexts.{from-start}
 use Rattle.files.proofs.text.Statement.{statement}
 use Rattle.files.proofs.text.Tie as tie
 
@@ -11,7 +12,7 @@ part-requires : tie.Need-part-requires
 part-requires c κs = search needs
 
 returns : tie.Need-returns
-returns c = rw (← c .before .text-length .ensures) (rw sub-zero at (c .part .ensures))
+returns c = from-start (now (c .before .before .before .args .buffer)) (c .before .text-length .ensures) (c .part .ensures)
 
 pub text-spec : {M : Type 1} → statement M
 text-spec = tie.close (tie.spec text-length-requires part-requires returns)

@@ -1,7 +1,7 @@
 -- One after the other.
 use borrow.Author.Needs.{needs}
 use mathlib.Core.Path.{_∙_, sym}
-use Rattle.programs.proofs.Programs.{or-first, or-later}
+use Rattle.programs.proofs.FilesTaken.{or-first, or-later}
 use Rattle.programs.proofs.any_too_long.Statement.{statement}
 use Rattle.programs.proofs.any_too_long.Tie as tie
 
