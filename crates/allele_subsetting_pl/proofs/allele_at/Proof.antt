@@ -17,7 +17,8 @@ shared-slice-read-new c = search needs
 cast-new : tie.Need-cast-new
 cast-new c =
     let at-start = c .before .before in
-    let below : getD (at-start .args .numbers .now) (at-start .args .place) 0 < 16 = ltb-true _ _ (every-at (at-start .args .place) 0 (at-start .pre .0) (every-passed _ (at-start .args .numbers .now) (at-start .pre .1))) in omega arith
+    let below : getD (at-start .args .numbers .now) (at-start .args .place) 0 < 16 = ltb-true _ _
+    (every-at (at-start .args .place) 0 (at-start .pre .0) (every-passed _ (at-start .args .numbers .now) (at-start .pre .1))) in omega arith
 
 new-requires : tie.Need-new-requires
 new-requires c κs = search needs

@@ -33,7 +33,8 @@ loop-again c =
     let at-loop-test = c .before .before .before .before .before in
     let at-loop = at-loop-test .before in
     let at-start = at-loop .before .before .before in
-    next-stored (λ a. a) (at-start .args .keep .now) 0 (at-loop-test .loop-test .taken) (c .before .before .before .before .allele-at .ensures) (c .before .before .put-allele .ensures) (at-loop .loop .inv)
+    next-stored (λ a. a) (at-start .args .keep .now) 0 (at-loop-test .loop-test .taken) (c .before .before .before .before .allele-at .ensures)
+    (c .before .before .put-allele .ensures) (at-loop .loop .inv)
 
 same-length : tie.Need-same-length Inv-loop μ-loop
 same-length c = unstored-length ((c .before .loop .inv))

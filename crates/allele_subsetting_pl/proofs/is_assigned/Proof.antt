@@ -37,7 +37,8 @@ returns-2 c =
     let at-loop = c .before .before .before in
     let at-get = at-loop .before .before in
     let at-start = at-get .before .before in
-    rw (← (at-get .get .ensures)) (sym (any-found _ (at-start .args .gt .now) 0 (at-loop .loop .i) (c .before .before .loop-test .taken) (eq-eqb _ _ (sym (c .if2 .taken)))) ∙ (at-loop .loop .inv .1))
+    rw (← (at-get .get .ensures)) (sym (any-found _ (at-start .args .gt .now) 0 (at-loop .loop .i) (c .before .before .loop-test .taken)
+    (eq-eqb _ _ (sym (c .if2 .taken)))) ∙ (at-loop .loop .inv .1))
 
 add-i : tie.Need-add-i Inv-loop μ-loop
 add-i c = search needs
@@ -48,14 +49,18 @@ loop-less c = search needs
 loop-again : tie.Need-loop-again Inv-loop μ-loop
 loop-again c =
     let at-loop = c .before .before .before in
-    let at-start = at-loop .before .before .before .before in
-    ((at-loop .loop .inv .0), sym (any-next _ (at-start .args .gt .now) 0 (at-loop .loop .i) (c .before .before .loop-test .taken) (ne-eqb _ _ (λ e. (c .if2 .left) (sym e)))) ∙ (at-loop .loop .inv .1))
+    let at-start = at-loop .before .before .before .before in (
+      (at-loop .loop .inv .0),
+      sym (any-next _ (at-start .args .gt .now) 0 (at-loop .loop .i) (c .before .before .loop-test .taken)
+          (ne-eqb _ _ (λ e. (c .if2 .left) (sym e)))) ∙ (at-loop .loop .inv .1),
+    )
 
 returns-3 : tie.Need-returns-3 Inv-loop μ-loop
 returns-3 c =
     let at-loop = c .before in
     let at-start = at-loop .before .before .before .before in
-    rw (← (c .before .before .before .get .ensures)) (sym (any-end _ (at-start .args .gt .now) (at-loop .loop .i) (c .loop-test .left)) ∙ (at-loop .loop .inv .1))
+    rw (← (c .before .before .before .get .ensures)) (sym (any-end _ (at-start .args .gt .now) (at-loop .loop .i) (c .loop-test .left)) ∙
+    (at-loop .loop .inv .1))
 
 pub is-assigned-spec : {M : Type 1} → statement M
 is-assigned-spec =

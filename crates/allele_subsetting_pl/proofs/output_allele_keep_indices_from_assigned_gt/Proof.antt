@@ -20,7 +20,8 @@ abbrev μ-loop : tie.MeasureT-loop
 loop-holds : tie.Need-loop-holds Inv-loop μ-loop
 loop-holds c =
     let at-start = c .before .before in
-    recast (sym (all-assigned (at-start .args .gt .now) (at-start .args .alleles))) (start (omega (arith, few-assigned (at-start .args .gt .now) (at-start .args .alleles), (at-start .pre))))
+    recast (sym (all-assigned (at-start .args .gt .now) (at-start .args .alleles)))
+    (start (omega (arith, few-assigned (at-start .args .gt .now) (at-start .args .alleles), (at-start .pre))))
 
 cast-new : tie.Need-cast-new Inv-loop μ-loop
 cast-new c = omega (arith, (c .before .before .before .before .pre))
@@ -37,7 +38,10 @@ keep-assigned-requires c κs =
     let at-new = at-is-assigned .before in
     let at-loop = at-new .before .before in
     let at-start = at-loop .before .before .before in
-    rw (at-new .new .ensures) (room (onlyAssigned (at-is-assigned .is-assigned .result) (at-loop .loop .number)) (assignedFrom (at-start .args .gt .now) (at-start .args .alleles) ((at-loop .loop .number) + 1)) (recast (next-assigned (at-start .args .gt .now) (at-start .args .alleles) (at-loop .loop .number) _ (c .before .before .before .loop-test .taken) (rw (at-new .new .ensures) at (at-is-assigned .is-assigned .ensures))) (at-loop .loop .inv)))
+    rw (at-new .new .ensures) (room (onlyAssigned (at-is-assigned .is-assigned .result) (at-loop .loop .number))
+    (assignedFrom (at-start .args .gt .now) (at-start .args .alleles) ((at-loop .loop .number) + 1))
+    (recast (next-assigned (at-start .args .gt .now) (at-start .args .alleles) (at-loop .loop .number) _ (c .before .before .before .loop-test .taken)
+    (rw (at-new .new .ensures) at (at-is-assigned .is-assigned .ensures))) (at-loop .loop .inv)))
 
 add-number : tie.Need-add-number Inv-loop μ-loop
 add-number c = search needs
@@ -51,7 +55,9 @@ loop-again c =
     let at-loop-test = at-new .before in
     let at-loop = at-loop-test .before in
     let at-start = at-loop .before .before .before in
-    several (rw (at-new .new .ensures) at (c .before .before .keep-assigned .ensures)) (recast (next-assigned (at-start .args .gt .now) (at-start .args .alleles) (at-loop .loop .number) _ (at-loop-test .loop-test .taken) (rw (at-new .new .ensures) at (c .before .before .before .before .is-assigned .ensures))) (at-loop .loop .inv))
+    several (rw (at-new .new .ensures) at (c .before .before .keep-assigned .ensures))
+    (recast (next-assigned (at-start .args .gt .now) (at-start .args .alleles) (at-loop .loop .number) _ (at-loop-test .loop-test .taken)
+    (rw (at-new .new .ensures) at (c .before .before .before .before .is-assigned .ensures))) (at-loop .loop .inv))
 
 same-length : tie.Need-same-length Inv-loop μ-loop
 same-length c = left-length ((c .before .loop .inv))

@@ -46,13 +46,15 @@ allele-at-requires c κs = (omega (arith, (c .if1 .left)), (c .before .before .b
 put-alt-requires : tie.Need-put-alt-requires Inv-loop μ-loop
 put-alt-requires c κs =
     let at-start = c .before .before .before .before .before .before in
-    rw (c .before .allele-at .ensures) (fits-first _ (altWith (at-start .args .alts .now) _) _ (rw (first-then (at-start .args .alts .now) _ (c .before .before .if1 .left)) at (at-start .pre .counted)))
+    rw (c .before .allele-at .ensures) (fits-first _ (altWith (at-start .args .alts .now) _) _
+    (rw (first-then (at-start .args .alts .now) _ (c .before .before .if1 .left)) at (at-start .pre .counted)))
 
 loop-holds : tie.Need-loop-holds Inv-loop μ-loop
 loop-holds c =
     let at-if1 = c .before .before .before .before .before in
     let at-start = at-if1 .before .before .before .before in
-    start (fits-rest _ (rw (c .before .before .before .before .allele-at .ensures) at (c .before .before .put-alt .ensures)) (rw (first-then (at-start .args .alts .now) _ (at-if1 .if1 .left)) at (at-start .pre .counted)))
+    start (fits-rest _ (rw (c .before .before .before .before .allele-at .ensures) at (c .before .before .put-alt .ensures))
+    (rw (first-then (at-start .args .alts .now) _ (at-if1 .if1 .left)) at (at-start .pre .counted)))
 
 put-byte-requires : tie.Need-put-byte-requires Inv-loop μ-loop
 unfolding behind
@@ -70,7 +72,8 @@ put-alt-requires-2 c κs =
     let at-loop-test = c .before .before .before .before .before .before in
     let at-loop = at-loop-test .before in
     let at-start = at-loop .before .before .before .before .before .before .before .before .before .before in
-    rw (c .before .allele-at2 .ensures) (room (altWith (at-start .args .alts .now) _) _ (comma-laid (at-start .args .alts .now) _ _ (at-loop-test .loop-test .taken) (c .before .before .before .before .put-byte .ensures) (at-loop .loop .inv)))
+    rw (c .before .allele-at2 .ensures) (room (altWith (at-start .args .alts .now) _) _
+    (comma-laid (at-start .args .alts .now) _ _ (at-loop-test .loop-test .taken) (c .before .before .before .before .put-byte .ensures) (at-loop .loop .inv)))
 
 add-i : tie.Need-add-i Inv-loop μ-loop
 add-i c = search needs
@@ -84,7 +87,8 @@ loop-again c =
     let at-loop-test = at-put-byte .before .before in
     let at-loop = at-loop-test .before in
     let at-start = at-loop .before .before .before .before .before .before .before .before .before .before in
-    several (rw (c .before .before .before .before .allele-at2 .ensures) at (c .before .before .put-alt2 .ensures)) (comma-laid (at-start .args .alts .now) _ _ (at-loop-test .loop-test .taken) (at-put-byte .put-byte .ensures) (at-loop .loop .inv))
+    several (rw (c .before .before .before .before .allele-at2 .ensures) at (c .before .before .put-alt2 .ensures))
+    (comma-laid (at-start .args .alts .now) _ _ (at-loop-test .loop-test .taken) (at-put-byte .put-byte .ensures) (at-loop .loop .inv))
 
 same-length : tie.Need-same-length Inv-loop μ-loop
 same-length c = left-length ((c .before .loop .inv)) ∙ ((c .before .before .before .before .put-alt .kept .0))
@@ -95,7 +99,9 @@ returns-2 c =
     let at-allele-at = c .before .before .before .before .before .before in
     let at-if1 = at-allele-at .before in
     let at-start = at-if1 .before .before .before .before in
-    rw (first-then (at-start .args .alts .now) _ (at-if1 .if1 .left)) (laid-append (rw (at-allele-at .allele-at .ensures) at (c .before .before .before .before .put-alt .ensures)) (done (recast (each-end comma (altWith (at-start .args .alts .now)) _ _ (c .loop-test .left)) (c .before .loop .inv))))
+    rw (first-then (at-start .args .alts .now) _ (at-if1 .if1 .left))
+    (laid-append (rw (at-allele-at .allele-at .ensures) at (c .before .before .before .before .put-alt .ensures))
+    (done (recast (each-end comma (altWith (at-start .args .alts .now)) _ _ (c .loop-test .left)) (c .before .loop .inv))))
 
 pub put-alts-spec : {M : Type 1} → statement M
 put-alts-spec =

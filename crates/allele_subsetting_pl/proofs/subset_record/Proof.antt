@@ -26,7 +26,8 @@ returns : tie.Need-returns
 returns c =
     let at-here = c .before .before .before .before .before .before .before .before .before in
     let at-start = at-here in
-    answered-refused (refused-within _ (not-fitting (at-start .args .alts .now) (at-start .args .keep .now) (at-start .args .gl .now) (at-start .args .ad .now) (at-start .pre) (failed (c .before .subset-fits .ensures) (c .if1 .taken))))
+    answered-refused (refused-within _ (not-fitting (at-start .args .alts .now) (at-start .args .keep .now) (at-start .args .gl .now)
+    (at-start .args .ad .now) (at-start .pre) (failed (c .before .subset-fits .ensures) (c .if1 .taken))))
 
 all-below-requires : tie.Need-all-below-requires
 all-below-requires c κs = search needs
@@ -35,7 +36,8 @@ returns-2 : tie.Need-returns-2
 returns-2 c =
     let at-here = c .before .before .before .before .before .before .before .before .before .before .before in
     let at-start = at-here in
-    answered-refused (refused-within _ (without-ad (at-start .args .alts .now) (at-start .args .keep .now) (at-start .args .gl .now) (at-start .args .ad .now) (at-start .pre) (failed (c .before .all-below .ensures) (c .if2 .taken))))
+    answered-refused (refused-within _ (without-ad (at-start .args .alts .now) (at-start .args .keep .now) (at-start .args .gl .now)
+    (at-start .args .ad .now) (at-start .pre) (failed (c .before .all-below .ensures) (c .if2 .taken))))
 
 sub-numbers : tie.Need-sub-numbers
 sub-numbers c =
@@ -80,7 +82,8 @@ returns-3 c =
     let measured = rw (tail-part (at-start .args .keep .now)) at (c .before .before .before .alts-length .ensures) in
     answered-refused
     (without-room (subsetRecord (at-start .args .alts .now) (at-start .args .keep .now) (at-start .args .gl .now) (at-start .args .ad .now) (at-start .pre)) out
-    (measured-room (at-start .args .alts .now) (at-start .args .keep .now) (at-start .args .gl .now) (at-start .args .ad .now) (at-start .pre) out (c .before .has-room .ensures) measured (c .before .before .num-genotype-likelihoods .ensures) ∙ not-true _ (c .if3 .taken))
+    (measured-room (at-start .args .alts .now) (at-start .args .keep .now) (at-start .args .gl .now) (at-start .args .ad .now) (at-start .pre) out
+    (c .before .has-room .ensures) measured (c .before .before .num-genotype-likelihoods .ensures) ∙ not-true _ (c .if3 .taken))
     (subset-accepted (at-start .args .alts .now) (at-start .args .keep .now) (at-start .args .gl .now) (at-start .args .ad .now) (at-start .pre) fits counts))
 
 put-alts-requires : tie.Need-put-alts-requires
@@ -131,9 +134,11 @@ returns-4 c =
     let fits = passed (at-subset-fits .subset-fits .ensures) (at-if1 .if1 .left) in
     let counts = passed (at-all-below .all-below .ensures) (at-if2 .if2 .left) in
     let measured = rw (tail-part (at-start .args .keep .now)) at (at-alts-length .alts-length .ensures) in
-    let room = measured-room alts keep gl ad (at-start .pre) out (at-has-room .has-room .ensures) measured (at-num-genotype-likelihoods .num-genotype-likelihoods .ensures) ∙ not-false _ (at-if3 .if3 .left) in
+    let room = measured-room alts keep gl ad (at-start .pre) out (at-has-room .has-room .ensures) measured
+    (at-num-genotype-likelihoods .num-genotype-likelihoods .ensures) ∙ not-false _ (at-if3 .if3 .left) in
     answered-written (with-room (subsetRecord alts keep gl ad (at-start .pre)) out room (subset-accepted alts keep gl ad (at-start .pre) fits counts))
-    (alts-measured alts keep gl ad (at-start .pre) measured) (likelihoods-measured alts keep gl ad (at-start .pre) (at-num-genotype-likelihoods .num-genotype-likelihoods .ensures)) (ad-measured alts keep gl ad (at-start .pre))
+    (alts-measured alts keep gl ad (at-start .pre) measured) (likelihoods-measured alts keep gl ad (at-start .pre)
+    (at-num-genotype-likelihoods .num-genotype-likelihoods .ensures)) (ad-measured alts keep gl ad (at-start .pre))
     (room-of (subsetRecord alts keep gl ad (at-start .pre)) out room)
     (record {
       alts = alts-stored alts keep gl ad (at-start .pre) (rw (tail-part (at-start .args .keep .now)) at (at-put-alts .put-alts .ensures));
