@@ -14,9 +14,10 @@ use Rattle.allele_subsetting_pl.proofs.Alts.{alts-length}
 use Rattle.allele_subsetting_pl.specs.KeepLists.{KeepList, altsWith, isAssigned, onlyAssigned}
 use Rattle.allele_subsetting_pl.specs.UnusedAlts.{AssignedKeep}
 use Rattle.definitions.specs.AlleleSubset.{assignedAlleles}
-use Rattle.definitions.specs.Lists.{filterBy, numbersFrom}
+use Rattle.definitions.specs.Lists.{allOf, filterBy, numbersFrom}
 use Rattle.laws.proofs.Every.{Every, every-filter, every-map, every-numbers, passes-every}
 use Rattle.laws.proofs.Members.{filter-few, length-numbers}
+use Rattle.laws.proofs.Tests.{both-of}
 
 -- the assigned alleles from one on
 pub assignedFrom : List ℕ → ℕ → ℕ → List ℕ
@@ -58,6 +59,11 @@ module _ (gt : List ℕ) (n : ℕ) where
 pub tail-part : (l : List ℕ) → take (length l - 1) (drop 1 l) ≡ tail l
 tail-part [] = refl
 tail-part (x ∷ l) = let rest : suc (length l) - 1 ≡ length l = omega arith in rw rest (take-length l)
+
+pub tail-passes : (p : ℕ → Bool) (l : List ℕ) → allOf p l ≡ true → allOf p (tail l) ≡ true
+unfolding allOf
+tail-passes p [] e = e
+tail-passes p (x ∷ l) e = both-of (p x) (allOf p l) e .1
 
 -- REF comes first
 pub ref-first : (gt : List ℕ) (n : ℕ) → assignedAlleles (suc n) gt ≡ 0 ∷ filterBy (isAssigned gt) (numbersFrom 1 n)

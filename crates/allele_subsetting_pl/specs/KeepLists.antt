@@ -1,5 +1,5 @@
 -- What the functions behind the checks of row 15 ask and promise.
-use Prim.Native.Nat.{_-_, _≤_, ℕ}
+use Prim.Native.Nat.{_+_, _-_, _<_, _^_, _≤_, ℕ}
 use lib.Dec.{eqb, ltb}
 use lib.Ieee.{Float, fin}
 use lib.IntN.{pos}
@@ -34,3 +34,8 @@ altWith alts a = getD (altFields alts) (a - 1) []
 
 unfoldable pub altsWith : List ℕ → List ℕ → List ℕ
 altsWith alts numbers = joinedBy comma (map (altWith alts) numbers)
+
+-- ALTs with numbers below 16 can be laid: their bytes can be counted
+pub record AltNumbers (alts numbers : List ℕ) : Type 0 where
+  pub counted : 0 + length (altsWith alts numbers) < 2 ^ 64
+  pub alleles : allOf (λ a. ltb a 16) numbers ≡ true

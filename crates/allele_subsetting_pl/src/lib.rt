@@ -15,9 +15,10 @@ ghost use Rattle.answers.specs.Answered.{Answered};
 ghost use Rattle.genotype_values.specs.Values.{mappedPlace};
 ghost use Rattle.kv_write.specs.Laid.{Laid};
 ghost use Rattle.likelihoods.specs.Written.{countOf, noneAbove};
-ghost use Rattle.allele_subsetting_pl.specs.KeepLists.{KeepList, absentLikelihood, altWith, altsWith, isAssigned, onlyAssigned};
+ghost use Rattle.allele_subsetting_pl.specs.KeepLists.{AltNumbers, KeepList, absentLikelihood, altWith, altsWith, isAssigned, onlyAssigned};
 ghost use Rattle.allele_subsetting_pl.specs.UnusedAlts.{AssignedKeep, UnusedAltsAnswered, likelihoodCountOf, outputs, subsetNoneAbove, subsetWithin, wholeRecord};
 use answers::Outcome;
+use bio_ids::AlleleIndex;
 use genotype_values::MappedAt;
 use kv_text::FieldAt;
 
@@ -73,12 +74,19 @@ fn subset_fits(gl: &[f64], alleles: usize, keep: &[usize]) -> bool
 
 // ---- likelihoods
 
-// Stores an allele's number, if there is room at the place.
-fn put_allele(map: &mut [u8], place: usize, allele: usize)
-    requires { ⌜ allele < 16 ⌝ }
-    ensures { λ _. ⌜ now (map .exit) ≡ set (now (map .entry)) place allele ⌝ }
+// The allele at a place of a list of numbers below 16.
+fn allele_at(numbers: &[usize], place: usize) -> AlleleIndex
+    requires { ⌜ (place < length (now numbers)) × (allOf (λ a. ltb a 16) (now numbers) ≡ true) ⌝ }
+    ensures { λ r. ⌜ r .0 ≡ getD (now (numbers .entry)) place 0 ⌝ }
 {
-    let number = allele as u8;
+    AlleleIndex::new(numbers[place] as u8)
+}
+
+// Stores an allele's number, if there is room at the place.
+fn put_allele(map: &mut [u8], place: usize, allele: AlleleIndex)
+    ensures { λ _. ⌜ now (map .exit) ≡ set (now (map .entry)) place (allele .0) ⌝ }
+{
+    let number = allele.get() as u8;
     if place < map.len() {
         map[place] = number;
     }
@@ -90,7 +98,7 @@ fn allele_map(keep: &[usize], map: &mut [u8])
     ensures { λ _. ⌜ now (map .exit) ≡ sets (now (map .entry)) 0 (now (keep .entry)) ⌝ }
 {
     for i in 0..keep.len() {
-        let allele = keep[i];
+        let allele = allele_at(keep, i);
         put_allele(map, i, allele);
     }
 }
@@ -180,15 +188,16 @@ fn alt_count(alts: &[u8]) -> usize
 }
 
 // Whether an allele is REF or one that the GT names.
-fn is_assigned(gt: &[usize], allele: usize) -> bool
-    ensures { λ r. ⌜ r ≡ isAssigned (now (gt .entry)) allele ⌝ }
+fn is_assigned(gt: &[usize], allele: AlleleIndex) -> bool
+    ensures { λ r. ⌜ r ≡ isAssigned (now (gt .entry)) (allele .0) ⌝ }
 {
-    if allele == 0 {
+    let number = allele.get();
+    if number == 0 {
         return true;
     }
     for i in 0..gt.len() {
         let g = gt[i];
-        if g == allele {
+        if g == number {
             return true;
         }
     }
@@ -196,16 +205,17 @@ fn is_assigned(gt: &[usize], allele: usize) -> bool
 }
 
 // Puts an allele into a keep list if it is assigned, and returns how many the list then has.
-fn keep_assigned(keep: &mut [usize], count: usize, allele: usize, assigned: bool) -> usize
-    requires { ⌜ count + length (onlyAssigned assigned allele) < 2 ^ 64 ⌝ }
-    ensures { λ r. ⌜ Laid (now (keep .entry)) count (onlyAssigned assigned allele) (now (keep .exit)) r ⌝ }
+fn keep_assigned(keep: &mut [usize], count: usize, allele: AlleleIndex, assigned: bool) -> usize
+    requires { ⌜ count + length (onlyAssigned assigned (allele .0)) < 2 ^ 64 ⌝ }
+    ensures { λ r. ⌜ Laid (now (keep .entry)) count (onlyAssigned assigned (allele .0)) (now (keep .exit)) r ⌝ }
 {
+    let number = allele.get();
     if !assigned {
         return count;
     }
     let next = count + 1;
     if count < keep.len() {
-        keep[count] = allele;
+        keep[count] = number;
     }
     next
 }
@@ -220,26 +230,28 @@ fn output_allele_keep_indices_from_assigned_gt(
     ensures { λ r. ⌜ Laid (now (keep .entry)) 0 (assignedAlleles alleles (now (gt .entry))) (now (keep .exit)) r ⌝ }
 {
     let mut count = 0;
-    for allele in 0..alleles {
+    for number in 0..alleles {
+        let allele = AlleleIndex::new(number as u8);
         let assigned = is_assigned(gt, allele);
         count = keep_assigned(keep, count, allele, assigned);
     }
     count
 }
 
-// The place among the ALTs of an allele's number.
-fn alt_index(number: usize) -> usize
-    ensures { λ r. ⌜ r ≡ number - 1 ⌝ }
+// The place among the ALTs of an allele; that of the first for REF.
+fn alt_index(allele: AlleleIndex) -> usize
+    ensures { λ r. ⌜ r ≡ allele .0 - 1 ⌝ }
 {
-    if number == 0 {
+    let index = allele.get();
+    if index == 0 {
         return 0;
     }
-    number - 1
+    index - 1
 }
 
 // The ALT with an allele number; nothing if there is none.
-fn alt_at<'a>(alts: &'a [u8], allele: usize) -> &'a [u8]
-    ensures { λ r. ⌜ now r ≡ altWith (now (alts .entry)) allele ⌝ }
+fn alt_at<'a>(alts: &'a [u8], allele: AlleleIndex) -> &'a [u8]
+    ensures { λ r. ⌜ now r ≡ altWith (now (alts .entry)) (allele .0) ⌝ }
 {
     let found = kv_text::field_at(alts, b',', alt_index(allele));
     match found {
@@ -249,9 +261,9 @@ fn alt_at<'a>(alts: &'a [u8], allele: usize) -> &'a [u8]
 }
 
 // Lays the ALT with an allele number.
-fn put_alt(out: &mut [u8], at: usize, alts: &[u8], allele: usize) -> usize
-    requires { ⌜ at + length (altWith (now alts) allele) < 2 ^ 64 ⌝ }
-    ensures { λ r. ⌜ Laid (now (out .entry)) at (altWith (now (alts .entry)) allele) (now (out .exit)) r ⌝ }
+fn put_alt(out: &mut [u8], at: usize, alts: &[u8], allele: AlleleIndex) -> usize
+    requires { ⌜ at + length (altWith (now alts) (allele .0)) < 2 ^ 64 ⌝ }
+    ensures { λ r. ⌜ Laid (now (out .entry)) at (altWith (now (alts .entry)) (allele .0)) (now (out .exit)) r ⌝ }
 {
     let alt = alt_at(alts, allele);
     kv_write::put_bytes(out, at, alt)
@@ -259,17 +271,17 @@ fn put_alt(out: &mut [u8], at: usize, alts: &[u8], allele: usize) -> usize
 
 // Lays the ALTs with these numbers, with commas between.
 fn put_alts(out: &mut [u8], alts: &[u8], numbers: &[usize]) -> usize
-    requires { ⌜ 0 + length (altsWith (now alts) (now numbers)) < 2 ^ 64 ⌝ }
+    requires { ⌜ AltNumbers (now alts) (now numbers) ⌝ }
     ensures { λ r. ⌜ Laid (now (out .entry)) 0 (altsWith (now (alts .entry)) (now (numbers .entry))) (now (out .exit)) r ⌝ }
 {
     if numbers.len() == 0 {
         return 0;
     }
-    let first = numbers[0];
+    let first = allele_at(numbers, 0);
     let mut next = put_alt(out, 0, alts, first);
     for i in 1..numbers.len() {
         next = kv_write::put_byte(out, next, b',');
-        let allele = numbers[i];
+        let allele = allele_at(numbers, i);
         next = put_alt(out, next, alts, allele);
     }
     next
@@ -277,7 +289,7 @@ fn put_alts(out: &mut [u8], alts: &[u8], numbers: &[usize]) -> usize
 
 // How many bytes the ALTs with these numbers take, with commas between.
 fn alts_length(alts: &[u8], numbers: &[usize]) -> usize
-    requires { ⌜ 0 + length (altsWith (now alts) (now numbers)) < 2 ^ 64 ⌝ }
+    requires { ⌜ AltNumbers (now alts) (now numbers) ⌝ }
     ensures { λ r. ⌜ r ≡ length (altsWith (now (alts .entry)) (now (numbers .entry))) ⌝ }
 {
     let mut room = [0u8; 1];

@@ -1,10 +1,24 @@
 // The alleles of a `ref` and an `alt` value: their spelling, length, number and repeats (row 5).
 ghost use mathlib.Core.Path.{_≡_};
 ghost use Rattle.definitions.specs.Alleles.{alleleOf};
-ghost use Rattle.definitions.specs.Bytes.{comma, fieldsOf, sameBytes};
+ghost use Rattle.definitions.specs.Bytes.{comma, fieldsOf, sameBytes, text};
 ghost use Rattle.definitions.specs.Lists.{allDistinct, allOf, anyOf, isThere};
 ghost use Rattle.alleles.specs.Alleles.{AllelesFound};
 use kv_text::AlleleRead;
+
+// Whether an allele is `<NON_REF>`.
+pub fn is_non_ref(allele: &[u8]) -> bool
+    ensures { λ r. ⌜ r ≡ sameBytes (now (allele .entry)) (text "<NON_REF>") ⌝ }
+{
+    kv_text::same_bytes(allele, b"<NON_REF>")
+}
+
+// Whether an allele is `*`.
+pub fn is_span_del(allele: &[u8]) -> bool
+    ensures { λ r. ⌜ r ≡ sameBytes (now (allele .entry)) (text "*") ⌝ }
+{
+    kv_text::same_bytes(allele, b"*")
+}
 
 // Whether a field is among those of a list with commas.
 pub fn among_fields(field: &[u8], list: &[u8]) -> bool

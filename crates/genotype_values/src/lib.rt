@@ -112,13 +112,14 @@ fn room_for(count: usize, at: usize, len: usize) -> usize
 }
 
 // Lays the PLs of the record's pairs whose higher allele is `high`, by the lower, as far as they fit.
-fn remap_pl_row(map: &[u8], pl: &[u32], high: usize, out: &mut [u32], at: usize)
-    requires { ⌜ high < length (now map) ⌝ }
-    ensures { λ _. ⌜ now (out .exit) ≡ sets (now (out .entry)) at (plRow (now (map .entry)) (now (pl .entry)) high) ⌝ }
+fn remap_pl_row(map: &[u8], pl: &[u32], high: AlleleIndex, out: &mut [u32], at: usize)
+    requires { ⌜ high .0 < length (now map) ⌝ }
+    ensures { λ _. ⌜ now (out .exit) ≡ sets (now (out .entry)) at (plRow (now (map .entry)) (now (pl .entry)) (high .0)) ⌝ }
 {
-    let b = AlleleIndex::new(map[high]);
+    let last = high.get();
+    let b = AlleleIndex::new(map[last]);
     let row = diploid_pairs::place_of(AlleleIndex::reference(), b);
-    let room = room_for(high + 1, at, out.len());
+    let room = room_for(last + 1, at, out.len());
     for low in 0..room {
         let a = AlleleIndex::new(map[low]);
         let x = value_at(pl, place_in_row(a, b, row));
@@ -135,9 +136,10 @@ pub fn remap_pl(map: &[u8], pl: &[u32], out: &mut [u32]) -> usize
         return 0;
     }
     let mut at = 0;
-    for high in 0..alleles {
+    for number in 0..alleles {
+        let high = AlleleIndex::new(number as u8);
         remap_pl_row(map, pl, high, out, at);
-        at += high + 1;
+        at += number + 1;
     }
     at
 }

@@ -29,7 +29,8 @@ shared-slice-read-n c = search needs
 returns : tie.Need-returns Inv-loop μ-loop
 returns c =
     let at-loop = c .before .before .before in
-    sym (all-failed _ (c .before .before .before .before .args .numbers .now) 0 (at-loop .loop .i) (c .before .before .loop-test .taken) (le-ltb _ _ (c .if1 .taken))) ∙ (at-loop .loop .inv .1)
+    sym (all-failed _ (c .before .before .before .before .args .numbers .now) 0 (at-loop .loop .i) (c .before .before .loop-test .taken)
+    (le-ltb _ _ (c .if1 .taken))) ∙ (at-loop .loop .inv .1)
 
 add-i : tie.Need-add-i Inv-loop μ-loop
 add-i c = search needs
@@ -39,8 +40,11 @@ loop-less c = search needs
 
 loop-again : tie.Need-loop-again Inv-loop μ-loop
 loop-again c =
-    let at-loop = c .before .before .before in
-    ((at-loop .loop .inv .0), sym (all-next _ (c .before .before .before .before .args .numbers .now) 0 (at-loop .loop .i) (c .before .before .loop-test .taken) (lt-ltb _ _ (c .if1 .left))) ∙ (at-loop .loop .inv .1))
+    let at-loop = c .before .before .before in (
+      (at-loop .loop .inv .0),
+      sym (all-next _ (c .before .before .before .before .args .numbers .now) 0 (at-loop .loop .i)
+          (c .before .before .loop-test .taken) (lt-ltb _ _ (c .if1 .left))) ∙ (at-loop .loop .inv .1),
+    )
 
 returns-2 : tie.Need-returns-2 Inv-loop μ-loop
 returns-2 c =

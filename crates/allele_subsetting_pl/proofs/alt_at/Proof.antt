@@ -26,12 +26,14 @@ returns : tie.Need-returns
 returns c =
     let at-alt-index = c .before .before .before .before .before in
     let at-start = at-alt-index .before .before in
-    alt-found (at-start .args .alts .now) (at-start .args .allele) (at-alt-index .alt-index .ensures) _ _ (rw (c .before .before .found .given .1) at (c .before .before .before .before .field-at .ensures)) (c .part .ensures)
+    alt-found (at-start .args .alts .now) (at-start .args .allele .0) (at-alt-index .alt-index .ensures) _ _
+    (rw (c .before .before .found .given .1) at (c .before .before .before .before .field-at .ensures)) (c .part .ensures)
 
 returns-2 : tie.Need-returns-2
 returns-2 c =
     let at-start = c .before .before .before .before .before .before in
-    alt-absent (at-start .args .alts .now) (at-start .args .allele) (c .before .before .before .before .alt-index .ensures) (rw (c .before .enum-told .given .1) at (c .before .before .before .field-at .ensures)) (c .part2 .ensures)
+    alt-absent (at-start .args .alts .now) (at-start .args .allele .0) (c .before .before .before .before .alt-index .ensures)
+    (rw (c .before .enum-told .given .1) at (c .before .before .before .field-at .ensures)) (c .part2 .ensures)
 
 pub alt-at-spec : {M : Type 1} → statement M
 alt-at-spec =

@@ -52,7 +52,12 @@ returns-2 c =
     let out = outputs (at-start .args .alts-out .now) (at-start .args .gl-out .now) (at-start .args .ad-out .now) in
     let fits = passed (at-has-room .has-room .ensures) (at-if1 .if1 .left) in
     answered-written (with-room whole out fits refl) refl refl refl (room-of whole out fits)
-    (record { alts = (at-put-bytes .put-bytes .ensures .laid); likelihoods = (at-copy-likelihoods .copy-likelihoods .ensures); ad = (c .before .before .copy-ad .ensures) })
+    (record {
+      alts = (at-put-bytes .put-bytes .ensures .laid);
+      likelihoods = (at-copy-likelihoods .copy-likelihoods .ensures);
+      ad =
+          (c .before .before .copy-ad .ensures);
+    })
 
 pub copy-record-spec : {M : Type 1} → statement M
 copy-record-spec =

@@ -12,16 +12,19 @@ use Rattle.allele_subsetting_pl.proofs.is_assigned.Statement.{statement
 use Rattle.allele_subsetting_pl.proofs.is_assigned.Tie as tie
 
 abbrev Inv-loop : tie.InvT-loop
-Inv-loop gt allele i₀ i-end i = (i-end ≡ length gt) × (anyOf (eqb allele) (drop i gt) ≡ isAssigned gt allele)
+Inv-loop gt number i₀ i-end i = (i-end ≡ length gt) × (anyOf (eqb number) (drop i gt) ≡ isAssigned gt number)
 
 abbrev μ-loop : tie.MeasureT-loop
-μ-loop gt allele i₀ i-end i = i-end - i
+μ-loop gt number i₀ i-end i = i-end - i
+
+get-requires : tie.Need-get-requires Inv-loop μ-loop
+get-requires c κs = search needs
 
 returns : tie.Need-returns Inv-loop μ-loop
-returns c = simp (eq-eqb _ _ (c .if1 .taken))
+returns c = rw (← (c .before .get .ensures)) (simp (eq-eqb _ _ ((c .if1 .taken))))
 
 loop-holds : tie.Need-loop-holds Inv-loop μ-loop
-loop-holds c = (refl, simp (ne-eqb _ _ (c .if1 .left)))
+loop-holds c = (refl, simp (ne-eqb _ _ ((c .if1 .left))))
 
 mul-g : tie.Need-mul-g Inv-loop μ-loop
 mul-g c = search needs
@@ -32,8 +35,10 @@ shared-slice-read-g c = search needs
 returns-2 : tie.Need-returns-2 Inv-loop μ-loop
 returns-2 c =
     let at-loop = c .before .before .before in
-    let at-start = at-loop .before .before in
-    sym (any-found _ (at-start .args .gt .now) 0 (at-loop .loop .i) (c .before .before .loop-test .taken) (eq-eqb _ _ (sym (c .if2 .taken)))) ∙ (at-loop .loop .inv .1)
+    let at-get = at-loop .before .before in
+    let at-start = at-get .before .before in
+    rw (← (at-get .get .ensures)) (sym (any-found _ (at-start .args .gt .now) 0 (at-loop .loop .i) (c .before .before .loop-test .taken)
+    (eq-eqb _ _ (sym (c .if2 .taken)))) ∙ (at-loop .loop .inv .1))
 
 add-i : tie.Need-add-i Inv-loop μ-loop
 add-i c = search needs
@@ -44,13 +49,18 @@ loop-less c = search needs
 loop-again : tie.Need-loop-again Inv-loop μ-loop
 loop-again c =
     let at-loop = c .before .before .before in
-    let at-start = at-loop .before .before in
-    ((at-loop .loop .inv .0), sym (any-next _ (at-start .args .gt .now) 0 (at-loop .loop .i) (c .before .before .loop-test .taken) (ne-eqb _ _ (λ e. (c .if2 .left) (sym e)))) ∙ (at-loop .loop .inv .1))
+    let at-start = at-loop .before .before .before .before in (
+      (at-loop .loop .inv .0),
+      sym (any-next _ (at-start .args .gt .now) 0 (at-loop .loop .i) (c .before .before .loop-test .taken)
+          (ne-eqb _ _ (λ e. (c .if2 .left) (sym e)))) ∙ (at-loop .loop .inv .1),
+    )
 
 returns-3 : tie.Need-returns-3 Inv-loop μ-loop
 returns-3 c =
     let at-loop = c .before in
-    sym (any-end _ (c .before .before .before .args .gt .now) (at-loop .loop .i) (c .loop-test .left)) ∙ (at-loop .loop .inv .1)
+    let at-start = at-loop .before .before .before .before in
+    rw (← (c .before .before .before .get .ensures)) (sym (any-end _ (at-start .args .gt .now) (at-loop .loop .i) (c .loop-test .left)) ∙
+    (at-loop .loop .inv .1))
 
 pub is-assigned-spec : {M : Type 1} → statement M
 is-assigned-spec =
@@ -58,6 +68,7 @@ is-assigned-spec =
     (tie.spec
     Inv-loop
     μ-loop
+    get-requires
     returns
     loop-holds
     mul-g

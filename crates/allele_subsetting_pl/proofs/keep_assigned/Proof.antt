@@ -22,15 +22,18 @@ left-out {count = count} a b e = rw e (record { next = omega arith; laid = refl 
 put-in : {keep keep′ : List ℕ} {count : ℕ} (a : ℕ) (b : Bool) → b ≡ true → keep′ ≡ set keep count a → Laid keep count (onlyAssigned b a) keep′ (count + 1)
 put-in a b e h = rw e (record { next = refl; laid = h })
 
+get-requires : tie.Need-get-requires
+get-requires c κs = search needs
+
 returns : tie.Need-returns
 returns c =
-    let at-start = c .before in
-    left-out (at-start .args .allele) (at-start .args .assigned) (not-true _ (c .if1 .taken))
+    let at-start = c .before .before .before in
+    left-out (at-start .args .allele .0) (at-start .args .assigned) (not-true _ (c .if1 .taken))
 
 add-next : tie.Need-add-next
 add-next c =
-    let at-start = c .before in
-    omega (arith, room-for (at-start .args .count) (at-start .args .allele) (at-start .args .assigned) (not-false _ (c .if1 .left)) (at-start .pre))
+    let at-start = c .before .before .before in
+    omega (arith, room-for (at-start .args .count) (at-start .args .allele .0) (at-start .args .assigned) (not-false _ (c .if1 .left)) (at-start .pre))
 
 mul-keep : tie.Need-mul-keep
 mul-keep c = search needs
@@ -43,14 +46,23 @@ same-length c = search needs
 
 returns-2 : tie.Need-returns-2
 returns-2 c =
-    let at-start = c .before .before in
-    put-in (at-start .args .allele) (at-start .args .assigned) (not-false _ (c .before .if1 .left)) refl
+    let at-start = c .before .before .before .before in
+    put-in (at-start .args .allele .0) (at-start .args .assigned) (not-false _ (c .before .if1 .left)) (rw (c .before .before .get .ensures))
 
 returns-3 : tie.Need-returns-3
 returns-3 c =
-    let at-start = c .before .before in
-    put-in (at-start .args .allele) (at-start .args .assigned) (not-false _ (c .before .if1 .left)) (sym (set-out (at-start .args .keep .now) (at-start .args .count) (at-start .args .allele) (c .if2 .left)))
+    let at-start = c .before .before .before .before in
+    put-in (at-start .args .allele .0) (at-start .args .assigned) (not-false _ (c .before .if1 .left)) (sym (set-out _ _ _ (c .if2 .left)))
 
 pub keep-assigned-spec : {M : Type 1} → statement M
 keep-assigned-spec =
-    tie.close (tie.spec returns add-next mul-keep slice-write-keep same-length returns-2 returns-3)
+    tie.close
+    (tie.spec
+    get-requires
+    returns
+    add-next
+    mul-keep
+    slice-write-keep
+    same-length
+    returns-2
+    returns-3)

@@ -53,8 +53,10 @@ loop-again c =
     let keep = (at-start .args .map .now) in
     let gl = (at-start .args .gl .now) in
     let n = length keep in
-    let there = picked-there (pickedAt keep gl) n (at-loop .loop .place) (at-start .pre) (omega (arith, (at-num-genotype-likelihoods .num-genotype-likelihoods .ensures))) in
-    next-stored (pickedAt keep gl) (genotypePairs n) noPair (omega (arith, (at-num-genotype-likelihoods .num-genotype-likelihoods .ensures), genotype-pairs-length n))
+    let there = picked-there (pickedAt keep gl) n (at-loop .loop .place) (at-start .pre)
+    (omega (arith, (at-num-genotype-likelihoods .num-genotype-likelihoods .ensures))) in
+    next-stored (pickedAt keep gl) (genotypePairs n) noPair (omega
+    (arith, (at-num-genotype-likelihoods .num-genotype-likelihoods .ensures), genotype-pairs-length n))
     ((c .before .before .before .before .mapped-likelihood .ensures) ∙ there) (c .before .before .put-value .ensures) (at-loop .loop .inv)
 
 same-length : tie.Need-same-length Inv-loop μ-loop
@@ -65,7 +67,8 @@ returns c =
     let at-start = c .before .before .before .before .before .before in
     let keep = (at-start .args .map .now) in
     let n = length keep in
-    all-stored (pickedAt keep (at-start .args .gl .now)) (genotypePairs n) (omega (arith, (c .before .before .num-genotype-likelihoods .ensures), genotype-pairs-length n)) (c .before .loop .inv)
+    all-stored (pickedAt keep (at-start .args .gl .now)) (genotypePairs n)
+    (omega (arith, (c .before .before .num-genotype-likelihoods .ensures), genotype-pairs-length n)) (c .before .loop .inv)
 
 pub pick-likelihoods-spec : {M : Type 1} → statement M
 pick-likelihoods-spec =

@@ -31,28 +31,30 @@ unfolding behind comma
 comma-laid alts ns i h p l = one p (recast (each-next comma (altWith alts) ns 0 i h) l)
 
 abbrev Inv-loop : tie.InvT-loop
-Inv-loop out₀ alts numbers first next₀ i₀ i-end out next i =
+Inv-loop out₀ alts numbers next₀ i₀ i-end out next i =
     Left out₀ next₀ (behind alts (drop 1 numbers)) out next (behind alts (drop i numbers))
 
 abbrev μ-loop : tie.MeasureT-loop
-μ-loop out₀ alts numbers first next₀ i₀ i-end out next i = i-end - i
+μ-loop out₀ alts numbers next₀ i₀ i-end out next i = i-end - i
 
 returns : tie.Need-returns Inv-loop μ-loop
-returns c = rw (none-laid (c .before .before .before .before .args .alts .now) _ (c .if1 .taken)) laid-none
+returns c = rw (none-laid ((c .before .before .before .before .args .alts .now)) _ ((c .if1 .taken))) laid-none
 
-shared-slice-read-first : tie.Need-shared-slice-read-first Inv-loop μ-loop
-shared-slice-read-first c = search needs
+allele-at-requires : tie.Need-allele-at-requires Inv-loop μ-loop
+allele-at-requires c κs = (omega (arith, (c .if1 .left)), (c .before .before .before .before .pre .alleles))
 
 put-alt-requires : tie.Need-put-alt-requires Inv-loop μ-loop
 put-alt-requires c κs =
     let at-start = c .before .before .before .before .before .before in
-    fits-first _ (altWith (at-start .args .alts .now) _) _ (rw (first-then (at-start .args .alts .now) _ (c .before .before .if1 .left)) at (at-start .pre))
+    rw (c .before .allele-at .ensures) (fits-first _ (altWith (at-start .args .alts .now) _) _
+    (rw (first-then (at-start .args .alts .now) _ (c .before .before .if1 .left)) at (at-start .pre .counted)))
 
 loop-holds : tie.Need-loop-holds Inv-loop μ-loop
 loop-holds c =
     let at-if1 = c .before .before .before .before .before in
     let at-start = at-if1 .before .before .before .before in
-    start (fits-rest _ (c .before .before .put-alt .ensures) (rw (first-then (at-start .args .alts .now) _ (at-if1 .if1 .left)) at (at-start .pre)))
+    start (fits-rest _ (rw (c .before .before .before .before .allele-at .ensures) at (c .before .before .put-alt .ensures))
+    (rw (first-then (at-start .args .alts .now) _ (at-if1 .if1 .left)) at (at-start .pre .counted)))
 
 put-byte-requires : tie.Need-put-byte-requires Inv-loop μ-loop
 unfolding behind
@@ -60,18 +62,18 @@ put-byte-requires c κs =
     let at-start = c .before .before .before .before .before .before .before .before .before .before .before .before in
     omega (arith, (recast (each-next comma (altWith (at-start .args .alts .now)) _ 0 _ (c .before .loop-test .taken)) (c .before .before .loop .inv)) .fits)
 
-mul-allele : tie.Need-mul-allele Inv-loop μ-loop
-mul-allele c = search needs
-
-shared-slice-read-allele : tie.Need-shared-slice-read-allele Inv-loop μ-loop
-shared-slice-read-allele c = search needs
+allele-at-requires-2 : tie.Need-allele-at-requires-2 Inv-loop μ-loop
+allele-at-requires-2 c κs =
+    let at-start = c .before .before .before .before .before .before .before .before .before .before .before .before .before .before .before in
+    ((c .before .before .before .before .loop-test .taken), (at-start .pre .alleles))
 
 put-alt-requires-2 : tie.Need-put-alt-requires-2 Inv-loop μ-loop
 put-alt-requires-2 c κs =
     let at-loop-test = c .before .before .before .before .before .before in
     let at-loop = at-loop-test .before in
     let at-start = at-loop .before .before .before .before .before .before .before .before .before .before in
-    room (altWith (at-start .args .alts .now) _) _ (comma-laid (at-start .args .alts .now) _ _ (at-loop-test .loop-test .taken) (c .before .before .before .before .put-byte .ensures) (at-loop .loop .inv))
+    rw (c .before .allele-at2 .ensures) (room (altWith (at-start .args .alts .now) _) _
+    (comma-laid (at-start .args .alts .now) _ _ (at-loop-test .loop-test .taken) (c .before .before .before .before .put-byte .ensures) (at-loop .loop .inv)))
 
 add-i : tie.Need-add-i Inv-loop μ-loop
 add-i c = search needs
@@ -85,18 +87,21 @@ loop-again c =
     let at-loop-test = at-put-byte .before .before in
     let at-loop = at-loop-test .before in
     let at-start = at-loop .before .before .before .before .before .before .before .before .before .before in
-    several (c .before .before .put-alt2 .ensures) (comma-laid (at-start .args .alts .now) _ _ (at-loop-test .loop-test .taken) (at-put-byte .put-byte .ensures) (at-loop .loop .inv))
+    several (rw (c .before .before .before .before .allele-at2 .ensures) at (c .before .before .put-alt2 .ensures))
+    (comma-laid (at-start .args .alts .now) _ _ (at-loop-test .loop-test .taken) (at-put-byte .put-byte .ensures) (at-loop .loop .inv))
 
 same-length : tie.Need-same-length Inv-loop μ-loop
-same-length c = left-length (c .before .loop .inv) ∙ ((c .before .before .before .before .put-alt .kept .0))
+same-length c = left-length ((c .before .loop .inv)) ∙ ((c .before .before .before .before .put-alt .kept .0))
 
 returns-2 : tie.Need-returns-2 Inv-loop μ-loop
 unfolding behind
 returns-2 c =
-    let at-if1 = c .before .before .before .before .before .before .before in
+    let at-allele-at = c .before .before .before .before .before .before in
+    let at-if1 = at-allele-at .before in
     let at-start = at-if1 .before .before .before .before in
-    let rest = done (recast (each-end comma (altWith (at-start .args .alts .now)) _ _ (c .loop-test .left)) (c .before .loop .inv)) in
-    rw (first-then (at-start .args .alts .now) _ (at-if1 .if1 .left)) (laid-append (c .before .before .before .before .put-alt .ensures) rest)
+    rw (first-then (at-start .args .alts .now) _ (at-if1 .if1 .left))
+    (laid-append (rw (at-allele-at .allele-at .ensures) at (c .before .before .before .before .put-alt .ensures))
+    (done (recast (each-end comma (altWith (at-start .args .alts .now)) _ _ (c .loop-test .left)) (c .before .loop .inv))))
 
 pub put-alts-spec : {M : Type 1} → statement M
 put-alts-spec =
@@ -105,12 +110,11 @@ put-alts-spec =
     Inv-loop
     μ-loop
     returns
-    shared-slice-read-first
+    allele-at-requires
     put-alt-requires
     loop-holds
     put-byte-requires
-    mul-allele
-    shared-slice-read-allele
+    allele-at-requires-2
     put-alt-requires-2
     add-i
     loop-less

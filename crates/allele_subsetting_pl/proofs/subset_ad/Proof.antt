@@ -31,7 +31,8 @@ returns : tie.Need-returns
 returns c =
     let at-allele-map = c .before .before .before .before .before .before in
     let at-start = at-allele-map .before .before .before .before .before in
-    (c .before .before .remap-ad .ensures) ∙ ap (λ k. sets (at-start .args .out .now) 0 (remappedAd k (at-start .args .ad .now))) (front (at-start .args .keep .now) _ (at-allele-map .allele-map .ensures) (at-start .pre .few) refl)
+    (c .before .before .remap-ad .ensures) ∙ ap (λ k. sets (at-start .args .out .now) 0 (remappedAd k (at-start .args .ad .now)))
+    (front (at-start .args .keep .now) _ (at-allele-map .allele-map .ensures) (at-start .pre .few) refl)
 
 pub subset-ad-spec : {M : Type 1} → statement M
 subset-ad-spec =

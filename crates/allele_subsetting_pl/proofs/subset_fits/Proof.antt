@@ -12,7 +12,8 @@ num-genotype-likelihoods-requires c κs = search needs
 returns : tie.Need-returns
 returns c =
     let at-start = c .before .before .before .before in
-    sym (other-count (at-start .args .gl .now) (at-start .args .alleles) (at-start .args .keep .now) (λ e. (c .if1 .taken) (e ∙ sym (c .before .num-genotype-likelihoods .ensures))))
+    sym (other-count (at-start .args .gl .now) (at-start .args .alleles) (at-start .args .keep .now)
+    (λ e. (c .if1 .taken) (e ∙ sym (c .before .num-genotype-likelihoods .ensures))))
 
 returns-2 : tie.Need-returns-2
 returns-2 c =
@@ -25,7 +26,8 @@ all-in-range-requires c κs = search needs
 returns-3 : tie.Need-returns-3
 returns-3 c =
     let at-start = c .before .before .before .before .before .before .before in
-    sym (out-of-range (at-start .args .gl .now) (at-start .args .alleles) (at-start .args .keep .now) (failed (c .before .all-in-range .ensures) (c .if3 .taken)))
+    sym (out-of-range (at-start .args .gl .now) (at-start .args .alleles) (at-start .args .keep .now)
+    (failed (c .before .all-in-range .ensures) (c .if3 .taken)))
 
 all-below-requires : tie.Need-all-below-requires
 all-below-requires c κs = search needs
@@ -34,7 +36,9 @@ returns-4 : tie.Need-returns-4
 returns-4 c =
     let at-num-genotype-likelihoods = c .before .before .before .before .before in
     let at-start = at-num-genotype-likelihoods .before .before .before in
-    (c .all-below .ensures) ∙ sym (only-alleles (at-start .args .gl .now) (at-start .args .alleles) (at-start .args .keep .now) ((c .before .before .before .before .if1 .left) ∙ (at-num-genotype-likelihoods .num-genotype-likelihoods .ensures)) (c .before .before .before .if2 .left) (passed (c .before .before .all-in-range .ensures) (c .before .if3 .left)))
+    (c .all-below .ensures) ∙ sym (only-alleles (at-start .args .gl .now) (at-start .args .alleles) (at-start .args .keep .now)
+    ((c .before .before .before .before .if1 .left) ∙ (at-num-genotype-likelihoods .num-genotype-likelihoods .ensures))
+    (c .before .before .before .if2 .left) (passed (c .before .before .all-in-range .ensures) (c .before .if3 .left)))
 
 pub subset-fits-spec : {M : Type 1} → statement M
 subset-fits-spec =

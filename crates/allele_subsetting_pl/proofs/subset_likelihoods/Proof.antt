@@ -73,7 +73,9 @@ array-share-prefix-picked c =
     let at-allele-map = at-here in
     let at-num-genotype-likelihoods = at-allele-map .before .before in
     let at-start = at-num-genotype-likelihoods .before .before .before .before in
-    picked-within (at-start .args .keep .now) (at-start .args .gl .now) _ (at-start .pre) (at-num-genotype-likelihoods .num-genotype-likelihoods .ensures) (front (at-start .args .keep .now) _ (at-allele-map .allele-map .ensures) (at-start .pre .few) refl) _ refl (c .before .pick-likelihoods .ensures)
+    picked-within (at-start .args .keep .now) (at-start .args .gl .now) _ (at-start .pre)
+    (at-num-genotype-likelihoods .num-genotype-likelihoods .ensures)
+    (front (at-start .args .keep .now) _ (at-allele-map .allele-map .ensures) (at-start .pre .few) refl) _ refl (c .before .pick-likelihoods .ensures)
 
 slice-aggregate-scale-log-space-array-for-numerical-stability : tie.Need-slice-aggregate-scale-log-space-array-for-numerical-stability
 slice-aggregate-scale-log-space-array-for-numerical-stability c =
@@ -81,7 +83,9 @@ slice-aggregate-scale-log-space-array-for-numerical-stability c =
     let at-allele-map = at-here in
     let at-num-genotype-likelihoods = at-allele-map .before .before in
     let at-start = at-num-genotype-likelihoods .before .before .before .before in
-    picked-long (at-start .args .keep .now) (at-start .args .gl .now) _ (at-start .pre) (at-num-genotype-likelihoods .num-genotype-likelihoods .ensures) (front (at-start .args .keep .now) _ (at-allele-map .allele-map .ensures) (at-start .pre .few) refl) _ refl (c .before .before .pick-likelihoods .ensures)
+    picked-long (at-start .args .keep .now) (at-start .args .gl .now) _ (at-start .pre)
+    (at-num-genotype-likelihoods .num-genotype-likelihoods .ensures)
+    (front (at-start .args .keep .now) _ (at-allele-map .allele-map .ensures) (at-start .pre .few) refl) _ refl (c .before .before .pick-likelihoods .ensures)
 
 scale-log-space-array-for-numerical-stability-requires : tie.Need-scale-log-space-array-for-numerical-stability-requires
 scale-log-space-array-for-numerical-stability-requires c κs = search needs
@@ -97,7 +101,10 @@ returns c =
     let at-num-genotype-likelihoods = at-allele-map .before .before in
     let at-start = at-num-genotype-likelihoods .before .before .before .before in
     (c .before .before .scale-log-space-array-for-numerical-stability .ensures) ∙ ap (λ v. sets (at-start .args .out .now) 0 (lessGreatest v))
-    (picked-front (at-start .args .keep .now) (at-start .args .gl .now) _ (at-start .pre) (at-num-genotype-likelihoods .num-genotype-likelihoods .ensures) (front (at-start .args .keep .now) _ (at-allele-map .allele-map .ensures) (at-start .pre .few) refl) _ refl (at-pick-likelihoods .pick-likelihoods .ensures))
+    (picked-front (at-start .args .keep .now) (at-start .args .gl .now) _ (at-start .pre)
+    (at-num-genotype-likelihoods .num-genotype-likelihoods .ensures)
+    (front (at-start .args .keep .now) _ (at-allele-map .allele-map .ensures) (at-start .pre .few) refl) _ refl
+    (at-pick-likelihoods .pick-likelihoods .ensures))
 
 pub subset-likelihoods-spec : {M : Type 1} → statement M
 subset-likelihoods-spec =

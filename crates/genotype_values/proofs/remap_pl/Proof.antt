@@ -8,43 +8,54 @@ use Rattle.genotype_values.proofs.remap_pl.Statement.{statement}
 use Rattle.genotype_values.proofs.remap_pl.Tie as tie
 
 abbrev Inv-loop : tie.InvT-loop
-Inv-loop alleleMap pl out₀ alleles at₀ high₀ out at high = RowsLeft alleleMap pl out₀ out at high
+Inv-loop alleleMap pl out₀ alleles at₀ number₀ out at number = RowsLeft alleleMap pl out₀ out at number
 
 abbrev μ-loop : tie.MeasureT-loop
-μ-loop alleleMap pl out₀ alleles at₀ high₀ out at high = alleles - high
+μ-loop alleleMap pl out₀ alleles at₀ number₀ out at number = alleles - number
 
 returns : tie.Need-returns Inv-loop μ-loop
-returns c = pl-refused (c .if1 .taken)
+returns c = pl-refused ((c .if1 .taken))
 
 loop-holds : tie.Need-loop-holds Inv-loop μ-loop
 loop-holds c = rows-start
 
+cast-new : tie.Need-cast-new Inv-loop μ-loop
+cast-new c = omega (arith, (c .before .before .if1 .left))
+
+new-requires : tie.Need-new-requires Inv-loop μ-loop
+new-requires c κs = search needs
+
 remap-pl-row-requires : tie.Need-remap-pl-row-requires Inv-loop μ-loop
-remap-pl-row-requires c κs = search needs
+remap-pl-row-requires c κs = rw ((c .before .new .ensures)) ((c .before .before .loop-test .taken))
 
 add-at : tie.Need-add-at Inv-loop μ-loop
 add-at c = search needs
 
 add-at-2 : tie.Need-add-at-2 Inv-loop μ-loop
-add-at-2 c = omega (arith, few-places (c .before .before .before .before .before .before .if1 .left) (c .before .before .before .before .before .loop .inv))
+add-at-2 c =
+    let at-loop = c .before .before .before .before .before .before in
+    let at-if1 = at-loop .before in
+    omega (arith, few-places (at-if1 .if1 .left) (at-loop .loop .inv))
 
-add-high : tie.Need-add-high Inv-loop μ-loop
-add-high c = search needs
+add-number : tie.Need-add-number Inv-loop μ-loop
+add-number c = search needs
 
 loop-less : tie.Need-loop-less Inv-loop μ-loop
 loop-less c = search needs
 
 loop-again : tie.Need-loop-again Inv-loop μ-loop
-loop-again c = rows-next (c .before .before .before .before .loop-test .taken) (c .before .before .remap-pl-row .ensures) (c .before .before .before .before .before .loop .inv)
+loop-again c =
+    let at-loop-test = c .before .before .before .before .before in
+    let at-loop = at-loop-test .before in
+    rows-next (at-loop-test .loop-test .taken) (rw (c .before .before .before .before .new .ensures) at (c .before .before .remap-pl-row .ensures)) (at-loop .loop .inv)
 
 same-length : tie.Need-same-length Inv-loop μ-loop
-same-length c = rows-same-length (c .before .loop .inv)
+same-length c = rows-same-length ((c .before .loop .inv))
 
 returns-2 : tie.Need-returns-2 Inv-loop μ-loop
 returns-2 c =
-    let all = c .loop-test .left in
-    let left = c .before .loop .inv in
-    pl-remapped (c .before .before .if1 .left) (rows-end all left) (rows-count all left)
+    let at-loop = c .before in
+    pl-remapped (c .before .before .if1 .left) (rows-end (c .loop-test .left) (at-loop .loop .inv)) (rows-count (c .loop-test .left) (at-loop .loop .inv))
 
 pub remap-pl-spec : {M : Type 1} → statement M
 remap-pl-spec =
@@ -54,10 +65,12 @@ remap-pl-spec =
     μ-loop
     returns
     loop-holds
+    cast-new
+    new-requires
     remap-pl-row-requires
     add-at
     add-at-2
-    add-high
+    add-number
     loop-less
     loop-again
     same-length

@@ -32,7 +32,8 @@ returns : tie.Need-returns Inv-loop μ-loop
 returns c =
     let at-loop = c .before .before .before .before in
     let at-start = at-loop .before .before in
-    sym (all-failed inRange (at-start .args .values .now) nan (at-loop .loop .i) (c .before .before .before .loop-test .taken) (failed (c .before .in-range .ensures) (c .if1 .taken))) ∙ (at-loop .loop .inv .1)
+    sym (all-failed inRange (at-start .args .values .now) nan (at-loop .loop .i) (c .before .before .before .loop-test .taken)
+    (failed (c .before .in-range .ensures) (c .if1 .taken))) ∙ (at-loop .loop .inv .1)
 
 add-i : tie.Need-add-i Inv-loop μ-loop
 add-i c = search needs
@@ -43,8 +44,11 @@ loop-less c = search needs
 loop-again : tie.Need-loop-again Inv-loop μ-loop
 loop-again c =
     let at-loop = c .before .before .before .before in
-    let at-start = at-loop .before .before in
-    ((at-loop .loop .inv .0), sym (all-next inRange (at-start .args .values .now) nan (at-loop .loop .i) (c .before .before .before .loop-test .taken) (passed (c .before .in-range .ensures) (c .if1 .left))) ∙ (at-loop .loop .inv .1))
+    let at-start = at-loop .before .before in (
+      (at-loop .loop .inv .0),
+      sym (all-next inRange (at-start .args .values .now) nan (at-loop .loop .i) (c .before .before .before .loop-test .taken)
+          (passed (c .before .in-range .ensures) (c .if1 .left))) ∙ (at-loop .loop .inv .1),
+    )
 
 returns-2 : tie.Need-returns-2 Inv-loop μ-loop
 returns-2 c =

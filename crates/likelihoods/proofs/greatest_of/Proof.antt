@@ -43,13 +43,18 @@ loop-less c = search needs
 loop-again : tie.Need-loop-again Inv-loop μ-loop
 loop-again c =
     let at-loop = c .before .before .before in
-    let at-start = at-loop .before .before .before in
-    ((at-loop .loop .inv .0), rw (c .greater-of .ensures) (sym (fold-next greater (at-start .args .values .now) nan (at-loop .loop .i) (at-loop .loop .best) (c .before .before .loop-test .taken)) ∙ (at-loop .loop .inv .1)))
+    let at-start = at-loop .before .before .before in (
+      (at-loop .loop .inv .0),
+      rw (c .greater-of .ensures) (sym
+          (fold-next greater (at-start .args .values .now) nan (at-loop .loop .i) (at-loop .loop .best) (c .before .before .loop-test .taken)) ∙
+          (at-loop .loop .inv .1)),
+    )
 
 returns : tie.Need-returns Inv-loop μ-loop
 returns c =
     let at-loop = c .before in
-    sym (fold-end greater (c .before .before .before .before .args .values .now) nan (at-loop .loop .i) (at-loop .loop .best) (c .loop-test .left)) ∙ (at-loop .loop .inv .1)
+    sym (fold-end greater (c .before .before .before .before .args .values .now) nan (at-loop .loop .i) (at-loop .loop .best) (c .loop-test .left)) ∙
+    (at-loop .loop .inv .1)
 
 pub greatest-of-spec : {M : Type 1} → statement M
 greatest-of-spec =

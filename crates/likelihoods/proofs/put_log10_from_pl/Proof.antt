@@ -41,7 +41,8 @@ loop-again c =
     let at-loop-test = c .before .before .before .before .before .before in
     let at-loop = at-loop-test .before in
     let at-start = at-loop .before .before .before in
-    next-stored log10FromPl (at-start .args .pl .now) 0 (at-loop-test .loop-test .taken) (c .before .before .before .before .log10-from-pl .ensures .0) (c .before .before .put-value .ensures) (at-loop .loop .inv)
+    next-stored log10FromPl (at-start .args .pl .now) 0 (at-loop-test .loop-test .taken)
+    (c .before .before .before .before .log10-from-pl .ensures .0) (c .before .before .put-value .ensures) (at-loop .loop .inv)
 
 same-length : tie.Need-same-length Inv-loop μ-loop
 same-length c = unstored-length (c .before .loop .inv)

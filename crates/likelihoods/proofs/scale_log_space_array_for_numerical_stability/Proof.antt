@@ -49,8 +49,11 @@ loop-again c =
     let at-loop-test = at-here in
     let at-loop = at-loop-test .before in
     let at-start = at-loop .before .before .before .before .before in
-    let values = (at-start .args .values .now) in
-    ((at-loop .loop .inv .0), next-stored (λ x. sub binary64 x (greatest values)) values nan (at-loop-test .loop-test .taken) (rw (at-loop .loop .inv .0)) (c .before .before .put-value .ensures) (at-loop .loop .inv .1))
+    let values = (at-start .args .values .now) in (
+      (at-loop .loop .inv .0),
+      next-stored (λ x. sub binary64 x (greatest values)) values nan (at-loop-test .loop-test .taken)
+          (rw (at-loop .loop .inv .0)) (c .before .before .put-value .ensures) (at-loop .loop .inv .1),
+    )
 
 same-length : tie.Need-same-length Inv-loop μ-loop
 same-length c = unstored-length ((c .before .loop .inv .1))

@@ -18,7 +18,8 @@ returns : tie.Need-returns
 returns c =
     let at-subset = c .before .before .before .before in (
       exported (subset-numbered _ _ _ _) (at-subset .subset-log10-genotype-likelihoods .ensures .0) (c .give .ensures),
-      rw (written-count (at-subset .subset-log10-genotype-likelihoods .result) (c .give .ensures)) at (at-subset .subset-log10-genotype-likelihoods .ensures .1),
+      rw (written-count (at-subset .subset-log10-genotype-likelihoods .result) (c .give .ensures)) at
+          (at-subset .subset-log10-genotype-likelihoods .ensures .1),
     )
 
 pub wintabol-subset-log10-genotype-likelihoods-spec : {M : Type 1} → statement M
