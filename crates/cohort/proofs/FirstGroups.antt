@@ -15,7 +15,7 @@ use Rattle.laws.proofs.Groups.{groups-cons}
 use Rattle.laws.proofs.Lines.{lines-end}
 
 -- a text that goes on has a line: one that is refused whatever its groups say
-some-lines : (s : List ℕ) (at : ℕ) → at < length s → 0 < length (linesOf (drop at s))
+pub some-lines : (s : List ℕ) (at : ℕ) → at < length s → 0 < length (linesOf (drop at s))
 unfolding readEach groupsOf groupsFrom
 some-lines s at h = go (linesOf (drop at s)) (group-refused 1 (omega arith) (λ (before : List ℕ) group. refused 1) [] s at 1 h refl)
   where

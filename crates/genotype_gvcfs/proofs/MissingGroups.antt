@@ -4,25 +4,13 @@ use borrow.Author.Tests.{le-ltb, lt-ltb}
 use lib.ListN.{drop, length, take}
 use lib.Seq.{take-nil}
 use mathlib.Core.List.{List, [], _∷_}
-use mathlib.Core.Path.{_≡_, refl, sym}
+use mathlib.Core.Path.{_≡_}
 use native.Mathlib.Decide.{decLt}
 use native.Mathlib.Omega.{arith}
 use Rattle.definitions.specs.Checked.{Checked, _>>=_, accepted, readEach, refused}
-use Rattle.definitions.specs.Lines.{linesOf}
 use Rattle.definitions.specs.ListReader.{withMissing}
 use Rattle.definitions.specs.Lists.{groupsFrom, groupsOf}
-use Rattle.kv_text.proofs.Groups.{group-refused}
-use Rattle.laws.proofs.Checked.{not-refused}
 use Rattle.laws.proofs.Groups.{groups-cons}
-
--- a text that goes on has a line: one that is refused whatever its groups say
-pub some-lines : (s : List ℕ) (at : ℕ) → at < length s → 0 < length (linesOf (drop at s))
-unfolding readEach groupsOf groupsFrom
-some-lines s at h = go (linesOf (drop at s)) (group-refused 1 (omega arith) (λ (before : List ℕ) group. refused 1) [] s at 1 h refl)
-  where
-    go : {L : Type 0} (l : List L) → _≡_ {A = Checked (List ℕ)} (readEach (λ before group. refused 1) [] (groupsOf 1 l)) (refused 1) → 0 < length l
-    go [] e = not-refused (sym e)
-    go (x ∷ l) e = omega arith
 
 module _ {L : Type 0} where
   -- one less is missing behind the first

@@ -7,6 +7,7 @@ use mathlib.Core.Option.{Option·getD}
 use mathlib.Core.Path.{_∙_, _≡_, ap, refl, sym}
 use native.Mathlib.Omega.{arith}
 use Rattle.bio_ids.specs.declared.GenomePosition.{GenomePosition}
+use Rattle.cohort.proofs.FirstGroups.{some-lines}
 use Rattle.definitions.specs.CalledList.{calledRecords}
 use Rattle.definitions.specs.Checked.{Checked, accepted, readEach, refused}
 use Rattle.definitions.specs.Lines.{linesOf}
@@ -22,7 +23,7 @@ use Rattle.list_reader.specs.RecordGroups.{PreviousOf, RecordTo, RefusedBy, end
 use Rattle.list_reader.specs.declared.Previous.the-variants as previous
 use Rattle.list_reader.specs.declared.Previous.{Previous}
 use Rattle.list_reader.specs.declared.RecordPlace.{RecordPlace}
-use Rattle.genotype_gvcfs.proofs.MissingGroups.{all-accepted, all-ended, all-refused, more-refused, some-lines}
+use Rattle.genotype_gvcfs.proofs.MissingGroups.{all-accepted, all-ended, all-refused, more-refused}
 use Rattle.genotype_gvcfs.specs.Walk.{CalledLaid, LayReady, RecordsWalked, WalkReady, readWith, recordsFrom}
 use Rattle.genotype_gvcfs.specs.declared.Walked.the-variants as walked
 

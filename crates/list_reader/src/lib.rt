@@ -436,7 +436,8 @@ fn read_record(
 }
 
 // The record group at an offset, of a list with so many samples, after the record before it: a row of the table for each sample,
-// with GQ, DP, AD and PL, and behind them the table as it was; or the row, 1 to 8, that refuses it, and a table of zeros.
+// with GQ, DP, AD and PL, and behind them the table as it was; or the row, 1 to 8, that refuses it, and a table of zeros. Asks that the
+// table has a row for each sample.
 pub fn record_at(
     s: &[u8],
     at: usize,

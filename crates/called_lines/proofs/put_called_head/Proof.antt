@@ -18,32 +18,64 @@ slice-aggregate-put-line c = search needs
 
 put-line-requires : tie.Need-put-line-requires
 put-line-requires c κs =
-    let args = c .before .before .before .before .before .before .before .args in
-    omega (arith, (c .before .before .before .before .before .before .before .pre .fits), head-length (args .contig .now) (args .pos .0) (args .reference .now) (args .alts .now))
+    let at-pre = c .before .before .before .before .before .before .before in
+    omega (
+      arith,
+      (at-pre .pre .fits),
+      head-length (at-pre .args .contig .now) (at-pre .args .pos .0) (at-pre .args .reference .now)
+          (at-pre .args .alts .now),
+    )
 
 slice-aggregate-put-number-line : tie.Need-slice-aggregate-put-number-line
 slice-aggregate-put-number-line c = search needs
 
 put-number-line-requires : tie.Need-put-number-line-requires
 put-number-line-requires c κs =
-    let args = c .before .before .before .before .before .before .before .before .before .before .before .before .args in
-    rw (c .before .before .before .before .before .before .before .get .ensures)
-    (omega (arith, (c .before .before .before .before .before .before .before .before .before .before .before .before .pre .fits), (c .before .before .before .before .put-line .ensures .next), head-length (args .contig .now) (args .pos .0) (args .reference .now) (args .alts .now)))
+    let at-put-line = c .before .before .before .before in
+    let at-get = at-put-line .before .before .before in
+    let at-pre = at-get .before .before .before .before .before in
+    rw (at-get .get .ensures) (omega (
+      arith,
+      (at-pre .pre .fits),
+      (at-put-line .put-line .ensures .next),
+      head-length (at-pre .args .contig .now)
+          (at-pre .args .pos .0) (at-pre .args .reference .now) (at-pre .args .alts .now),
+    ))
 
 slice-aggregate-put-line-2 : tie.Need-slice-aggregate-put-line-2
 slice-aggregate-put-line-2 c = search needs
 
 put-line-requires-2 : tie.Need-put-line-requires-2
 put-line-requires-2 c κs =
-    let args = c .before .before .before .before .before .before .before .before .before .before .before .before .before .before .before .before .before .args in
-    let pos = rw (c .before .before .before .before .before .before .before .before .before .before .before .before .get .ensures) at
-    (c .before .before .before .before .put-number-line .ensures) in omega
-    (arith, (c .before .before .before .before .before .before .before .before .before .before .before .before .before .before .before .before .before .pre .fits), (c .before .before .before .before .before .before .before .before .before .put-line .ensures .next), pos .next, head-length (args .contig .now) (args .pos .0) (args .reference .now) (args .alts .now))
+    let at-put-number-line = c .before .before .before .before in
+    let at-put-line = at-put-number-line .before .before .before .before .before in
+    let at-get = at-put-line .before .before .before in
+    let at-pre = at-get .before .before .before .before .before in
+    let pos = rw (at-get .get .ensures) at (at-put-number-line .put-number-line .ensures) in omega (
+      arith,
+      (at-pre .pre .fits),
+      (at-put-line .put-line .ensures .next),
+      pos .next,
+      head-length (at-pre .args .contig .now) (at-pre .args .pos .0)
+          (at-pre .args .reference .now) (at-pre .args .alts .now),
+    )
 
 put-called-alts-requires : tie.Need-put-called-alts-requires
 put-called-alts-requires c κs =
-    let args = c .before .before .before .before .before .before .before .before .before .before .before .before .before .before .before .before .before .before .before .before .before .args in
-    let pos = rw (c .before .before .before .before .before .before .before .before .before .before .before .before .before .before .before .before .get .ensures) at (c .before .before .before .before .before .before .before .before .put-number-line .ensures) in omega (arith, (c .before .before .before .before .before .before .before .before .before .before .before .before .before .before .before .before .before .before .before .before .before .pre .fits), (c .before .before .before .before .before .before .before .before .before .before .before .before .before .put-line .ensures .next), pos .next, (c .before .before .before .put-line2 .ensures .next), head-length (args .contig .now) (args .pos .0) (args .reference .now) (args .alts .now))
+    let at-put-line2 = c .before .before .before in
+    let at-put-number-line = at-put-line2 .before .before .before .before .before in
+    let at-put-line = at-put-number-line .before .before .before .before .before in
+    let at-get = at-put-line .before .before .before in
+    let at-pre = at-get .before .before .before .before .before in
+    let pos = rw (at-get .get .ensures) at (at-put-number-line .put-number-line .ensures) in omega (
+      arith,
+      (at-pre .pre .fits),
+      (at-put-line .put-line .ensures .next),
+      pos .next,
+      (at-put-line2 .put-line2 .ensures .next),
+      head-length
+          (at-pre .args .contig .now) (at-pre .args .pos .0) (at-pre .args .reference .now) (at-pre .args .alts .now),
+    )
 
 same-length : tie.Need-same-length
 same-length c = search needs

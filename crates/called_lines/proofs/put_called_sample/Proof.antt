@@ -93,7 +93,8 @@ returns c =
     let p = pl-front (at-args .args .s .now) (at-args .args .rows .now) (at-args .args .sample .0) (at-args .args .alleles) (at-args .pre .atMost)
     (at-args .pre .entries) _ refl (pl .0) (pl .1) in
     let dp = rw (at-get .get .ensures) at (at-dp-of .dp-of .ensures) in
-    rw (row-called (at-args .args .s .now) (at-args .args .rows .now) (at-args .args .sample .0) (at-args .args .alleles) (at-args .args .dropped .0) dp (a .front) (p .front)) at (at-put-called-data .put-called-data .ensures)
+    rw (row-called (at-args .args .s .now) (at-args .args .rows .now) (at-args .args .sample .0) (at-args .args .alleles) (at-args .args .dropped .0) dp
+    (a .front) (p .front)) at (at-put-called-data .put-called-data .ensures)
 
 pub put-called-sample-spec : {M : Type 1} → statement M
 put-called-sample-spec =

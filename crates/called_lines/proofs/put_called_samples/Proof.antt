@@ -30,7 +30,8 @@ put-called-sample-requires c κs =
       atMost = (at-pre .pre .atMost);
       dropped = (at-pre .pre .dropped);
       entries = rw (c .before .new .ensures) (sample-entries _ _ _ _ _ _ (at-pre .pre) (at-loop-test .loop-test .taken));
-      fits = rw (c .before .new .ensures) (room (calledSample _ _ _ _ _) _ (recast (samples-next _ _ _ _ _ _ (at-loop-test .loop-test .taken)) (at-loop .loop .inv)));
+      fits = rw (c .before .new .ensures) (room (calledSample _ _ _ _ _) _
+          (recast (samples-next _ _ _ _ _ _ (at-loop-test .loop-test .taken)) (at-loop .loop .inv)));
     }
 
 add-sample : tie.Need-add-sample Inv-loop μ-loop

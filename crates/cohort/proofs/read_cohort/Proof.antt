@@ -20,10 +20,12 @@ same-length-2 c = search needs
 
 returns : tie.Need-returns
 unfolding CohortAt cohortAnswer
-returns c = (
-  rw (lt-ltb _ 128 (c .before .before .before .before .before .before .before .if1 .taken)),
-  record { no-room = inl (omega (arith, (c .before .before .before .before .before .before .before .if1 .taken))); names-cleared = (c .before .before .before .before .clear-tables .ensures .1); rows-cleared = (c .before .before .before .before .clear-tables .ensures .0) },
-)
+returns c =
+    let at-clear-tables = c .before .before .before .before in
+    let at-if1 = at-clear-tables .before .before .before in (
+      rw (lt-ltb _ 128 (at-if1 .if1 .taken)),
+      record { no-room = inl (omega (arith, (at-if1 .if1 .taken))); names-cleared = (at-clear-tables .clear-tables .ensures .1); rows-cleared = (at-clear-tables .clear-tables .ensures .0) },
+    )
 
 read-fitting-requires : tie.Need-read-fitting-requires
 read-fitting-requires c κs = omega (arith, (c .before .before .if1 .left))
@@ -70,9 +72,9 @@ returns-3 c =
     let r = rw (at-enum-told .enum-told .given .1) at (at-read-fitting .read-fitting .ensures) in (
       rw (le-ltb _ 128 (at-if1 .if1 .left)) (r .0),
       record {
-    no-room = inr (r .1);
-    names-cleared = (at-clear-tables2 .clear-tables2 .ensures .1) ∙ scratch-same _ _ (at-read-fitting .read-fitting .kept .1 .0);
-    rows-cleared = (at-clear-tables2 .clear-tables2 .ensures .0) ∙ scratch-same _ _ (at-read-fitting .read-fitting .kept .1 .1 .0);
+        no-room = inr (r .1);
+        names-cleared = (at-clear-tables2 .clear-tables2 .ensures .1) ∙ scratch-same _ _ (at-read-fitting .read-fitting .kept .1 .0);
+        rows-cleared = (at-clear-tables2 .clear-tables2 .ensures .0) ∙ scratch-same _ _ (at-read-fitting .read-fitting .kept .1 .1 .0);
       },
     )
 
@@ -84,17 +86,20 @@ same-length-8 c = search needs
 
 returns-4 : tie.Need-returns-4
 unfolding CohortAt CohortFitting cohortAnswer
-returns-4 c = let r = rw (c .before .before .before .before .before .before .before .before .read2 .given .1) at (c .before .before .before .before .before .before .before .before .before .before .before .before .before .before .read-fitting .ensures) in (
-  rw (le-ltb _ 128 (c .before .before .before .before .before .before .before .before .before .before .before .before .before .before .before .before .before .if1 .left)) (r .0),
-  record {
-    room = omega (arith, (c .before .before .before .before .before .before .before .before .before .before .before .before .before .before .before .before .before .if1 .left));
-    value = r .1;
-    names-cleared = (c .before .before .before .before .clear-tables3 .ensures .1) ∙ scratch-same _ _
-    (c .before .before .before .before .before .before .before .before .before .before .before .before .before .before .read-fitting .kept .1 .0);
-    rows-cleared = (c .before .before .before .before .clear-tables3 .ensures .0) ∙ scratch-same _ _
-    (c .before .before .before .before .before .before .before .before .before .before .before .before .before .before .read-fitting .kept .1 .1 .0);
-  },
-)
+returns-4 c =
+    let at-clear-tables3 = c .before .before .before .before in
+    let at-read2 = at-clear-tables3 .before .before .before .before in
+    let at-read-fitting = at-read2 .before .before .before .before .before .before in
+    let at-if1 = at-read-fitting .before .before .before in
+    let r = rw (at-read2 .read2 .given .1) at (at-read-fitting .read-fitting .ensures) in (
+      rw (le-ltb _ 128 (at-if1 .if1 .left)) (r .0),
+      record {
+        room = omega (arith, (at-if1 .if1 .left));
+        value = r .1;
+        names-cleared = (at-clear-tables3 .clear-tables3 .ensures .1) ∙ scratch-same _ _ (at-read-fitting .read-fitting .kept .1 .0);
+        rows-cleared = (at-clear-tables3 .clear-tables3 .ensures .0) ∙ scratch-same _ _ (at-read-fitting .read-fitting .kept .1 .1 .0);
+      },
+    )
 
 pub read-cohort-spec : {M : Type 1} → statement M
 read-cohort-spec =

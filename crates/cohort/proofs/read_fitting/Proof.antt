@@ -40,7 +40,10 @@ same-length c = search needs
 
 returns-2 : tie.Need-returns-2
 unfolding CohortFitting Header
-returns-2 c = let h = rw (c .enum-told .given .1) at (c .before .before .before .before .read-samples .ensures) in absurd (omega (arith, h .no-room, (c .before .before .before .before .before .before .before .before .before .before .pre)))
+returns-2 c =
+    let at-read-samples = c .before .before .before .before in
+    let at-pre = at-read-samples .before .before .before .before .before .before in
+    let h = rw (c .enum-told .given .1) at (at-read-samples .read-samples .ensures) in absurd (omega (arith, h .no-room, (at-pre .pre)))
 
 same-length-2 : tie.Need-same-length-2
 same-length-2 c = search needs

@@ -40,8 +40,11 @@ returns c =
     let at-site-at = c .before .before .before .before .before in
     let at-loop-test = at-site-at .before .before .before in
     let at-loop = at-loop-test .before in
-    let faulty = (rw (c .before .group .given .1) at (at-site-at .site-at .ensures)) .0 in
-    (refused-answer _ _ _ _ _ _ _ (at-loop .loop .inv .0) (at-loop-test .loop-test .taken) _ faulty, site-refused _ _ _ _ _ _ _ (at-loop .loop .inv .0) (at-loop-test .loop-test .taken) _ faulty)
+    let faulty = (rw (c .before .group .given .1) at (at-site-at .site-at .ensures)) .0 in (
+      refused-answer _ _ _ _ _ _ _ (at-loop .loop .inv .0) (at-loop-test .loop-test .taken) _ faulty,
+      site-refused _ _ _ _ _ _ _ (at-loop .loop .inv .0)
+          (at-loop-test .loop-test .taken) _ faulty,
+    )
 
 enum-known-group-2 : tie.Need-enum-known-group-2 Inv-loop μ-loop
 enum-known-group-2 c = search needs
@@ -57,10 +60,15 @@ same-length-2 c = (c .before .before .before .before .before .before .before .be
 
 returns-2 : tie.Need-returns-2 Inv-loop μ-loop
 unfolding SiteRead
-returns-2 c = let to = (rw (c .before .before .group2 .given .1) at (c .before .before .before .before .before .before .site-at .ensures)) .0 in (
-  no-row-answer _ _ _ _ _ _ _ (c .before .before .before .before .before .before .before .before .before .before .loop .inv .0) (c .before .before .before .before .before .before .before .before .before .loop-test .taken) _ _ _ _ to (omega (arith, (c .if1 .taken))),
-  no-row _ _ _ _ _ _ _ (c .before .before .before .before .before .before .before .before .before .before .loop .inv .0) (c .before .before .before .before .before .before .before .before .before .loop-test .taken) (to .value) (omega (arith, (c .if1 .taken))),
-)
+returns-2 c =
+    let at-group2 = c .before .before in
+    let at-site-at = at-group2 .before .before .before .before in
+    let at-loop-test = at-site-at .before .before .before in
+    let at-loop = at-loop-test .before in
+    let to = (rw (at-group2 .group2 .given .1) at (at-site-at .site-at .ensures)) .0 in (
+      no-row-answer _ _ _ _ _ _ _ (at-loop .loop .inv .0) (at-loop-test .loop-test .taken) _ _ _ _ to (omega (arith, (c .if1 .taken))),
+      no-row _ _ _ _ _ _ _ (at-loop .loop .inv .0) (at-loop-test .loop-test .taken) (to .value) (omega (arith, (c .if1 .taken))),
+    )
 
 part-requires : tie.Need-part-requires Inv-loop μ-loop
 part-requires c κs = search needs
@@ -86,23 +94,45 @@ slice-aggregate-put-numbers-2 c =
     sym ((at-site-at .site-at .kept .1 .1 .1 .1 .1 .0) ∙ (at-loop .loop .inv .2))
 
 put-numbers-requires : tie.Need-put-numbers-requires Inv-loop μ-loop
-put-numbers-requires c κs = omega (arith, (c .before .before .before .before .before .before .before .before .before .before .if1 .left), (c .before .before .before .before .before .put-site .kept .0))
+put-numbers-requires c κs =
+    let at-put-site = c .before .before .before .before .before in
+    let at-if1 = at-put-site .before .before .before .before .before in
+    omega (arith, (at-if1 .if1 .left), (at-put-site .put-site .kept .0))
 
 add-count : tie.Need-add-count Inv-loop μ-loop
-add-count c = omega (arith, (c .before .before .before .before .before .before .before .before .before .before .before .before .before .before .before .before .before .before .before .before .before .before .before .loop .inv .0 .few))
+add-count c =
+    let at-loop = c .before .before .before .before .before .before .before .before .before .before .before .before .before .before .before .before .before .before .before .before .before .before .before in
+    omega (arith, (at-loop .loop .inv .0 .few))
 
 loop-less : tie.Need-loop-less Inv-loop μ-loop
 unfolding SiteRead
-loop-less c = let to = (rw (c .before .before .before .before .before .before .before .before .before .before .before .before .before .before .before .group2 .given .1) at (c .before .before .before .before .before .before .before .before .before .before .before .before .before .before .before .before .before .before .before .site-at .ensures)) .0 in omega (arith, to .forward, to .within)
+loop-less c =
+    let at-group2 = c .before .before .before .before .before .before .before .before .before .before .before .before .before .before .before in
+    let at-site-at = at-group2 .before .before .before .before in
+    let to = (rw (at-group2 .group2 .given .1) at (at-site-at .site-at .ensures)) .0 in omega (arith, to .forward, to .within)
 
 loop-again : tie.Need-loop-again Inv-loop μ-loop
 unfolding SiteRead
 loop-again c =
-    let turn = c .before .before .before .before .before .before .before .before .before .before .before .before .before .before .before .before .before .before .before .before .before .before .before .loop in
-    let g = rw (c .before .before .before .before .before .before .before .before .before .before .before .before .before .before .before .group2 .given .1) at (c .before .before .before .before .before .before .before .before .before .before .before .before .before .before .before .before .before .before .before .site-at .ensures) in
-    let ad-long = (c .before .before .before .before .before .before .before .before .before .before .before .before .before .before .before .before .before .before .before .site-at .kept .1 .1 .1 .1 .0) ∙ (turn .inv .1) in
-    let pl-long = (c .before .before .before .before .before .before .before .before .before .before .before .before .before .before .before .before .before .before .before .site-at .kept .1 .1 .1 .1 .1 .0) ∙ (turn .inv .2) in
-    (numbers-read (turn .inv .0) (c .before .before .before .before .before .before .before .before .before .before .before .before .before .before .before .before .before .before .before .before .before .before .loop-test .taken) (g .0) _ (rw (c .before .before .before .before .before .before .before .before .before .before .before .before .part .ensures) at (c .before .before .before .before .before .before .before .before .before .before .contig-number .ensures)) (omega (arith, (c .before .before .before .before .before .before .before .before .before .before .before .before .before .if1 .left))) (record { ad₀ = _; pl₀ = _; ad-stored = g .1 .0; pl-stored = g .1 .1; ad-long = ad-long; pl-long = pl-long }) (c .before .before .before .before .before .before .before .before .put-site .ensures) (c .before .before .put-numbers .ensures), ad-long, pl-long)
+    let at-put-numbers = c .before .before in
+    let at-put-site = at-put-numbers .before .before .before .before .before .before in
+    let at-contig-number = at-put-site .before .before in
+    let at-part = at-contig-number .before .before in
+    let at-if1 = at-part .before in
+    let at-group2 = at-if1 .before .before in
+    let at-site-at = at-group2 .before .before .before .before in
+    let at-loop-test = at-site-at .before .before .before in
+    let at-loop = at-loop-test .before in
+    let g = rw (at-group2 .group2 .given .1) at (at-site-at .site-at .ensures) in
+    let ad-long = (at-site-at .site-at .kept .1 .1 .1 .1 .0) ∙ (at-loop .loop .inv .1) in
+    let pl-long = (at-site-at .site-at .kept .1 .1 .1 .1 .1 .0) ∙ (at-loop .loop .inv .2) in (
+      numbers-read (at-loop .loop .inv .0) (at-loop-test .loop-test .taken) (g .0) _
+          (rw (at-part .part .ensures) at (at-contig-number .contig-number .ensures)) (omega (arith, (at-if1 .if1 .left)))
+          (record { ad₀ = _; pl₀ = _; ad-stored = g .1 .0; pl-stored = g .1 .1; ad-long = ad-long; pl-long = pl-long }) (at-put-site .put-site .ensures)
+          (at-put-numbers .put-numbers .ensures),
+      ad-long,
+      pl-long,
+    )
 
 same-length-3 : tie.Need-same-length-3 Inv-loop μ-loop
 same-length-3 c = (c .before .loop .inv .0 .long)

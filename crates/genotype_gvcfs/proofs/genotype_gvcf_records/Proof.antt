@@ -22,7 +22,10 @@ loop-holds : tie.Need-loop-holds Inv-loop μ-loop
 loop-holds c = (refl, refl, omega arith, λ ready. going-start _ _ _ _ ready)
 
 record-at-requires : tie.Need-record-at-requires Inv-loop μ-loop
-record-at-requires c κs = omega (arith, (c .before .before .loop .inv .0), (c .before .before .before .before .before .before .pre .few), (c .before .before .before .before .before .before .pre .room))
+record-at-requires c κs =
+    let at-loop = c .before .before in
+    let at-pre = at-loop .before .before .before .before in
+    omega (arith, (at-loop .loop .inv .0), (at-pre .pre .few), (at-pre .pre .room))
 
 enum-known-found : tie.Need-enum-known-found Inv-loop μ-loop
 enum-known-found c = search needs
@@ -63,7 +66,10 @@ record-end-requires : tie.Need-record-end-requires Inv-loop μ-loop
 record-end-requires c κs = search needs
 
 add-read : tie.Need-add-read Inv-loop μ-loop
-add-read c = omega (arith, (c .before .before .before .before .before .before .before .before .before .before .before .before .before .before .before .loop-test .taken), (c .before .before .before .before .before .before .before .before .before .before .before .before .before .before .before .before .before .before .before .before .good .1 .1 .1 .0))
+add-read c =
+    let at-loop-test = c .before .before .before .before .before .before .before .before .before .before .before .before .before .before .before in
+    let at-good = at-loop-test .before .before .before .before .before in
+    omega (arith, (at-loop-test .loop-test .taken), (at-good .good .1 .1 .1 .0))
 
 loop-less : tie.Need-loop-less Inv-loop μ-loop
 loop-less c = search needs
@@ -71,8 +77,19 @@ loop-less c = search needs
 loop-again : tie.Need-loop-again Inv-loop μ-loop
 unfolding RecordRead
 loop-again c =
-    let turn = c .before .before .before .before .before .before .before .before .before .before .before .before .before .before .before .before .loop in
-    ((c .before .before .before .before .before .before .before .before .before .before .before .before .before .record-at .kept .1 .1 .1 .1 .0) ∙ (turn .inv .0), (c .before .before .before .before .before .genotype-one-record .kept .1 .1 .1 .1 .0) ∙ (turn .inv .1), omega (arith, (c .before .before .before .before .before .before .before .before .before .before .before .before .before .before .before .loop-test .taken)), λ ready. going-next _ _ _ _ ready ((turn .inv .3) ready) (c .before .before .before .before .before .before .before .before .before .before .before .before .before .before .before .loop-test .taken) (rw (c .before .before .before .before .before .before .before .before .before .found2 .given .1) at (c .before .before .before .before .before .before .before .before .before .before .before .before .before .record-at .ensures)) (c .before .record-end .ensures) (c .before .before .before .before .before .genotype-one-record .ensures))
+    let at-genotype-one-record = c .before .before .before .before .before in
+    let at-found2 = at-genotype-one-record .before .before .before .before in
+    let at-record-at = at-found2 .before .before .before .before in
+    let at-loop-test = at-record-at .before .before in
+    let at-loop = at-loop-test .before in (
+      (at-record-at .record-at .kept .1 .1 .1 .1 .0) ∙ (at-loop .loop .inv .0),
+      (at-genotype-one-record .genotype-one-record .kept .1 .1 .1 .1 .0)
+          ∙ (at-loop .loop .inv .1),
+      omega (arith, (at-loop-test .loop-test .taken)),
+      λ ready. going-next _ _ _ _ ready ((at-loop .loop .inv .3) ready)
+          (at-loop-test .loop-test .taken) (rw (at-found2 .found2 .given .1) at (at-record-at .record-at .ensures)) (c .before .record-end .ensures)
+          (at-genotype-one-record .genotype-one-record .ensures),
+    )
 
 same-length-3 : tie.Need-same-length-3 Inv-loop μ-loop
 same-length-3 c = (c .before .before .loop .inv .0)

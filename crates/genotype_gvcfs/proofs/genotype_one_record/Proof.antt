@@ -47,7 +47,8 @@ returns-2 c =
     let at-if1 = at-part .before in
     let at-is-called = at-if1 .before in
     λ ready. rw ((c .before .cap .ensures), (c .count-more .ensures))
-    (laid-one ready (by-numbers ready ∙ sym (at-is-called .is-called .ensures) ∙ not-false _ (at-if1 .if1 .left)) (rw ((at-part .part .ensures), (at-part2 .part2 .ensures), (at-part3 .part3 .ensures)) at (at-put-called-record .put-called-record .ensures)))
+    (laid-one ready (by-numbers ready ∙ sym (at-is-called .is-called .ensures) ∙ not-false _ (at-if1 .if1 .left))
+    (rw ((at-part .part .ensures), (at-part2 .part2 .ensures), (at-part3 .part3 .ensures)) at (at-put-called-record .put-called-record .ensures)))
 
 pub genotype-one-record-spec : {M : Type 1} → statement M
 genotype-one-record-spec =

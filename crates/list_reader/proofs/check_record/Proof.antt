@@ -13,16 +13,19 @@ get-requires c κs = search needs
 
 returns : tie.Need-returns
 returns c =
-    let args = c .before .before .before .before .args in
-    position-0 _ (args .head) (args .previous) (args .fit) (omega arith)
+    let at-args = c .before .before .before .before in
+    position-0 _ (at-args .args .head) (at-args .args .previous) (at-args .args .fit) (omega (arith, (c .if1 .taken), (c .before .get .ensures)))
 
 end-past-requires : tie.Need-end-past-requires
 end-past-requires c κs = search needs
 
 returns-2 : tie.Need-returns-2
 returns-2 c =
-    let args = c .before .before .before .before .before .before .args in
-    end-not-past _ (args .head) (args .previous) (args .fit) (omega arith) (sym (c .before .end-past .ensures) ∙ not-true _ (c .if2 .taken))
+    let at-if1 = c .before .before in
+    let at-get = at-if1 .before in
+    let at-args = at-get .before .before .before in
+    end-not-past _ (at-args .args .head) (at-args .args .previous) (at-args .args .fit) (omega (arith, (at-if1 .if1 .left), (at-get .get .ensures)))
+    (sym (c .before .end-past .ensures) ∙ not-true _ (c .if2 .taken))
 
 part-requires : tie.Need-part-requires
 part-requires c κs = search needs
@@ -32,10 +35,15 @@ comes-after-requires c κs = search needs
 
 returns-3 : tie.Need-returns-3
 returns-3 c =
-    let args = c .before .before .before .before .before .before .before .before .before .args in
-    too-early _ (args .head) (args .previous) (args .fit) (omega arith)
-    (sym (c .before .before .before .before .end-past .ensures) ∙ not-false _ (c .before .before .before .if2 .left))
-    (rw (c .before .before .part .ensures) at (sym (c .before .comes-after .ensures) ∙ not-true _ (c .if3 .taken)))
+    let at-part = c .before .before in
+    let at-if2 = at-part .before in
+    let at-end-past = at-if2 .before in
+    let at-if1 = at-end-past .before in
+    let at-get = at-if1 .before in
+    let at-args = at-get .before .before .before in
+    too-early _ (at-args .args .head) (at-args .args .previous) (at-args .args .fit) (omega (arith, (at-if1 .if1 .left), (at-get .get .ensures)))
+    (sym (at-end-past .end-past .ensures) ∙ not-false _ (at-if2 .if2 .left))
+    (rw (at-part .part .ensures) at (sym (c .before .comes-after .ensures) ∙ not-true _ (c .if3 .taken)))
 
 part-requires-2 : tie.Need-part-requires-2
 part-requires-2 c κs = search needs
@@ -55,18 +63,41 @@ enum-told c = search needs
 returns-4 : tie.Need-returns-4
 unfolding AllelesFound
 returns-4 c =
-    let args = c .before .before .before .before .before .before .before .before .before .before .before .before .before .before .args in
-    allele-faulty _ (args .head) (args .previous) (args .fit) (omega arith)
-    (sym (c .before .before .before .before .before .before .before .before .before .end-past .ensures) ∙ not-false _ (c .before .before .before .before .before .before .before .before .if2 .left)) (rw (c .before .before .before .before .before .before .before .part .ensures) at (sym (c .before .before .before .before .before .before .comes-after .ensures) ∙ not-false _ (c .before .before .before .before .before .if3 .left)))
-    (rw ((c .before .before .before .before .part2 .ensures), (c .before .before .before .part3 .ensures), (c .enum-told .given .1)) at (c .before .before .check-alleles .ensures))
+    let at-check-alleles = c .before .before in
+    let at-part3 = at-check-alleles .before in
+    let at-part2 = at-part3 .before in
+    let at-if3 = at-part2 .before in
+    let at-comes-after = at-if3 .before in
+    let at-part = at-comes-after .before in
+    let at-if2 = at-part .before in
+    let at-end-past = at-if2 .before in
+    let at-if1 = at-end-past .before in
+    let at-get = at-if1 .before in
+    let at-args = at-get .before .before .before in
+    allele-faulty _ (at-args .args .head) (at-args .args .previous) (at-args .args .fit) (omega (arith, (at-if1 .if1 .left), (at-get .get .ensures)))
+    (sym (at-end-past .end-past .ensures) ∙ not-false _ (at-if2 .if2 .left))
+    (rw (at-part .part .ensures) at (sym (at-comes-after .comes-after .ensures) ∙ not-false _ (at-if3 .if3 .left)))
+    (rw ((at-part2 .part2 .ensures), (at-part3 .part3 .ensures), (c .enum-told .given .1)) at (at-check-alleles .check-alleles .ensures))
 
 returns-5 : tie.Need-returns-5
 unfolding AllelesFound
 returns-5 c =
-    let args = c .before .before .before .before .before .before .before .before .before .before .before .before .before .before .before .before .args in
-    let r = rw ((c .before .before .before .before .before .before .part2 .ensures), (c .before .before .before .before .before .part3 .ensures), (c .before .before .read .given .1)) at (c .before .before .before .before .check-alleles .ensures) in
-    no-non-ref _ (args .head) (args .previous) (args .fit) (omega arith)
-    (sym (c .before .before .before .before .before .before .before .before .before .before .before .end-past .ensures) ∙ not-false _ (c .before .before .before .before .before .before .before .before .before .before .if2 .left)) (rw (c .before .before .before .before .before .before .before .before .before .part .ensures) at (sym (c .before .before .before .before .before .before .before .before .comes-after .ensures) ∙ not-false _ (c .before .before .before .before .before .before .before .if3 .left)))
+    let at-read = c .before .before in
+    let at-check-alleles = at-read .before .before in
+    let at-part3 = at-check-alleles .before in
+    let at-part2 = at-part3 .before in
+    let at-if3 = at-part2 .before in
+    let at-comes-after = at-if3 .before in
+    let at-part = at-comes-after .before in
+    let at-if2 = at-part .before in
+    let at-end-past = at-if2 .before in
+    let at-if1 = at-end-past .before in
+    let at-get = at-if1 .before in
+    let at-args = at-get .before .before .before in
+    let r = rw ((at-part2 .part2 .ensures), (at-part3 .part3 .ensures), (at-read .read .given .1)) at (at-check-alleles .check-alleles .ensures) in
+    no-non-ref _ (at-args .args .head) (at-args .args .previous) (at-args .args .fit) (omega (arith, (at-if1 .if1 .left), (at-get .get .ensures)))
+    (sym (at-end-past .end-past .ensures) ∙ not-false _ (at-if2 .if2 .left))
+    (rw (at-part .part .ensures) at (sym (at-comes-after .comes-after .ensures) ∙ not-false _ (at-if3 .if3 .left)))
     _ _ r (not-true _ (c .if4 .taken))
 
 end-allowed-requires : tie.Need-end-allowed-requires
@@ -75,31 +106,72 @@ end-allowed-requires c κs = search needs
 returns-6 : tie.Need-returns-6
 unfolding AllelesFound
 returns-6 c =
-    let args = c .before .before .before .before .before .before .before .before .before .before .before .before .before .before .before .before .before .before .args in
-    let r = rw ((c .before .before .before .before .before .before .before .before .part2 .ensures), (c .before .before .before .before .before .before .before .part3 .ensures), (c .before .before .before .before .read .given .1)) at (c .before .before .before .before .before .before .check-alleles .ensures) in
-    end-wrong _ (args .head) (args .previous) (args .fit) (omega arith)
-    (sym (c .before .before .before .before .before .before .before .before .before .before .before .before .before .end-past .ensures) ∙ not-false _ (c .before .before .before .before .before .before .before .before .before .before .before .before .if2 .left)) (rw (c .before .before .before .before .before .before .before .before .before .before .before .part .ensures) at (sym (c .before .before .before .before .before .before .before .before .before .before .comes-after .ensures) ∙ not-false _ (c .before .before .before .before .before .before .before .before .before .if3 .left)))
-    _ _ r (not-false _ (c .before .before .if4 .left)) (rw (c .before .before .before .before .before .before .before .before .part2 .ensures) at (sym (c .before .end-allowed .ensures) ∙ not-true _ (c .if5 .taken)))
+    let at-if4 = c .before .before in
+    let at-read = at-if4 .before .before in
+    let at-check-alleles = at-read .before .before in
+    let at-part3 = at-check-alleles .before in
+    let at-part2 = at-part3 .before in
+    let at-if3 = at-part2 .before in
+    let at-comes-after = at-if3 .before in
+    let at-part = at-comes-after .before in
+    let at-if2 = at-part .before in
+    let at-end-past = at-if2 .before in
+    let at-if1 = at-end-past .before in
+    let at-get = at-if1 .before in
+    let at-args = at-get .before .before .before in
+    let r = rw ((at-part2 .part2 .ensures), (at-part3 .part3 .ensures), (at-read .read .given .1)) at (at-check-alleles .check-alleles .ensures) in
+    end-wrong _ (at-args .args .head) (at-args .args .previous) (at-args .args .fit) (omega (arith, (at-if1 .if1 .left), (at-get .get .ensures)))
+    (sym (at-end-past .end-past .ensures) ∙ not-false _ (at-if2 .if2 .left))
+    (rw (at-part .part .ensures) at (sym (at-comes-after .comes-after .ensures) ∙ not-false _ (at-if3 .if3 .left)))
+    _ _ r (not-false _ (at-if4 .if4 .left)) (rw (at-part2 .part2 .ensures) at (sym (c .before .end-allowed .ensures) ∙ not-true _ (c .if5 .taken)))
 
 returns-7 : tie.Need-returns-7
 unfolding AllelesFound
 returns-7 c =
-    let args = c .before .before .before .before .before .before .before .before .before .before .before .before .before .before .before .before .before .before .before .args in
-    let r = rw ((c .before .before .before .before .before .before .before .before .before .part2 .ensures), (c .before .before .before .before .before .before .before .before .part3 .ensures), (c .before .before .before .before .before .read .given .1)) at (c .before .before .before .before .before .before .before .check-alleles .ensures) in
-    counts-wrong _ (args .head) (args .previous) (args .fit) (omega arith)
-    (sym (c .before .before .before .before .before .before .before .before .before .before .before .before .before .before .end-past .ensures) ∙ not-false _ (c .before .before .before .before .before .before .before .before .before .before .before .before .before .if2 .left)) (rw (c .before .before .before .before .before .before .before .before .before .before .before .before .part .ensures) at (sym (c .before .before .before .before .before .before .before .before .before .before .before .comes-after .ensures) ∙ not-false _ (c .before .before .before .before .before .before .before .before .before .before .if3 .left)))
-    _ _ r (not-false _ (c .before .before .before .if4 .left))
-    (rw (c .before .before .before .before .before .before .before .before .before .part2 .ensures) at (sym (c .before .before .end-allowed .ensures) ∙ not-false _ (c .before .if5 .left))) (not-true _ (c .if6 .taken))
+    let at-end-allowed = c .before .before in
+    let at-if4 = at-end-allowed .before in
+    let at-read = at-if4 .before .before in
+    let at-check-alleles = at-read .before .before in
+    let at-part3 = at-check-alleles .before in
+    let at-part2 = at-part3 .before in
+    let at-if3 = at-part2 .before in
+    let at-comes-after = at-if3 .before in
+    let at-part = at-comes-after .before in
+    let at-if2 = at-part .before in
+    let at-end-past = at-if2 .before in
+    let at-if1 = at-end-past .before in
+    let at-get = at-if1 .before in
+    let at-args = at-get .before .before .before in
+    let r = rw ((at-part2 .part2 .ensures), (at-part3 .part3 .ensures), (at-read .read .given .1)) at (at-check-alleles .check-alleles .ensures) in
+    counts-wrong _ (at-args .args .head) (at-args .args .previous) (at-args .args .fit) (omega (arith, (at-if1 .if1 .left), (at-get .get .ensures)))
+    (sym (at-end-past .end-past .ensures) ∙ not-false _ (at-if2 .if2 .left))
+    (rw (at-part .part .ensures) at (sym (at-comes-after .comes-after .ensures) ∙ not-false _ (at-if3 .if3 .left)))
+    _ _ r (not-false _ (at-if4 .if4 .left)) (rw (at-part2 .part2 .ensures) at
+    (sym (at-end-allowed .end-allowed .ensures) ∙ not-false _ (c .before .if5 .left))) (not-true _ (c .if6 .taken))
 
 returns-8 : tie.Need-returns-8
 unfolding AllelesFound
 returns-8 c =
-    let args = c .before .before .before .before .before .before .before .before .before .before .before .before .before .before .before .before .before .before .before .args in
-    let r = rw ((c .before .before .before .before .before .before .before .before .before .part2 .ensures), (c .before .before .before .before .before .before .before .before .part3 .ensures), (c .before .before .before .before .before .read .given .1)) at (c .before .before .before .before .before .before .before .check-alleles .ensures) in
-    record-right _ (args .head) (args .previous) (args .fit) (omega arith)
-    (sym (c .before .before .before .before .before .before .before .before .before .before .before .before .before .before .end-past .ensures) ∙ not-false _ (c .before .before .before .before .before .before .before .before .before .before .before .before .before .if2 .left)) (rw (c .before .before .before .before .before .before .before .before .before .before .before .before .part .ensures) at (sym (c .before .before .before .before .before .before .before .before .before .before .before .comes-after .ensures) ∙ not-false _ (c .before .before .before .before .before .before .before .before .before .before .if3 .left)))
-    _ _ r (not-false _ (c .before .before .before .if4 .left))
-    (rw (c .before .before .before .before .before .before .before .before .before .part2 .ensures) at (sym (c .before .before .end-allowed .ensures) ∙ not-false _ (c .before .if5 .left))) (not-false _ (c .if6 .left))
+    let at-end-allowed = c .before .before in
+    let at-if4 = at-end-allowed .before in
+    let at-read = at-if4 .before .before in
+    let at-check-alleles = at-read .before .before in
+    let at-part3 = at-check-alleles .before in
+    let at-part2 = at-part3 .before in
+    let at-if3 = at-part2 .before in
+    let at-comes-after = at-if3 .before in
+    let at-part = at-comes-after .before in
+    let at-if2 = at-part .before in
+    let at-end-past = at-if2 .before in
+    let at-if1 = at-end-past .before in
+    let at-get = at-if1 .before in
+    let at-args = at-get .before .before .before in
+    let r = rw ((at-part2 .part2 .ensures), (at-part3 .part3 .ensures), (at-read .read .given .1)) at (at-check-alleles .check-alleles .ensures) in
+    record-right _ (at-args .args .head) (at-args .args .previous) (at-args .args .fit) (omega (arith, (at-if1 .if1 .left), (at-get .get .ensures)))
+    (sym (at-end-past .end-past .ensures) ∙ not-false _ (at-if2 .if2 .left))
+    (rw (at-part .part .ensures) at (sym (at-comes-after .comes-after .ensures) ∙ not-false _ (at-if3 .if3 .left)))
+    _ _ r (not-false _ (at-if4 .if4 .left)) (rw (at-part2 .part2 .ensures) at
+    (sym (at-end-allowed .end-allowed .ensures) ∙ not-false _ (c .before .if5 .left))) (not-false _ (c .if6 .left))
 
 pub check-record-spec : {M : Type 1} → statement M
 check-record-spec =

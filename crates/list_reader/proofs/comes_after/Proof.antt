@@ -49,7 +49,14 @@ returns-3 c =
     let at-compare-bytes = at-enum-told3 .before .before in
     let at-part = at-compare-bytes .before in
     let at-previous = at-part .before .before in
-    rw ((at-previous .previous .given .1), ← (at-part .part .ensures), ← (at-compare-bytes .compare-bytes .ensures), (at-enum-told3 .enum-told3 .given .1), (c .before .get .ensures), (c .get2 .ensures))
+    rw (
+      (at-previous .previous .given .1),
+      ← (at-part .part .ensures),
+      ← (at-compare-bytes .compare-bytes .ensures),
+      (at-enum-told3 .enum-told3 .given .1),
+      (c .before .get .ensures),
+      (c .get2 .ensures),
+    )
 
 returns-4 : tie.Need-returns-4
 unfolding byOrder

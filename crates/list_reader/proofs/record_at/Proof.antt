@@ -34,7 +34,11 @@ returns-2 c =
     let at-clear = c .before .before in
     let at-found2 = at-clear .before .before .before in
     let at-read-record = at-found2 .before .before .before .before in
-    record { value = rw (at-found2 .found2 .given .1) at (at-read-record .read-record .ensures); cleared = (at-clear .clear .ensures) ∙ scratch-same _ _ (at-read-record .read-record .kept .1 .1 .1 .1 .0) }
+    record {
+      value = rw (at-found2 .found2 .given .1) at (at-read-record .read-record .ensures);
+      cleared = (at-clear .clear .ensures) ∙ scratch-same _ _
+          (at-read-record .read-record .kept .1 .1 .1 .1 .0);
+    }
 
 pub record-at-spec : {M : Type 1} → statement M
 record-at-spec =

@@ -137,7 +137,11 @@ returns-5 c =
     ((rw (c .enum-told5 .given .1) at (at-value-line2 .value-line2 .ensures)) .0)
 
 add-next : tie.Need-add-next
-add-next c = let h = line-within _ _ _ some _ _ ((rw (c .before .alternate .given .1) at (c .before .before .before .value-line2 .ensures)) .0) in omega (arith, h, (c .before .before .before .before .before .before .before .before .before .before .before .before .before .before .before .before .before .before .before .before .before .before .before .before .before .good))
+add-next c =
+    let at-value-line2 = c .before .before .before in
+    let at-good = at-value-line2 .before .before .before .before .before .before .before .before .before .before .before .before .before .before .before .before .before .before .before .before .before .before in
+    let h = line-within _ _ _ some _ _ ((rw (c .before .alternate .given .1) at (at-value-line2 .value-line2 .ensures)) .0) in omega
+    (arith, h, (at-good .good))
 
 cast-new-1based : tie.Need-cast-new-1based
 cast-new-1based c = search needs

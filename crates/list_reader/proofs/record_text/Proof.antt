@@ -70,7 +70,11 @@ returns-2 c =
     (rw (at-first .first .given .1) at (at-record-head .record-head .ensures)) (rw (c .enum-told2 .given .1) at (at-sample-lines .sample-lines .ensures))
 
 put-site-requires : tie.Need-put-site-requires Inv-loop μ-loop
-put-site-requires c κs = omega (arith, (c .before .before .before .before .before .before .before .before .before .before .before .before .before .before .before .before .before .before .before .pre), (c .before .before .before .before .before .before .loop .inv .long), (c .before .before .before .before .before .loop-test .taken))
+put-site-requires c κs =
+    let at-loop-test = c .before .before .before .before .before in
+    let at-loop = at-loop-test .before in
+    let at-pre = at-loop .before .before .before .before .before .before .before .before .before .before .before .before .before in
+    omega (arith, (at-pre .pre), (at-loop .loop .inv .long), (at-loop-test .loop-test .taken))
 
 some-pl-requires : tie.Need-some-pl-requires Inv-loop μ-loop
 some-pl-requires c κs = search needs
@@ -79,7 +83,10 @@ counts-fit-requires : tie.Need-counts-fit-requires Inv-loop μ-loop
 counts-fit-requires c κs = search needs
 
 add-i : tie.Need-add-i Inv-loop μ-loop
-add-i c = omega (arith, (c .before .before .before .before .before .before .before .before .before .before .loop-test .taken), (c .before .before .before .before .before .before .before .before .before .before .before .before .before .before .before .before .before .before .before .before .before .before .before .before .fits .samples))
+add-i c =
+    let at-loop-test = c .before .before .before .before .before .before .before .before .before .before in
+    let at-fits = at-loop-test .before .before .before .before .before .before .before .before .before .before .before .before .before .before in
+    omega (arith, (at-loop-test .loop-test .taken), (at-fits .fits .samples))
 
 loop-less : tie.Need-loop-less Inv-loop μ-loop
 loop-less c = search needs

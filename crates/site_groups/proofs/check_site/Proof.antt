@@ -18,24 +18,38 @@ get-requires c κs = search needs
 
 returns-2 : tie.Need-returns-2
 returns-2 c =
-    let args = c .before .before .before .before .args in
-    no-sample _ (args .place) (args .alleles) (args .values) (args .samples) (args .before) (omega arith) (omega arith)
+    let at-if1 = c .before .before in
+    let at-args = at-if1 .before .before in
+    no-sample _ (at-args .args .place) (at-args .args .alleles) (at-args .args .values) (at-args .args .samples) (at-args .args .before)
+    (omega (arith, (at-if1 .if1 .left))) (omega (arith, (c .if2 .taken), (c .before .get .ensures)))
 
 get-requires-2 : tie.Need-get-requires-2
 get-requires-2 c κs = search needs
 
 returns-3 : tie.Need-returns-3
 returns-3 c =
-    let args = c .before .before .before .before .before .before .args in
-    position-0 _ (args .place) (args .alleles) (args .values) (args .samples) (args .before) (omega arith) (omega arith) (omega arith)
+    let at-if2 = c .before .before in
+    let at-get = at-if2 .before in
+    let at-if1 = at-get .before in
+    let at-args = at-if1 .before .before in
+    position-0 _ (at-args .args .place) (at-args .args .alleles) (at-args .args .values) (at-args .args .samples) (at-args .args .before)
+    (omega (arith, (at-if1 .if1 .left))) (omega (arith, (at-if2 .if2 .left), (at-get .get .ensures)))
+    (omega (arith, (c .if3 .taken), (c .before .get2 .ensures)))
 
 get-requires-3 : tie.Need-get-requires-3
 get-requires-3 c κs = search needs
 
 returns-4 : tie.Need-returns-4
 returns-4 c =
-    let args = c .before .before .before .before .before .before .before .before .args in
-    end-before _ (args .place) (args .alleles) (args .values) (args .samples) (args .before) (omega arith) (omega arith) (omega arith) (omega arith)
+    let at-if3 = c .before .before in
+    let at-get2 = at-if3 .before in
+    let at-if2 = at-get2 .before in
+    let at-get = at-if2 .before in
+    let at-if1 = at-get .before in
+    let at-args = at-if1 .before .before in
+    end-before _ (at-args .args .place) (at-args .args .alleles) (at-args .args .values) (at-args .args .samples) (at-args .args .before)
+    (omega (arith, (at-if1 .if1 .left))) (omega (arith, (at-if2 .if2 .left), (at-get .get .ensures)))
+    (omega (arith, (at-if3 .if3 .left), (at-get2 .get2 .ensures))) (omega (arith, (c .if4 .taken), (at-get2 .get2 .ensures), (c .before .get3 .ensures)))
 
 part-requires : tie.Need-part-requires
 part-requires c κs = search needs
@@ -55,17 +69,43 @@ enum-told c = search needs
 returns-5 : tie.Need-returns-5
 unfolding AllelesFound
 returns-5 c =
-    let args = c .before .before .before .before .before .before .before .before .before .before .before .before .before .args in
-    allele-faulty _ (args .place) (args .alleles) (args .values) (args .samples) (args .before) (omega arith) (omega arith) (omega arith)
-    (omega arith) (rw ((c .before .before .before .before .part .ensures), (c .before .before .before .part2 .ensures), (c .enum-told .given .1)) at (c .before .before .check-alleles .ensures))
+    let at-check-alleles = c .before .before in
+    let at-part2 = at-check-alleles .before in
+    let at-part = at-part2 .before in
+    let at-if4 = at-part .before in
+    let at-get3 = at-if4 .before in
+    let at-if3 = at-get3 .before in
+    let at-get2 = at-if3 .before in
+    let at-if2 = at-get2 .before in
+    let at-get = at-if2 .before in
+    let at-if1 = at-get .before in
+    let at-args = at-if1 .before .before in
+    allele-faulty _ (at-args .args .place) (at-args .args .alleles) (at-args .args .values) (at-args .args .samples) (at-args .args .before)
+    (omega (arith, (at-if1 .if1 .left))) (omega (arith, (at-if2 .if2 .left), (at-get .get .ensures)))
+    (omega (arith, (at-if3 .if3 .left), (at-get2 .get2 .ensures)))
+    (omega (arith, (at-if4 .if4 .left), (at-get2 .get2 .ensures), (at-get3 .get3 .ensures)))
+    (rw ((at-part .part .ensures), (at-part2 .part2 .ensures), (c .enum-told .given .1)) at (at-check-alleles .check-alleles .ensures))
 
 returns-6 : tie.Need-returns-6
 unfolding AllelesFound
 returns-6 c =
-    let args = c .before .before .before .before .before .before .before .before .before .before .before .before .before .before .before .args in
-    let r = rw ((c .before .before .before .before .before .before .part .ensures), (c .before .before .before .before .before .part2 .ensures), (c .before .before .read .given .1)) at (c .before .before .before .before .check-alleles .ensures) in
-    no-non-ref _ (args .place) (args .alleles) (args .values) (args .samples) (args .before) (omega arith) (omega arith) (omega arith) (omega arith)
-    _ _ r (not-true _ (c .if5 .taken))
+    let at-read = c .before .before in
+    let at-check-alleles = at-read .before .before in
+    let at-part2 = at-check-alleles .before in
+    let at-part = at-part2 .before in
+    let at-if4 = at-part .before in
+    let at-get3 = at-if4 .before in
+    let at-if3 = at-get3 .before in
+    let at-get2 = at-if3 .before in
+    let at-if2 = at-get2 .before in
+    let at-get = at-if2 .before in
+    let at-if1 = at-get .before in
+    let at-args = at-if1 .before .before in
+    let r = rw ((at-part .part .ensures), (at-part2 .part2 .ensures), (at-read .read .given .1)) at (at-check-alleles .check-alleles .ensures) in
+    no-non-ref _ (at-args .args .place) (at-args .args .alleles) (at-args .args .values) (at-args .args .samples) (at-args .args .before)
+    (omega (arith, (at-if1 .if1 .left))) (omega (arith, (at-if2 .if2 .left), (at-get .get .ensures)))
+    (omega (arith, (at-if3 .if3 .left), (at-get2 .get2 .ensures)))
+    (omega (arith, (at-if4 .if4 .left), (at-get2 .get2 .ensures), (at-get3 .get3 .ensures))) _ _ r (not-true _ (c .if5 .taken))
 
 add-positions : tie.Need-add-positions
 add-positions c = search needs
@@ -76,10 +116,25 @@ end-fits-requires c κs = search needs
 returns-7 : tie.Need-returns-7
 unfolding AllelesFound
 returns-7 c =
-    let args = c .before .before .before .before .before .before .before .before .before .before .before .before .before .before .before .before .before .args in
-    let r = rw ((c .before .before .before .before .before .before .before .before .part .ensures), (c .before .before .before .before .before .before .before .part2 .ensures), (c .before .before .before .before .read .given .1)) at (c .before .before .before .before .before .before .check-alleles .ensures) in
-    end-wrong _ (args .place) (args .alleles) (args .values) (args .samples) (args .before) (omega arith) (omega arith) (omega arith) (omega arith) _
-    _ r (not-false _ (c .before .before .if5 .left)) (rw ((c .before .before .before .before .before .before .before .before .part .ensures), (c .before .before .before .before .before .before .before .before .before .before .before .before .get2 .ensures), (c .before .before .before .before .before .before .before .before .before .before .get3 .ensures)) at (sym (c .before .end-fits .ensures) ∙ not-true _ (c .if6 .taken)))
+    let at-if5 = c .before .before in
+    let at-read = at-if5 .before .before in
+    let at-check-alleles = at-read .before .before in
+    let at-part2 = at-check-alleles .before in
+    let at-part = at-part2 .before in
+    let at-if4 = at-part .before in
+    let at-get3 = at-if4 .before in
+    let at-if3 = at-get3 .before in
+    let at-get2 = at-if3 .before in
+    let at-if2 = at-get2 .before in
+    let at-get = at-if2 .before in
+    let at-if1 = at-get .before in
+    let at-args = at-if1 .before .before in
+    let r = rw ((at-part .part .ensures), (at-part2 .part2 .ensures), (at-read .read .given .1)) at (at-check-alleles .check-alleles .ensures) in
+    end-wrong _ (at-args .args .place) (at-args .args .alleles) (at-args .args .values) (at-args .args .samples) (at-args .args .before)
+    (omega (arith, (at-if1 .if1 .left))) (omega (arith, (at-if2 .if2 .left), (at-get .get .ensures)))
+    (omega (arith, (at-if3 .if3 .left), (at-get2 .get2 .ensures)))
+    (omega (arith, (at-if4 .if4 .left), (at-get2 .get2 .ensures), (at-get3 .get3 .ensures))) _ _ r (not-false _ (at-if5 .if5 .left))
+    (rw ((at-part .part .ensures), (at-get2 .get2 .ensures), (at-get3 .get3 .ensures)) at (sym (c .before .end-fits .ensures) ∙ not-true _ (c .if6 .taken)))
 
 cast-counts-fit : tie.Need-cast-counts-fit
 unfolding AllelesFound
@@ -92,20 +147,54 @@ counts-fit-requires c κs = search needs
 returns-8 : tie.Need-returns-8
 unfolding AllelesFound
 returns-8 c =
-    let args = c .before .before .before .before .before .before .before .before .before .before .before .before .before .before .before .before .before .before .before .args in
-    let r = rw ((c .before .before .before .before .before .before .before .before .before .before .part .ensures), (c .before .before .before .before .before .before .before .before .before .part2 .ensures), (c .before .before .before .before .before .before .read .given .1)) at (c .before .before .before .before .before .before .before .before .check-alleles .ensures) in
-    counts-wrong _ (args .place) (args .alleles) (args .values) (args .samples) (args .before) (omega arith) (omega arith) (omega arith)
-    (omega arith) _ _ r (not-false _ (c .before .before .before .before .if5 .left))
-    (rw ((c .before .before .before .before .before .before .before .before .before .before .part .ensures), (c .before .before .before .before .before .before .before .before .before .before .before .before .before .before .get2 .ensures), (c .before .before .before .before .before .before .before .before .before .before .before .before .get3 .ensures)) at (sym (c .before .before .before .end-fits .ensures) ∙ not-false _ (c .before .before .if6 .left))) (sym (c .before .counts-fit .ensures) ∙ not-true _ (c .if7 .taken))
+    let at-if6 = c .before .before in
+    let at-end-fits = at-if6 .before in
+    let at-if5 = at-end-fits .before in
+    let at-read = at-if5 .before .before in
+    let at-check-alleles = at-read .before .before in
+    let at-part2 = at-check-alleles .before in
+    let at-part = at-part2 .before in
+    let at-if4 = at-part .before in
+    let at-get3 = at-if4 .before in
+    let at-if3 = at-get3 .before in
+    let at-get2 = at-if3 .before in
+    let at-if2 = at-get2 .before in
+    let at-get = at-if2 .before in
+    let at-if1 = at-get .before in
+    let at-args = at-if1 .before .before in
+    let r = rw ((at-part .part .ensures), (at-part2 .part2 .ensures), (at-read .read .given .1)) at (at-check-alleles .check-alleles .ensures) in
+    counts-wrong _ (at-args .args .place) (at-args .args .alleles) (at-args .args .values) (at-args .args .samples) (at-args .args .before)
+    (omega (arith, (at-if1 .if1 .left))) (omega (arith, (at-if2 .if2 .left), (at-get .get .ensures)))
+    (omega (arith, (at-if3 .if3 .left), (at-get2 .get2 .ensures)))
+    (omega (arith, (at-if4 .if4 .left), (at-get2 .get2 .ensures), (at-get3 .get3 .ensures))) _ _ r (not-false _ (at-if5 .if5 .left))
+    (rw ((at-part .part .ensures), (at-get2 .get2 .ensures), (at-get3 .get3 .ensures)) at
+    (sym (at-end-fits .end-fits .ensures) ∙ not-false _ (at-if6 .if6 .left))) (sym (c .before .counts-fit .ensures) ∙ not-true _ (c .if7 .taken))
 
 returns-9 : tie.Need-returns-9
 unfolding AllelesFound
 returns-9 c =
-    let args = c .before .before .before .before .before .before .before .before .before .before .before .before .before .before .before .before .before .before .before .args in
-    let r = rw ((c .before .before .before .before .before .before .before .before .before .before .part .ensures), (c .before .before .before .before .before .before .before .before .before .part2 .ensures), (c .before .before .before .before .before .before .read .given .1)) at (c .before .before .before .before .before .before .before .before .check-alleles .ensures) in
-    site-right _ (args .place) (args .alleles) (args .values) (args .samples) (args .before) (omega arith) (omega arith) (omega arith) (omega arith)
-    _ _ r (not-false _ (c .before .before .before .before .if5 .left))
-    (rw ((c .before .before .before .before .before .before .before .before .before .before .part .ensures), (c .before .before .before .before .before .before .before .before .before .before .before .before .before .before .get2 .ensures), (c .before .before .before .before .before .before .before .before .before .before .before .before .get3 .ensures)) at (sym (c .before .before .before .end-fits .ensures) ∙ not-false _ (c .before .before .if6 .left))) (sym (c .before .counts-fit .ensures) ∙ not-false _ (c .if7 .left))
+    let at-if6 = c .before .before in
+    let at-end-fits = at-if6 .before in
+    let at-if5 = at-end-fits .before in
+    let at-read = at-if5 .before .before in
+    let at-check-alleles = at-read .before .before in
+    let at-part2 = at-check-alleles .before in
+    let at-part = at-part2 .before in
+    let at-if4 = at-part .before in
+    let at-get3 = at-if4 .before in
+    let at-if3 = at-get3 .before in
+    let at-get2 = at-if3 .before in
+    let at-if2 = at-get2 .before in
+    let at-get = at-if2 .before in
+    let at-if1 = at-get .before in
+    let at-args = at-if1 .before .before in
+    let r = rw ((at-part .part .ensures), (at-part2 .part2 .ensures), (at-read .read .given .1)) at (at-check-alleles .check-alleles .ensures) in
+    site-right _ (at-args .args .place) (at-args .args .alleles) (at-args .args .values) (at-args .args .samples) (at-args .args .before)
+    (omega (arith, (at-if1 .if1 .left))) (omega (arith, (at-if2 .if2 .left), (at-get .get .ensures)))
+    (omega (arith, (at-if3 .if3 .left), (at-get2 .get2 .ensures)))
+    (omega (arith, (at-if4 .if4 .left), (at-get2 .get2 .ensures), (at-get3 .get3 .ensures))) _ _ r (not-false _ (at-if5 .if5 .left))
+    (rw ((at-part .part .ensures), (at-get2 .get2 .ensures), (at-get3 .get3 .ensures)) at
+    (sym (at-end-fits .end-fits .ensures) ∙ not-false _ (at-if6 .if6 .left))) (sym (c .before .counts-fit .ensures) ∙ not-false _ (c .if7 .left))
 
 pub check-site-spec : {M : Type 1} → statement M
 check-site-spec =

@@ -124,7 +124,11 @@ new-1based-requires-2 : tie.Need-new-1based-requires-2
 new-1based-requires-2 c κs = search needs
 
 add-t34 : tie.Need-add-t34
-add-t34 c = let h = line-within _ _ _ number _ _ (rw (c .before .before .before .before .to .given .1) at (c .before .before .before .before .before .before .number-line3 .ensures)) in omega (arith, h, (c .before .before .before .before .before .before .before .before .before .before .before .before .before .before .before .before .before .before .before .before .before .before .before .before .good))
+add-t34 c =
+    let at-to = c .before .before .before .before in
+    let at-number-line3 = at-to .before .before in
+    let at-good = at-number-line3 .before .before .before .before .before .before .before .before .before .before .before .before .before .before .before .before .before .before in
+    let h = line-within _ _ _ number _ _ (rw (at-to .to .given .1) at (at-number-line3 .number-line3 .ensures)) in omega (arith, h, (at-good .good))
 
 returns-5 : tie.Need-returns-5
 unfolding keyOf text
