@@ -82,10 +82,10 @@ fn extend_allele(field: &[u8], end: &[u8], alts: &mut [u8], len: usize, n: usize
         (extendedLetters (now (end .entry)) (now (field .entry)))
         (now (alts .exit)) r ⌝ }
 {
-    if kv_text::same_bytes(field, b"*") {
+    if alleles::is_span_del(field) {
         return AltsAt::Alts(len, n);
     }
-    if kv_text::same_bytes(field, b"<NON_REF>") {
+    if alleles::is_non_ref(field) {
         return AltsAt::Alts(len, n);
     }
     add_allele(field, end, alts, len, n)

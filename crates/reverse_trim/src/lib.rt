@@ -36,10 +36,10 @@ fn are_alleles(list: &[u8]) -> bool
 fn is_letter_allele(field: &[u8]) -> bool
     ensures { λ r. ⌜ r ≡ spellsLetters (now (field .entry)) ⌝ }
 {
-    if kv_text::same_bytes(field, b"*") {
+    if alleles::is_span_del(field) {
         return false;
     }
-    !kv_text::same_bytes(field, b"<NON_REF>")
+    !alleles::is_non_ref(field)
 }
 
 // Whether one of the ALTs is a letter allele.

@@ -68,10 +68,10 @@ fn is_extended(allele: &[u8], bases: &[u8], tail: &[u8]) -> bool
     if !kv_text::same_bytes(&allele[n..], tail) {
         return false;
     }
-    if kv_text::same_bytes(allele, b"*") {
+    if alleles::is_span_del(allele) {
         return false;
     }
-    !kv_text::same_bytes(allele, b"<NON_REF>")
+    !alleles::is_non_ref(allele)
 }
 
 // ---- numbers for them
@@ -112,7 +112,7 @@ fn put_span_del(index: AlleleIndex, alts: &[u8], fields: &[usize], count: usize,
         (index .0) 0 count (now (map .entry)) ⌝ }
 {
     for i in 0..count {
-        let same = kv_text::same_bytes(alt_at(alts, fields, i), b"*");
+        let same = alleles::is_span_del(alt_at(alts, fields, i));
         put_index_if(same, map, i + 1, index);
     }
 }
@@ -197,7 +197,7 @@ fn put_alt(
         }
         return;
     }
-    if kv_text::same_bytes(alt, b"*") {
+    if alleles::is_span_del(alt) {
         put_span_del(index, alts, fields, count, map);
         return;
     }
@@ -206,22 +206,32 @@ fn put_alt(
 }
 
 // The number of the first `<NON_REF>` so far, 0 for none.
-fn first_non_ref(found: AlleleIndex, nonref: bool, number: u8) -> AlleleIndex
-    ensures { λ r. ⌜ r .0 ≡ cond (eqb (found .0) 0) (cond nonref number 0) (found .0) ⌝ }
+fn first_non_ref(found: AlleleIndex, nonref: bool, index: AlleleIndex) -> AlleleIndex
+    ensures { λ r. ⌜ r .0 ≡ cond (eqb (found .0) 0) (cond nonref (index .0) 0) (found .0) ⌝ }
 {
     if found.get() == 0 {
         if nonref {
-            return AlleleIndex::new(number);
+            return index;
         }
     }
     found
 }
 
 // Whether a field follows the one that ends here, and a number that of this one.
-fn has_next(end: usize, len: usize, number: u8) -> bool
-    ensures { λ r. ⌜ r ≡ ltb end len && ltb number 255 ⌝ }
+fn has_next(end: usize, len: usize, index: AlleleIndex) -> bool
+    ensures { λ r. ⌜ r ≡ ltb end len && ltb (index .0) 255 ⌝ }
 {
+    let number = index.get();
     end < len && number < 255
+}
+
+// The allele behind one.
+fn next_allele(index: AlleleIndex) -> AlleleIndex
+    requires { ⌜ index .0 < 255 ⌝ }
+    ensures { λ r. ⌜ r .0 ≡ index .0 + 1 ⌝ }
+{
+    let next = index.get() + 1;
+    AlleleIndex::new(next as u8)
 }
 
 // Numbers for the record's ALTs by the site's from an offset on, of which the first has this number: that of the first that reads as
@@ -230,7 +240,7 @@ fn put_alts(
     own: &[u8],
     alternates: &[u8],
     at: usize,
-    number: u8,
+    index: AlleleIndex,
     found: AlleleIndex,
     starts: bool,
     reference: &[u8],
@@ -239,19 +249,18 @@ fn put_alts(
     count: usize,
     map: &mut [u8],
 )
-    requires { ⌜ (at ≤ length (now alternates)) × (0 < number) × (2 * count ≤ length (now fields)) ⌝ }
+    requires { ⌜ (at ≤ length (now alternates)) × (0 < index .0) × (2 * count ≤ length (now fields)) ⌝ }
     ensures { λ _. ⌜ now (map .exit) ≡ sets (now (map .entry)) 1 (eachOf
-        (λ i. altNumber starts (now (reference .entry)) (now (own .entry)) (found .0) number
+        (λ i. altNumber starts (now (reference .entry)) (now (own .entry)) (found .0) (index .0)
         (fieldsOf comma (drop at (now (alternates .entry)))) (nameAt (now (alts .entry)) (now (fields .entry)) i))
         count) ⌝ }
 {
     let end = kv_text::field_end(alternates, at, b',');
     let alt = &alternates[at..end];
-    let nonref = kv_text::same_bytes(alt, b"<NON_REF>");
-    let absent = first_non_ref(found, nonref, number);
-    let index = AlleleIndex::new(number);
-    if has_next(end, alternates.len(), number) {
-        let next = number + 1;
+    let nonref = alleles::is_non_ref(alt);
+    let absent = first_non_ref(found, nonref, index);
+    if has_next(end, alternates.len(), index) {
+        let next = next_allele(index);
         put_alts(
             own,
             alternates,
@@ -301,11 +310,12 @@ fn put_indexes(
 {
     let zero = AlleleIndex::reference();
     put_index(map, 0, zero);
+    let first = AlleleIndex::new(1);
     put_alts(
         own,
         alternates,
         0,
-        1,
+        first,
         zero,
         starts,
         reference,

@@ -7,25 +7,23 @@ use Rattle.merged_alleles.proofs.Turns.{adds-nothing, letters-extended,
 use Rattle.merged_alleles.proofs.extend_allele.Statement.{statement}
 use Rattle.merged_alleles.proofs.extend_allele.Tie as tie
 
-slice-aggregate-same-bytes : tie.Need-slice-aggregate-same-bytes
-slice-aggregate-same-bytes c = search needs
-
-same-bytes-requires : tie.Need-same-bytes-requires
-same-bytes-requires c κs = search needs
+is-span-del-requires : tie.Need-is-span-del-requires
+is-span-del-requires c κs = search needs
 
 returns : tie.Need-returns
 unfolding spelled text
-returns c = rw (no-letters-star _ _ (sym ((c .before .same-bytes .ensures)) ∙ (c .if1 .taken))) (adds-nothing ((c .before .before .before .before .before .before .pre .0)))
+returns c =
+    let at-start = c .before .before .before .before .before in
+    rw (no-letters-star _ _ (sym (c .before .is-span-del .ensures) ∙ (c .if1 .taken))) (adds-nothing (at-start .pre .0))
 
-slice-aggregate-same-bytes-2 : tie.Need-slice-aggregate-same-bytes-2
-slice-aggregate-same-bytes-2 c = search needs
-
-same-bytes-requires-2 : tie.Need-same-bytes-requires-2
-same-bytes-requires-2 c κs = search needs
+is-non-ref-requires : tie.Need-is-non-ref-requires
+is-non-ref-requires c κs = search needs
 
 returns-2 : tie.Need-returns-2
 unfolding spelled text
-returns-2 c = rw (no-letters-symbol _ _ (sym ((c .before .same-bytes2 .ensures)) ∙ (c .if2 .taken))) (adds-nothing ((c .before .before .before .before .before .before .before .before .before .pre .0)))
+returns-2 c =
+    let at-start = c .before .before .before .before .before .before .before in
+    rw (no-letters-symbol _ _ (sym (c .before .is-non-ref .ensures) ∙ (c .if2 .taken))) (adds-nothing (at-start .pre .0))
 
 add-allele-requires : tie.Need-add-allele-requires
 add-allele-requires c κs = search needs
@@ -35,17 +33,20 @@ same-length c = search needs
 
 returns-3 : tie.Need-returns-3
 unfolding spelled text
-returns-3 c = rw (letters-extended _ _ (sym ((c .before .before .before .before .before .before .before .before .same-bytes .ensures)) ∙ (c .before .before .before .before .before .before .before .if1 .left)) (sym ((c .before .before .before .before .before .same-bytes2 .ensures)) ∙ (c .before .before .before .before .if2 .left))) ((c .before .before .add-allele .ensures))
+returns-3 c =
+    let at-is-non-ref = c .before .before .before .before .before in
+    let at-if1 = at-is-non-ref .before in
+    let at-is-span-del = at-if1 .before in
+    rw (letters-extended _ _ (sym (at-is-span-del .is-span-del .ensures) ∙ (at-if1 .if1 .left))
+    (sym (at-is-non-ref .is-non-ref .ensures) ∙ (c .before .before .before .before .if2 .left))) (c .before .before .add-allele .ensures)
 
 pub extend-allele-spec : {M : Type 1} → statement M
 extend-allele-spec =
     tie.close
     (tie.spec
-    slice-aggregate-same-bytes
-    same-bytes-requires
+    is-span-del-requires
     returns
-    slice-aggregate-same-bytes-2
-    same-bytes-requires-2
+    is-non-ref-requires
     returns-2
     add-allele-requires
     same-length

@@ -11,6 +11,9 @@ reference-requires c κs = search needs
 put-index-requires : tie.Need-put-index-requires
 put-index-requires c κs = search needs
 
+new-requires : tie.Need-new-requires
+new-requires c κs = search needs
+
 put-alts-requires : tie.Need-put-alts-requires
 put-alts-requires c κs = search needs
 
@@ -21,7 +24,14 @@ same-length : tie.Need-same-length
 same-length c = search needs
 
 returns : tie.Need-returns
-returns c = rw ((c .before .before .before .before .before .before .put-alts .ensures), (c .before .before .before .before .before .before .before .before .before .before .put-index .ensures)) at ((c .before .before .put-ref .ensures)) ∙ all-numbers _ _ _ _ ((c .before .before .before .before .before .before .before .before .before .before .before .before .before .before .before .before .before .before .before .pre)) _ ((c .before .before .before .before .before .before .before .before .before .before .before .before .reference .ensures))
+returns c =
+    let at-put-alts = c .before .before .before .before .before .before in
+    let at-new = at-put-alts .before .before in
+    let at-put-index = at-new .before .before .before in
+    let at-reference = at-put-index .before .before in
+    let at-start = at-reference .before .before .before .before .before .before .before in
+    rw (rw (at-new .new .ensures) at (at-put-alts .put-alts .ensures), (at-put-index .put-index .ensures)) at (c .before .before .put-ref .ensures)
+    ∙ all-numbers _ _ _ _ (at-start .pre) _ (at-reference .reference .ensures)
 
 pub put-indexes-spec : {M : Type 1} → statement M
 put-indexes-spec =
@@ -29,6 +39,7 @@ put-indexes-spec =
     (tie.spec
     reference-requires
     put-index-requires
+    new-requires
     put-alts-requires
     put-ref-requires
     same-length
