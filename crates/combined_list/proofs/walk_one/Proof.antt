@@ -67,7 +67,7 @@ same-length-2 c = search needs
 returns : tie.Need-returns
 returns c = λ ready. let runs = (c .before .before .before .before .before .before .before .before .before .before .before .before .select-contig .ensures .0) _ (ready .tables .grouped) in
     let found = collected (ready .tables) (ready .is-first) runs ((c .before .before .before .before .before .before .before .before .contig-name .ensures)) ((c .before .before .before .before .before .before .before .given-clip .ensures)) ((c .before .before .before .before .collect-breakpoints .ensures)) in
-    one-refused (ready .tables) (ready .is-first) _ _ _ _ ((c .before .before .before .before .before .before .before .before .contig-name .ensures)) (not-all-places found ((c .enum-told .given .1)))
+    one-refused (ready .tables) (ready .is-first) _ _ _ _ (ready .progress .measured .laid) ((c .before .before .before .before .before .before .before .before .contig-name .ensures)) (not-all-places found ((c .enum-told .given .1)))
 
 same-length-3 : tie.Need-same-length-3
 same-length-3 c = c .before .before .before .before .before .before .before .before .before .before .before .before .before .before .before .before .before .before .before .before .before .before .before .before .before .before .before .before .before .select-contig .kept .1 .1 .1 .1 .1 .0
