@@ -43,12 +43,12 @@ module _ (s rows reference contig held : List ℕ) (first last : GenomePosition)
 
 -- ---- a record that is no block
 
-module _ (s rows : List ℕ) (samples : ℕ) (reference contig : List ℕ) (position : ℕ) (place : RefAt) (found alts : List ℕ) (at : ℕ)
-    (h : RecordFits s rows samples reference contig position place found alts at) where
+module _ (s rows : List ℕ) (samples : ℕ) (reference contig : List ℕ) (position : ℕ) (place : RefAt) (own alts : List ℕ) (at : ℕ)
+    (h : RecordFits s rows samples reference contig position place own alts at) where
   pub record-head-fits : HeadFits contig position position (refBytes s rows reference place) alts at
   record-head-fits = record { pos = h .in-range; end = h .in-range; fits = omega (arith, h .fits) }
 
   pub record-samples-fit : {d d′ : List ℕ} {at′ : ℕ}
       → Laid d at (headOf contig position position (refBytes s rows reference place) alts) d′ at′
-      → SamplesPrintable s rows samples found alts at′
-  record-samples-fit l = record { sound = h .sound; few = h .few; few-samples = h .few-samples; fits = omega (arith, h .fits, l .next) }
+      → SamplesPrintable s rows samples own alts at′
+  record-samples-fit l = record { enough = h .enough; sound = h .sound; few = h .few; fits = omega (arith, h .fits, l .next) }

@@ -1,7 +1,7 @@
 -- A record comes behind the one that is held back: what is laid, what waits, and that all goes on as it would have gone on with it.
 use Prim.Native.Nat.{_+_, _≤_, min, ℕ}
 use lib.ListN.{drop, length, length-append, take}
-use lib.Seq.{take-at, take-length}
+use lib.Seq.{sets, take-at, take-length}
 use mathlib.Core.Bool.{false, true}
 use mathlib.Core.List.{List, [], _++_, _∷_, append-assoc, append-nil, flatMap}
 use mathlib.Core.Option.{Option, none, some}
@@ -25,10 +25,20 @@ use Rattle.record_laws.specs.Pending.{andLater, blockRecord, finish}
 use Rattle.record_lines.specs.Head.{headOf}
 use Rattle.record_lines.specs.Samples.{printedSamples}
 use Rattle.coalescing.proofs.HeldBlocks.{held-joins, held-printed, holds-joined}
-use Rattle.coalescing.specs.Held.{HeldBlock, Holds, joinedTo, joinsPending, ofOption, pendingBytes, pendingCount}
+use Rattle.coalescing.specs.Held.{HeldBlock, Holds, heldAfter, joinedTo, joinsPending, ofOption, pendingBytes, pendingCount}
 use Rattle.coalescing.specs.Steps.{OtherRecord, Progress, StepTo}
 use Rattle.coalescing.specs.declared.Pending.{Pending}
 use Rattle.coalescing.specs.declared.Pending.the-variants.{Block, Nothing}
+
+-- the lines that are held behind a block
+module _ (s rows reference held : List ℕ) (pending : Pending) (position : ℕ) (place : RefAt) (fresh : List ℕ) where
+  pub held-joined : joinsPending s rows reference held pending position place fresh ≡ true → held ≡ heldAfter s rows reference held pending position place fresh
+  unfolding heldAfter
+  held-joined e = rw e
+
+  pub held-own : joinsPending s rows reference held pending position place fresh ≡ false → sets held 0 fresh ≡ heldAfter s rows reference held pending position place fresh
+  unfolding heldAfter
+  held-own e = rw e
 
 module _ (s rows : List ℕ) (samples : ℕ) (reference contig held : List ℕ) (d₀ bytes : List ℕ) (records : ℕ) where
   -- the record that was held back is laid
@@ -122,8 +132,8 @@ module _ (s rows : List ℕ) (samples : ℕ) (reference contig held : List ℕ) 
 
   -- ---- another record
 
-  module _ (position : ℕ) (place : RefAt) (found alts : List ℕ) (new : Record)
-      (o : OtherRecord s rows samples reference contig position place found alts new) where
+  module _ (position : ℕ) (place : RefAt) (own alts : List ℕ) (new : Record)
+      (o : OtherRecord s rows samples reference contig position place own alts new) where
     done-turned : (pending : Pending) (waiting : Option Record) → Holds s rows samples reference contig held pending waiting
         → (done : List Record) (m : Checked Record) (c : Checked (List Record)) → m ≡ accepted new
         → finish done waiting (andLater m c) ≡ finish (done ++ (ofOption waiting ++ (new ∷ []))) none c
@@ -135,7 +145,7 @@ module _ (s rows : List ℕ) (samples : ℕ) (reference contig held : List ℕ) 
         → (out middle out′ : List ℕ) (at count r end : ℕ) → Progress d₀ bytes records out at count
         → Laid out at (pendingBytes s rows reference contig held pending) middle r
         → Laid middle (min limit r)
-        (headOf contig position position (refBytes s rows reference place) alts ++ printedSamples s rows samples found position (refBytes s rows reference place) alts)
+        (headOf contig position position (refBytes s rows reference place) alts ++ printedSamples s rows samples own position (refBytes s rows reference place) alts)
         out′ end
         → StepTo s rows samples reference contig held out′ waiting new d₀ bytes records
         (record { pending = Nothing; at = min limit end; count = min 4294967295 (pendingCount pending count + 1) })

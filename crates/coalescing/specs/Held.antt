@@ -2,7 +2,8 @@
 use Prim.Native.Nat.{_+_, _<_, _^_, _≤_, min, suc, ℕ}
 use lib.Dec.{eqb}
 use lib.ListN.{length, take}
-use mathlib.Core.Bool.{Bool, _&&_, false}
+use lib.Seq.{sets}
+use mathlib.Core.Bool.{Bool, _&&_, cond, false}
 use mathlib.Core.List.{List, [], _++_, _∷_, flatMap}
 use mathlib.Core.Option.{Option, none, some}
 use mathlib.Core.Path.{_≡_}
@@ -44,6 +45,11 @@ joinsPending s rows reference held (Block first last own len) position place fre
     eqb position (suc (last .0))
     && sameBytes (refBytes s rows reference own) (refBytes s rows reference place)
     && sameBytes (take len held) fresh
+
+-- the lines that are held behind a block: those before it if it joins, else its own
+unfoldable pub heldAfter : List ℕ → List ℕ → List ℕ → List ℕ → Pending → ℕ → RefAt → List ℕ → List ℕ
+heldAfter s rows reference held pending position place fresh =
+    cond (joinsPending s rows reference held pending position place fresh) held (sets held 0 fresh)
 
 -- it with another last position
 unfoldable pub joinedTo : Pending → GenomePosition → Pending

@@ -1,14 +1,13 @@
 -- What laying records one after the other asks and leaves.
 use Prim.Native.Nat.{_*_, _+_, _<_, _^_, _≤_, ℕ}
-use lib.ListN.{length}
+use lib.ListN.{length, take}
 use mathlib.Core.Bool.{false}
-use mathlib.Core.List.{List, _++_, flatMap, map}
+use mathlib.Core.List.{List, _++_, flatMap}
 use mathlib.Core.Option.{Option}
 use mathlib.Core.Path.{_≡_}
 use Rattle.definitions.specs.Alleles.{isBlock}
 use Rattle.definitions.specs.Bytes.{comma, fieldsOf}
 use Rattle.definitions.specs.Checked.{Checked, accepted}
-use Rattle.definitions.specs.Limits.{maxSamples}
 use Rattle.definitions.specs.Numbers.{maxNumber}
 use Rattle.definitions.specs.Printed.{printedRecord}
 use Rattle.definitions.specs.Records.{Record}
@@ -27,11 +26,11 @@ use Rattle.coalescing.specs.declared.Pending.{Pending}
 use Rattle.coalescing.specs.declared.Stepped.{Stepped}
 
 -- what laying a record that is no block asks
-pub record RecordFits (s rows : List ℕ) (samples : ℕ) (reference contig : List ℕ) (position : ℕ) (place : RefAt) (found alts : List ℕ) (at : ℕ) : Type 0 where
+pub record RecordFits (s rows : List ℕ) (samples : ℕ) (reference contig : List ℕ) (position : ℕ) (place : RefAt) (own alts : List ℕ) (at : ℕ) : Type 0 where
   pub in-range : position ≤ maxNumber
-  pub sound : Every SoundSite (map (siteAt s rows) found)
+  pub enough : samples ≤ length own
+  pub sound : Every (λ x. x < length rows → SoundSite (siteAt s rows x)) (take samples own)
   pub few : length (fieldsOf comma alts) ≤ 15
-  pub few-samples : samples ≤ maxSamples
   pub fits : at + length (headOf contig position position (refBytes s rows reference place) alts) + mostData * samples < 2 ^ 64
 
 -- what the next block record asks: the one that is held back can be laid, and the new lines fit the buffer
@@ -40,11 +39,11 @@ pub record BlockReady (s rows reference contig held fresh : List ℕ) (pending :
   pub room : length fresh ≤ length held
 
 -- a record that is no block, with these lines
-pub record OtherRecord (s rows : List ℕ) (samples : ℕ) (reference contig : List ℕ) (position : ℕ) (place : RefAt) (found alts : List ℕ) (r : Record) : Type 0 where
+pub record OtherRecord (s rows : List ℕ) (samples : ℕ) (reference contig : List ℕ) (position : ℕ) (place : RefAt) (own alts : List ℕ) (r : Record) : Type 0 where
   pub not-block : isBlock (r .alleles) ≡ false
   pub printed : printedRecord r
       ≡ headOf contig position position (refBytes s rows reference place) alts
-      ++ printedSamples s rows samples found position (refBytes s rows reference place) alts
+      ++ printedSamples s rows samples own position (refBytes s rows reference place) alts
 
 -- bytes were laid over a buffer from its beginning on, and are so many records; offset and count are held below their limits
 pub record Progress (d₀ bytes : List ℕ) (records : ℕ) (d : List ℕ) (at count : ℕ) : Type 0 where

@@ -10,7 +10,7 @@ ghost use Rattle.kv_write.specs.Laid.{Laid};
 ghost use Rattle.merged_ref.specs.Answers.{refBytes};
 ghost use Rattle.record_lines.specs.Head.{headOf};
 ghost use Rattle.record_lines.specs.Samples.{printedSamples};
-ghost use Rattle.coalescing.specs.Held.{HeldBlock, Holds, PendingFits, joinedTo, joinsPending, pendingBytes, pendingCount};
+ghost use Rattle.coalescing.specs.Held.{HeldBlock, Holds, PendingFits, heldAfter, joinedTo, joinsPending, pendingBytes, pendingCount};
 ghost use Rattle.coalescing.specs.Steps.{BlockReady, OtherRecord, Progress, RecordFits, StepTo};
 use bio_ids::GenomePosition;
 use merged_ref::RefAt;
@@ -117,21 +117,21 @@ fn put_record<'a>(
     contig: &[u8],
     position: GenomePosition,
     place: RefAt,
-    found: &[usize],
+    own: &[usize],
     alts: &[u8],
     out: &mut [u8],
     at: usize,
 ) -> usize
-    requires { ⌜ RecordFits (now s) (now rows) samples (now reference) (now contig) (position .0) place (now found) (now alts) at ⌝ }
+    requires { ⌜ RecordFits (now s) (now rows) samples (now reference) (now contig) (position .0) place (now own) (now alts) at ⌝ }
     ensures { λ r. ⌜ Laid (now (out .entry)) at
         (headOf (now (contig .entry)) (position .0) (position .0) (refBytes (now (s .entry)) (now (rows .entry)) (now (reference .entry)) place) (now (alts .entry))
-        ++ printedSamples (now (s .entry)) (now (rows .entry)) samples (now (found .entry)) (position .0)
+        ++ printedSamples (now (s .entry)) (now (rows .entry)) samples (now (own .entry)) (position .0)
         (refBytes (now (s .entry)) (now (rows .entry)) (now (reference .entry)) place) (now (alts .entry)))
         (now (out .exit)) r ⌝ }
 {
     let allele = merged_ref::ref_bytes(s, rows, reference, place);
     let next = record_lines::put_record_head(out, at, contig, position, position, allele, alts);
-    record_lines::put_samples(s, rows, samples, found, position, allele, alts, out, next)
+    record_lines::put_samples(s, rows, samples, own, position, allele, alts, out, next)
 }
 
 // What a record leaves: the block that is held back now, where the list goes on, and how many records it has so far.
@@ -141,7 +141,8 @@ pub struct Stepped {
     pub count: usize,
 }
 
-// The next record is a block, with these lines of its samples: it joins the one that is held back, or that one is laid and this one held.
+// The next record is a block, with these lines of its samples: it joins the one that is held back, or that one is laid and this one held,
+// its lines at the front of `held`.
 pub fn step_block<'a>(
     s: &'a [u8],
     rows: &[usize],
@@ -158,11 +159,12 @@ pub fn step_block<'a>(
     count: usize,
 ) -> Stepped
     requires { ⌜ BlockReady (now s) (now rows) (now reference) (now contig) (now held) (now fresh) pending at ⌝ }
-    ensures { λ r. ⌜ ((samples : ℕ) (waiting : Option Record) (new : Record) (d₀ bytes : List ℕ) (records : ℕ)
+    ensures step { λ r. ⌜ ((samples : ℕ) (waiting : Option Record) (new : Record) (d₀ bytes : List ℕ) (records : ℕ)
         → Holds (now (s .entry)) (now (rows .entry)) samples (now (reference .entry)) (now (contig .entry)) (now (held .entry)) pending waiting
         → HeldBlock (now (s .entry)) (now (rows .entry)) samples (now (reference .entry)) (now (contig .entry)) (now (fresh .entry)) (first .0) (last .0) place (length (now (fresh .entry))) new
         → Progress d₀ bytes records (now (out .entry)) at count
         → StepTo (now (s .entry)) (now (rows .entry)) samples (now (reference .entry)) (now (contig .entry)) (now (held .exit)) (now (out .exit)) waiting new d₀ bytes records r) ⌝ }
+    ensures lines { λ _. ⌜ now (held .exit) ≡ heldAfter (now (s .entry)) (now (rows .entry)) (now (reference .entry)) (now (held .entry)) pending (first .0) place (now (fresh .entry)) ⌝ }
 {
     if joins(s, rows, reference, held, pending, first, place, fresh) {
         return Stepped {
@@ -189,7 +191,7 @@ pub fn step_record<'a>(
     contig: &[u8],
     position: GenomePosition,
     place: RefAt,
-    found: &[usize],
+    own: &[usize],
     alts: &[u8],
     pending: Pending,
     held: &[u8],
@@ -198,10 +200,10 @@ pub fn step_record<'a>(
     count: usize,
 ) -> Stepped
     requires { ⌜ PendingFits (now s) (now rows) (now reference) (now contig) (now held) pending at
-        × RecordFits (now s) (now rows) samples (now reference) (now contig) (position .0) place (now found) (now alts) 9223372036854775808 ⌝ }
+        × RecordFits (now s) (now rows) samples (now reference) (now contig) (position .0) place (now own) (now alts) 9223372036854775808 ⌝ }
     ensures { λ r. ⌜ ((waiting : Option Record) (new : Record) (d₀ bytes : List ℕ) (records : ℕ)
         → Holds (now (s .entry)) (now (rows .entry)) samples (now (reference .entry)) (now (contig .entry)) (now (held .entry)) pending waiting
-        → OtherRecord (now (s .entry)) (now (rows .entry)) samples (now (reference .entry)) (now (contig .entry)) (position .0) place (now (found .entry)) (now (alts .entry)) new
+        → OtherRecord (now (s .entry)) (now (rows .entry)) samples (now (reference .entry)) (now (contig .entry)) (position .0) place (now (own .entry)) (now (alts .entry)) new
         → Progress d₀ bytes records (now (out .entry)) at count
         → StepTo (now (s .entry)) (now (rows .entry)) samples (now (reference .entry)) (now (contig .entry)) (now (held .entry)) (now (out .exit)) waiting new d₀ bytes records r) ⌝ }
 {
@@ -214,7 +216,7 @@ pub fn step_record<'a>(
         contig,
         position,
         place,
-        found,
+        own,
         alts,
         out,
         next,

@@ -15,7 +15,7 @@ use Rattle.laws.proofs.Checked.{then-refused}
 use Rattle.laws.proofs.Every.{every-at}
 use Rattle.laws.proofs.Members.{flatMap-append}
 use Rattle.combined_list.specs.Contigs.{AllReady, OneReady, allRecords, recordsOn}
-use Rattle.contig_walk.specs.Walk.{RecordsLaid, RecordsWalked}
+use Rattle.contig_walk.specs.Walk.{RecordsLaid, RecordsRefused, RecordsWalked}
 use Rattle.coalescing.specs.Steps.{Progress}
 use Rattle.contig_walk.specs.declared.Walked.{Walked}
 use Rattle.contig_walk.specs.declared.Walked.the-variants as walked
@@ -111,4 +111,10 @@ module _ {s rows : List ℕ} {samples : ℕ} {clipped : Bool} {clip : List ℕ} 
           → RecordsWalked (allRecords (ready .tables) places) (ready .d₀) (ready .bytes) 0 out′ (walked.Refused row)
       unfolding RecordsWalked one-ready
       going-refused out′ row scratch {w} same e says =
-          sym (g .left) ∙ from-refused _ contigs (g .done) c h row (rw (same, e) at (says one-ready))
+          let r : RecordsRefused (recordsOn (ready .tables) places (getD contigs c 0)) (ready .d₀)
+          (ready .bytes ++ flatMap printedRecord (g .done)) out′ row = rw (same, e) at (says one-ready) in
+          record {
+            merged = sym (g .left) ∙ from-refused _ contigs (g .done) c h row (r .merged);
+            list = g .done ++ r .list;
+            laid = rw (flatMap-append, ← append-assoc) (r .laid);
+          }

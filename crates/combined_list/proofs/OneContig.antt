@@ -2,9 +2,9 @@
 use Prim.Native.Nat.{_+_, _-_, _<_, _≤_, ℕ}
 use borrow.Author.Tests.{eq-eqb, eqb-true, le-leb, lt-leb}
 use lib.ListN.{drop, getD, length, length-append, length-take, take}
-use lib.Seq.{take-append-seam}
+use lib.Seq.{sets, take-append-seam}
 use mathlib.Core.Bool.{Bool, false, true}
-use mathlib.Core.List.{List, []}
+use mathlib.Core.List.{List, [], append-nil, flatMap}
 use mathlib.Core.Option.{some}
 use mathlib.Core.Path.{_∙_, _≡_, ap, refl, subst, sym}
 use native.Mathlib.Omega.{arith}
@@ -166,8 +166,8 @@ module _ {s rows : List ℕ} {samples : ℕ} {clipped : Bool} {clip : List ℕ} 
             let same : recordsOn g scratch first ≡ mergedContig (g .loaded .input) (chosenLetters (g .loaded)) contig = rw (← e) (enough-places _ _ _ _ enough) in
             rw same (says walk-ready d₀ bytes records progress)
 
-  pub one-refused : {contig : List ℕ} (d₀ bytes : List ℕ) (records : ℕ) (out : List ℕ) {places : ℕ} → contig ≡ partAt 7 8 s rows first
+  pub one-refused : {contig : List ℕ} (d₀ bytes : List ℕ) (records : ℕ) (out : List ℕ) {places : ℕ} → out ≡ sets d₀ 0 bytes → contig ≡ partAt 7 8 s rows first
       → places < length (breakpoints (g .loaded .input .cohort .sites) (g .loaded .input .clip) contig)
       → RecordsWalked (recordsOn g places first) d₀ bytes records out (walked.Refused 10)
-  unfolding RecordsWalked
-  one-refused d₀ bytes records out e few = rw (← e) (few-places _ _ _ _ few)
+  unfolding RecordsWalked flatMap
+  one-refused d₀ bytes records out same e few = record { merged = rw (← e) (few-places _ _ _ _ few); list = []; laid = rw (append-nil bytes) same }

@@ -90,7 +90,7 @@ module _ {s names rows : List ℕ} {samples : ℕ} {clipped : Bool} {clip : List
   module _ {scratch scratch₁ : ℕ} (part : List ℕ) {w : Walked} (same : scratch₁ ≡ scratch) (says : WalkSays [] 0 scratch part w) where
     pub list-refused : {row : ℕ} (room : ℕ) → w ≡ walked.Refused row → listWithin (ready .tables .loaded) scratch room ≡ refused row
     unfolding RecordsWalked measuring listOf
-    list-refused room e = then-refused _ _ (then-refused _ _ (rw e at (says measuring)))
+    list-refused room e = then-refused _ _ (then-refused _ _ ((rw e at (says measuring)) .merged))
 
     pub measurement : {len count : ℕ} → w ≡ walked.To len count
         → Measurement s names rows samples clipped clip referenced reference contigs order bounds scratch₁ len count
@@ -186,7 +186,7 @@ module _ {s names rows : List ℕ} {samples : ℕ} {clipped : Bool} {clip : List
     list-written {out₂} w says exact = go w (says writing)
       where
         go : (w : Walked) → RecordsWalked (allRecords (m .ready .tables) scratch) out headerOf 0 out₂ w → out₂ ≡ listTo m
-        go (walked.Refused row) e = not-refused (sym e ∙ m .merged)
+        go (walked.Refused row) e = not-refused (sym (e .merged) ∙ m .merged)
         go (walked.To end records) laid =
             let same : laid .list ≡ m .records = accepted-same (sym (laid .merged) ∙ m .merged) in
             let bytes : headerOf ++ flatMap printedRecord (laid .list) ≡ listTo m = rw same (sym list-parts) in

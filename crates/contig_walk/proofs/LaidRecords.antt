@@ -1,11 +1,11 @@
 -- The record of an interval as it is laid: its ALTs as text, its samples' lines, and what the steps of `coalescing` ask of it.
-use Prim.Native.Nat.{_+_, _^_, _≤_, suc, ℕ}
+use Prim.Native.Nat.{_+_, _<_, _^_, _≤_, suc, ℕ}
 use borrow.Author.Tests.{le-ltb}
 use lib.Dec.{eqb}
 use lib.ListN.{drop, length, length-append, length-map, take}
 use lib.Seq.{length-take-le, sets, take-at, take-length}
 use mathlib.Core.Bool.{Bool, _&&_, false, true}
-use mathlib.Core.List.{List, _++_, flatMap}
+use mathlib.Core.List.{List, [], _++_, flatMap, map}
 use mathlib.Core.Option.{none}
 use mathlib.Core.Path.{_∙_, _≡_, ap, refl, subst, sym}
 use native.Mathlib.Nat.{zero-add}
@@ -38,9 +38,10 @@ use Rattle.record_laws.proofs.SamePrinted.{Derived}
 use Rattle.record_lines.proofs.Alleles.{alleles-in-written, written-count}
 use Rattle.record_lines.proofs.Head.{head-length, printed-record}
 use Rattle.record_lines.specs.Head.{endFrom}
-use Rattle.record_lines.specs.Samples.{SamplesPrintable, printedSamples}
+use Rattle.record_lines.specs.Samples.{SamplesPrintable, printedOwn, printedSamples}
 use Rattle.sample_alleles.specs.Readings.{allelesIn}
 use Rattle.tables.specs.Tables.{siteAt}
+use Rattle.contig_walk.proofs.OwnRows.{own-data, own-enough, own-sound}
 use Rattle.contig_walk.specs.Laying.{LayReady, laidRecord}
 
 and-true : (b : Bool) → b && true ≡ b
@@ -56,9 +57,9 @@ contig-named {s} {rows} on =
     every-of-map-back (siteAt s rows) (numbersFrom 0 (length sites)) (subst (Every SoundSite) (on .loaded .table .read) (on .loaded .sound .cohort .sites)) in
     rw (on .name) (every-member {a = on .first} (numbers-member 0 (length sites) (omega arith) (omega (arith, on .known))) all .contig)
 
-module _ {s rows : List ℕ} {samples : ℕ} {reference contig : List ℕ} {first last : ℕ} {place : RefAt} {number : ℕ} {found alts : List ℕ}
+module _ {s rows : List ℕ} {samples : ℕ} {reference contig : List ℕ} {first last : ℕ} {place : RefAt} {number : ℕ} {own alts : List ℕ}
     {pending : Pending} {held fresh : List ℕ} {at : ℕ}
-    (r : LayReady s rows samples reference contig first last place number found alts pending held fresh at) where
+    (r : LayReady s rows samples reference contig first last place number own alts pending held fresh at) where
   -- ---- the ALTs
 
   text-is : writtenAlleles (recordAlts (r .on) first (r .to)) ≡ alts
@@ -76,14 +77,26 @@ module _ {s rows : List ℕ} {samples : ℕ} {reference contig : List ℕ} {firs
 
   -- ---- the samples
 
-  pub samples-are : printedSamples s rows samples found first (recordRef (r .on) first (r .to)) alts ≡ flatMap printedSampleData (recordData (r .on) first (r .to))
-  samples-are = rw (alleles-are, r .to .sites)
+  abbrev sound-sites : Every SoundSite (map (siteAt s rows) (r .found))
+  sound-sites = found-are-sound (r .on) first (r .to)
 
-  pub printable : (k : ℕ) → k ≤ 2 ^ 63 → SamplesPrintable s rows samples found alts k
+  pub samples-are : printedSamples s rows samples own first (recordRef (r .on) first (r .to)) alts ≡ flatMap printedSampleData (recordData (r .on) first (r .to))
+  unfolding printedOwn
+  samples-are =
+      ap (flatMap printedSampleData) (own-data s rows first (recordRef (r .on) first (r .to)) alts (r .found) sound-sites (r .own-is) (r .on .loaded .few))
+      ∙ rw (alleles-are, r .to .sites)
+
+  enough : samples ≤ length own
+  enough = own-enough s rows first [] alts (r .found) sound-sites (r .own-is) (r .on .loaded .few)
+
+  sound-rows : Every (λ x. x < length rows → SoundSite (siteAt s rows x)) (take samples own)
+  sound-rows = own-sound s rows first [] alts (r .found) sound-sites (r .own-is) (r .on .loaded .few)
+
+  pub printable : (k : ℕ) → k ≤ 2 ^ 63 → SamplesPrintable s rows samples own alts k
   printable k h = record {
-    sound = found-are-sound (r .on) first (r .to);
+    enough = enough;
+    sound = sound-rows;
     few = few-fields;
-    few-samples = r .on .loaded .few;
     fits = omega (arith, r .on .loaded .few);
   }
 
@@ -115,7 +128,7 @@ module _ {s rows : List ℕ} {samples : ℕ} {reference contig : List ℕ} {firs
       pub lines : take len after ≡ flatMap printedSampleData (recordData (r .on) first (r .to))
 
     pub fresh-lines : (after : List ℕ) (len : ℕ)
-        → Laid fresh 0 (printedSamples s rows samples found first (recordRef (r .on) first (r .to)) alts) after len → FreshLines after len
+        → Laid fresh 0 (printedSamples s rows samples own first (recordRef (r .on) first (r .to)) alts) after len → FreshLines after len
     fresh-lines after len l =
         let few = lines-few in
         let room = r .fresh-room in
@@ -146,7 +159,7 @@ module _ {s rows : List ℕ} {samples : ℕ} {reference contig : List ℕ} {firs
   -- ---- another record
 
   module _ (other : isBlock (laidRecord r .alleles) ≡ false) where
-    pub other-record : OtherRecord s rows samples reference contig first place found alts (laidRecord r)
+    pub other-record : OtherRecord s rows samples reference contig first place own alts (laidRecord r)
     unfolding onlyIf
     other-record = record {
       not-block = other;
@@ -158,13 +171,13 @@ module _ {s rows : List ℕ} {samples : ℕ} {reference contig : List ℕ} {firs
         no-end : none ≡ endFrom first first
         no-end = rw (le-ltb first first (omega arith))
 
-  pub record-fits : RecordFits s rows samples reference contig first place found alts 9223372036854775808
+  pub record-fits : RecordFits s rows samples reference contig first place own alts 9223372036854775808
   unfolding onlyIf writtenOrMissing text
   record-fits = record {
     in-range = omega (arith, r .ordered, r .in-range);
-    sound = found-are-sound (r .on) first (r .to);
+    enough = enough;
+    sound = sound-rows;
     few = few-fields;
-    few-samples = r .on .loaded .few;
     fits = simp (length-append, head-length) (omega (
       arith,
       named,

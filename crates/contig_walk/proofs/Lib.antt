@@ -1,3 +1,4 @@
+pub mod OwnRows
 pub mod LaidRecords
 pub mod Turns
 pub mod Walking

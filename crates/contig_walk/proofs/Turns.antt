@@ -1,10 +1,10 @@
 -- The turns of the walk: an interval without a record, one whose record is refused, and one whose record is laid.
 use Prim.Native.Nat.{_+_, _<_, _≤_, ℕ}
 use borrow.Author.Tests.{lt-ltb}
-use lib.ListN.{length, length-map, length-take, take}
-use lib.Seq.{length-take-le, take-length, take-take}
+use lib.ListN.{length, length-map, length-take, replicate, take}
+use lib.Seq.{length-sets, length-take-le, sets, take-length}
 use mathlib.Core.Bool.{Bool, false, true}
-use mathlib.Core.List.{List, [], append-nil, flatMap}
+use mathlib.Core.List.{List, [], append-nil, flatMap, map}
 use mathlib.Core.Option.{Option}
 use mathlib.Core.Path.{_∙_, _≡_, ap, refl, subst, sym}
 use native.Mathlib.Nat.{add-zero, sub-zero}
@@ -18,16 +18,17 @@ use Rattle.definitions.specs.CombinedList.{intervalRecord}
 use Rattle.definitions.specs.CoveringSites.{coveringSites}
 use Rattle.definitions.specs.Intervals.{inClip}
 use Rattle.definitions.specs.Records.{Record}
+use Rattle.found_sites.specs.Own.{foundList, ownRows}
 use Rattle.kv_text.specs.Fields.{between}
-use Rattle.merged_records.proofs.Records.{record-is}
+use Rattle.merged_records.proofs.Records.{owners-beside, record-is}
 use Rattle.merged_records.specs.Found.{RecordTo, covering}
-use Rattle.merged_records.specs.Loaded.{OnContig, chosenLetters}
+use Rattle.merged_records.specs.Loaded.{OnContig, chosenLetters, coveringNumbers, coveringOwners}
 use Rattle.merged_ref.specs.declared.RefAt.{RefAt}
 use Rattle.record_laws.proofs.Coalescing.{turn-refused}
 use Rattle.record_laws.proofs.Walking.{withInterval}
 use Rattle.record_laws.specs.Pending.{andLater, finish}
-use Rattle.tables.specs.Tables.{siteAt}
-use Rattle.contig_walk.specs.Laying.{LayReady, TurnReady, TurnTo, Turns, laidRecord}
+use Rattle.tables.specs.Tables.{column, siteAt}
+use Rattle.contig_walk.specs.Laying.{LayReady, TurnReady, TurnTo, Turns, laidRecord, ownOf}
 use Rattle.contig_walk.specs.declared.Turned.the-variants as turned
 
 -- as many as were found are there
@@ -39,10 +40,28 @@ text-front : (t alts : List ℕ) (len : ℕ) → t ≡ between alts 0 len → t 
 text-front t alts len e = e ∙ rw (sub-zero len)
 
 module _ {s rows : List ℕ} {samples : ℕ} {clipped : Bool} {clip : List ℕ} {referenced : Bool} {reference contig chosen from bounds : List ℕ}
-    {first last : ℕ} {pending : Pending} {held fresh found₀ alts₀ : List ℕ} {at : ℕ}
-    (ready : TurnReady s rows samples clipped clip referenced reference contig chosen from bounds first last pending held fresh found₀ alts₀ at) where
+    {first last : ℕ} {pending : Pending} {held fresh found₀ owners₀ alts₀ : List ℕ} {at : ℕ}
+    (ready : TurnReady s rows samples clipped clip referenced reference contig chosen from bounds first last pending held fresh found₀ owners₀ alts₀ at) where
   abbrev on : OnContig s rows samples referenced reference contig
   on = ready .runs .on
+
+  -- the samples stand beside the sites found
+  module _ (found alts : List ℕ) (n : ℕ) (place : RefAt) (len number : ℕ) (to : RecordTo on first (take n found) alts n place len number) (owners : List ℕ)
+      (stored : found ≡ sets found₀ 0 (coveringNumbers on first)) (owned : owners ≡ sets owners₀ 0 (coveringOwners on first)) where
+    beside : take n owners ≡ map (column 0 rows) (take n found)
+    beside = owners-beside on first to found₀ found owners₀ owners (ready .room .for-record .for-sites) (ready .room .for-record .for-owners) refl stored owned
+
+    pub owners-front : n ≤ length owners
+    owners-front = omega (arith, to .few, ready .room .for-record .for-owners, ap length owned, length-sets owners₀ 0 (coveringOwners on first))
+
+    pub owners-exact : n ≡ length (take n owners)
+    owners-exact = sym (length-take-le n owners owners-front)
+
+    pub own-asked : (length (take n owners) ≤ 64) × (length (take n found) ≡ length (take n owners))
+    own-asked = (omega (arith, owners-exact, to .few, on .loaded .few), sym (to .all) ∙ owners-exact)
+
+    pub own-known : {own : List ℕ} → own ≡ ownRows (foundList (take n found) (take n owners)) 0 (replicate 64 (length rows)) → own ≡ ownOf rows (take n found)
+    own-known e = e ∙ ap (λ (o : List ℕ). ownRows (foundList (take n found) o) 0 (replicate 64 (length rows))) beside
 
   module _ (in-clip : inClip contig (on .loaded .input .clip) (record { first = first; last = last }) ≡ true) where
     -- the covering sites are some, so the interval has a record
@@ -70,13 +89,15 @@ module _ {s rows : List ℕ} {samples : ℕ} {clipped : Bool} {clip : List ℕ} 
         few-alts = to .few-alts;
       }
 
-      unfoldable pub lay-ready : (text : List ℕ) → text ≡ between alts 0 len
-          → LayReady s rows samples reference contig first last place number (take n found) text pending held fresh at
-      lay-ready text e =
+      unfoldable pub lay-ready : (text : List ℕ) → text ≡ between alts 0 len → (own : List ℕ) → own ≡ ownOf rows (take n found)
+          → LayReady s rows samples reference contig first last place number own text pending held fresh at
+      lay-ready text e own o =
           let i = ready .sound in-clip some-covering in
           record {
             referenced = referenced;
             on = on;
+            found = take n found;
+            own-is = o;
             sites = n;
             to = exact text e;
             ordered = i .ordered;
@@ -87,8 +108,8 @@ module _ {s rows : List ℕ} {samples : ℕ} {clipped : Bool} {clip : List ℕ} 
           }
 
 module _ {s rows : List ℕ} {samples : ℕ} {clipped : Bool} {clip : List ℕ} {referenced : Bool} {reference contig chosen from bounds : List ℕ}
-    {first last : ℕ} {pending : Pending} {held fresh found₀ alts₀ : List ℕ} {at : ℕ}
-    (ready : TurnReady s rows samples clipped clip referenced reference contig chosen from bounds first last pending held fresh found₀ alts₀ at)
+    {first last : ℕ} {pending : Pending} {held fresh found₀ owners₀ alts₀ : List ℕ} {at : ℕ}
+    (ready : TurnReady s rows samples clipped clip referenced reference contig chosen from bounds first last pending held fresh found₀ owners₀ alts₀ at)
     (waiting : Option Record) (d₀ bytes : List ℕ) (records : ℕ)
     (h : Holds s rows samples reference contig held pending waiting) where
   abbrev on′ : OnContig s rows samples referenced reference contig
@@ -125,17 +146,20 @@ module _ {s rows : List ℕ} {samples : ℕ} {clipped : Bool} {clip : List ℕ} 
     -- a position without sites has no record to refuse
     pub turn-none : (row : ℕ) → 0 < length (covering on′ first)
         → ((last : ℕ) → intervalRecord (on′ .loaded .input) (chosenLetters (on′ .loaded)) contig (record { first = first; last = last }) ≡ refused row)
-        → (out : List ℕ)
+        → (out : List ℕ) → out ≡ sets d₀ 0 bytes
         → Turns (on′ .loaded .input) (chosenLetters (on′ .loaded)) s rows samples reference contig held out first last waiting d₀ bytes records (turned.Refused row)
     unfolding Turns
-    turn-none row some-site e out done later = rw (has-record ready in-clip some-site later) (turn-refused done _ later waiting row (e last))
+    turn-none row some-site e out same = record {
+      unlaid = same;
+      refuses = λ done later. rw (has-record ready in-clip some-site later) (turn-refused done _ later waiting row (e last));
+    }
 
     module _ (found alts : List ℕ) (n : ℕ) (place : RefAt) (len number : ℕ) (to : RecordTo on′ first (take n found) alts n place len number) where
-      pub turn-laid : (text : List ℕ) (e : text ≡ between alts 0 len) (held′ out : List ℕ) (step : Stepped)
-          → StepTo s rows samples reference contig held′ out waiting (laidRecord (lay-ready ready in-clip found alts n place len number to text e)) d₀ bytes records step
+      pub turn-laid : (text : List ℕ) (e : text ≡ between alts 0 len) (own : List ℕ) (o : own ≡ ownOf rows (take n found)) (held′ out : List ℕ) (step : Stepped)
+          → StepTo s rows samples reference contig held′ out waiting (laidRecord (lay-ready ready in-clip found alts n place len number to text e own o)) d₀ bytes records step
           → Turns (on′ .loaded .input) (chosenLetters (on′ .loaded)) s rows samples reference contig held′ out first last waiting d₀ bytes records (turned.To step)
       unfolding Turns lay-ready
-      turn-laid text e held′ out step t = record {
+      turn-laid text e own o held′ out step t = record {
         laid = t .laid;
         waits = t .waits;
         holds = t .holds;

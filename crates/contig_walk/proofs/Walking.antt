@@ -130,8 +130,11 @@ module _ {s rows : List ℕ} {samples : ℕ} {clipped : Bool} {clip : List ℕ} 
           (bytes ++ flatMap printedRecord (w .done)) (records + length (w .done)) (turned.Refused row)
           → RecordsWalked (mergedContig (on .loaded .input) (chosenLetters (on .loaded)) contig) d₀ bytes records out′ (walked.Refused row)
       unfolding Turns RecordsWalked
-      refused-here row first last out′ held′ more f l t =
-          sym (w .whole) ∙ rw (walk-turn (on .loaded .input) (chosenLetters (on .loaded)) contig places k more, ← f, ← l) (t (w .done) (left (k + 1)))
+      refused-here row first last out′ held′ more f l t = record {
+        merged = sym (w .whole) ∙ rw (walk-turn (on .loaded .input) (chosenLetters (on .loaded)) contig places k more, ← f, ← l) (t .refuses (w .done) (left (k + 1)));
+        list = w .done;
+        laid = t .unlaid;
+      }
 
       pub walking-next : (first last : ℕ) (out′ held′ : List ℕ) (step : Stepped) → k + 1 < length places → first ≡ getD places k 0 → last ≡ getD places (k + 1) 0 - 1
           → Turns (on .loaded .input) (chosenLetters (on .loaded)) s rows samples reference contig held′ out′ first last (w .waiting) d₀
@@ -172,9 +175,9 @@ module _ {s rows : List ℕ} {samples : ℕ} {clipped : Bool} {clip : List ℕ} 
       end-fits = holds-fits s rows samples reference contig held (state .pending) (w .waiting) (state .at) (w .holds) (on .loaded .few)
           (contig-named on .not-too-long) (omega (arith, w .progress .measured .at-is))
 
-      unfoldable pub turn-ready : {from fresh found alts : List ℕ} (first last : ℕ) → k + 1 < length places → first ≡ getD places k 0 → last ≡ getD places (k + 1) 0 - 1
-          → Ended rows chosen bounds from samples first → TurnRoom samples held fresh found alts
-          → TurnReady s rows samples clipped clip referenced reference contig chosen from bounds first last (state .pending) held fresh found alts (state .at)
+      unfoldable pub turn-ready : {from fresh found owners alts : List ℕ} (first last : ℕ) → k + 1 < length places → first ≡ getD places k 0 → last ≡ getD places (k + 1) 0 - 1
+          → Ended rows chosen bounds from samples first → TurnRoom samples held fresh found owners alts
+          → TurnReady s rows samples clipped clip referenced reference contig chosen from bounds first last (state .pending) held fresh found owners alts (state .at)
       turn-ready first last more f l ended room = record {
         runs = ready .runs;
         clip-given = ready .clip-given;

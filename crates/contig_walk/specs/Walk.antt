@@ -1,6 +1,7 @@
 -- What walking over the intervals of a contig finds and lays.
 use Prim.Native.Nat.{_+_, _≤_, ℕ}
 use lib.ListN.{length}
+use lib.Seq.{sets}
 use mathlib.Core.Bool.{Bool, true}
 use mathlib.Core.List.{List, _++_, flatMap}
 use mathlib.Core.Path.{_≡_}
@@ -51,7 +52,12 @@ pub record RecordsLaid (records : Checked (List Record)) (d₀ bytes : List ℕ)
   pub merged : records ≡ accepted list
   pub progress : Progress d₀ (bytes ++ flatMap printedRecord list) (before + length list) out at count
 
--- or a row refuses them
+-- or a row refuses them, and some records that come before it were laid
+pub record RecordsRefused (records : Checked (List Record)) (d₀ bytes out : List ℕ) (row : ℕ) : Type 0 where
+  pub merged : records ≡ refused row
+  pub list : List Record
+  pub laid : out ≡ sets d₀ 0 (bytes ++ flatMap printedRecord list)
+
 unfoldable pub RecordsWalked : Checked (List Record) → List ℕ → List ℕ → ℕ → List ℕ → Walked → Type 0
 RecordsWalked records d₀ bytes before out (walked.To at count) = RecordsLaid records d₀ bytes before out at count
-RecordsWalked records d₀ bytes before out (walked.Refused row) = records ≡ refused row
+RecordsWalked records d₀ bytes before out (walked.Refused row) = RecordsRefused records d₀ bytes out row

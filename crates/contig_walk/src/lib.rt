@@ -41,7 +41,7 @@ fn lay_block<'a>(
     last: GenomePosition,
     place: RefAt,
     number: usize,
-    found: &[usize],
+    own: &[usize],
     alts: &[u8],
     pending: Pending,
     held: &mut [u8],
@@ -50,15 +50,15 @@ fn lay_block<'a>(
     at: usize,
     count: usize,
 ) -> Stepped
-    requires { ⌜ ((r : LayReady (now s) (now rows) samples (now reference) (now contig) (first .0) (last .0) place number (now found) (now alts) pending (now held) (now fresh) at) × (isBlock (laidRecord r .alleles) ≡ true)) ⌝ }
-    ensures { λ r. ⌜ ((ready : LayReady (now (s .entry)) (now (rows .entry)) samples (now (reference .entry)) (now (contig .entry)) (first .0) (last .0) place number (now (found .entry)) (now (alts .entry)) pending (now (held .entry)) (now (fresh .entry)) at)
+    requires { ⌜ ((r : LayReady (now s) (now rows) samples (now reference) (now contig) (first .0) (last .0) place number (now own) (now alts) pending (now held) (now fresh) at) × (isBlock (laidRecord r .alleles) ≡ true)) ⌝ }
+    ensures { λ r. ⌜ ((ready : LayReady (now (s .entry)) (now (rows .entry)) samples (now (reference .entry)) (now (contig .entry)) (first .0) (last .0) place number (now (own .entry)) (now (alts .entry)) pending (now (held .entry)) (now (fresh .entry)) at)
         (block : isBlock (laidRecord ready .alleles) ≡ true) (waiting : Option Record) (d₀ bytes : List ℕ) (records : ℕ)
         → Holds (now (s .entry)) (now (rows .entry)) samples (now (reference .entry)) (now (contig .entry)) (now (held .entry)) pending waiting
         → Progress d₀ bytes records (now (out .entry)) at count
         → StepTo (now (s .entry)) (now (rows .entry)) samples (now (reference .entry)) (now (contig .entry)) (now (held .exit)) (now (out .exit)) waiting (laidRecord ready) d₀ bytes records r) ⌝ }
 {
     let allele = merged_ref::ref_bytes(s, rows, reference, place);
-    let len = record_lines::put_samples(s, rows, samples, found, first, allele, alts, fresh, 0);
+    let len = record_lines::put_samples(s, rows, samples, own, first, allele, alts, fresh, 0);
     coalescing::step_block(
         s,
         rows,
@@ -104,7 +104,7 @@ fn lay_record<'a>(
     last: GenomePosition,
     place: RefAt,
     number: usize,
-    found: &[usize],
+    own: &[usize],
     alts: &[u8],
     pending: Pending,
     held: &mut [u8],
@@ -113,8 +113,8 @@ fn lay_record<'a>(
     at: usize,
     count: usize,
 ) -> Stepped
-    requires { ⌜ LayReady (now s) (now rows) samples (now reference) (now contig) (first .0) (last .0) place number (now found) (now alts) pending (now held) (now fresh) at ⌝ }
-    ensures { λ r. ⌜ ((ready : LayReady (now (s .entry)) (now (rows .entry)) samples (now (reference .entry)) (now (contig .entry)) (first .0) (last .0) place number (now (found .entry)) (now (alts .entry)) pending (now (held .entry)) (now (fresh .entry)) at)
+    requires { ⌜ LayReady (now s) (now rows) samples (now reference) (now contig) (first .0) (last .0) place number (now own) (now alts) pending (now held) (now fresh) at ⌝ }
+    ensures { λ r. ⌜ ((ready : LayReady (now (s .entry)) (now (rows .entry)) samples (now (reference .entry)) (now (contig .entry)) (first .0) (last .0) place number (now (own .entry)) (now (alts .entry)) pending (now (held .entry)) (now (fresh .entry)) at)
         (waiting : Option Record) (d₀ bytes : List ℕ) (records : ℕ)
         → Holds (now (s .entry)) (now (rows .entry)) samples (now (reference .entry)) (now (contig .entry)) (now (held .entry)) pending waiting
         → Progress d₀ bytes records (now (out .entry)) at count
@@ -131,7 +131,7 @@ fn lay_record<'a>(
             last,
             place,
             number,
-            found,
+            own,
             alts,
             pending,
             held,
@@ -149,7 +149,7 @@ fn lay_record<'a>(
         contig,
         first,
         place,
-        found,
+        own,
         alts,
         pending,
         held,
@@ -201,13 +201,14 @@ fn walk_interval<'a>(
     held: &mut [u8],
     fresh: &mut [u8],
     found: &mut [usize],
+    owners: &mut [usize],
     alts: &mut [u8],
     out: &mut [u8],
     at: usize,
     count: usize,
 ) -> Turned
-    requires { ⌜ TurnReady (now s) (now rows) samples clipped (now clip) referenced (now reference) (now contig) (now chosen) (now from) (now bounds) (first .0) (last .0) pending (now held) (now fresh) (now found) (now alts) at ⌝ }
-    ensures { λ r. ⌜ ((ready : TurnReady (now (s .entry)) (now (rows .entry)) samples clipped (now (clip .entry)) referenced (now (reference .entry)) (now (contig .entry)) (now (chosen .entry)) (now (from .entry)) (now (bounds .entry)) (first .0) (last .0) pending (now (held .entry)) (now (fresh .entry)) (now (found .entry)) (now (alts .entry)) at)
+    requires { ⌜ TurnReady (now s) (now rows) samples clipped (now clip) referenced (now reference) (now contig) (now chosen) (now from) (now bounds) (first .0) (last .0) pending (now held) (now fresh) (now found) (now owners) (now alts) at ⌝ }
+    ensures { λ r. ⌜ ((ready : TurnReady (now (s .entry)) (now (rows .entry)) samples clipped (now (clip .entry)) referenced (now (reference .entry)) (now (contig .entry)) (now (chosen .entry)) (now (from .entry)) (now (bounds .entry)) (first .0) (last .0) pending (now (held .entry)) (now (fresh .entry)) (now (found .entry)) (now (owners .entry)) (now (alts .entry)) at)
         (waiting : Option Record) (d₀ bytes : List ℕ) (records : ℕ)
         → Holds (now (s .entry)) (now (rows .entry)) samples (now (reference .entry)) (now (contig .entry)) (now (held .entry)) pending waiting
         → Progress d₀ bytes records (now (out .entry)) at count
@@ -229,12 +230,15 @@ fn walk_interval<'a>(
         bounds,
         first,
         found,
+        owners,
         alts,
     );
     match here {
         RecordAt::NoSites => Turned::To(same),
         RecordAt::Refused(row) => Turned::Refused(row),
         RecordAt::Record(n, place, len, number) => {
+            let mut own = [rows.len(); 64];
+            found_sites::own_sites(&found[..n], &owners[..n], &mut own);
             let text = tables::part(alts, 0, len);
             let step = lay_record(
                 s,
@@ -246,7 +250,7 @@ fn walk_interval<'a>(
                 last,
                 place,
                 number,
-                &found[..n],
+                &own,
                 text,
                 pending,
                 held,
@@ -261,7 +265,7 @@ fn walk_interval<'a>(
 }
 
 // Lays the records of a contig behind those before it, as far as they fit: rows 11 to 13. `held` and `fresh` take the samples'
-// lines of the record that is held back and of the next one, `alts` its ALTs.
+// lines of the record that is held back and of the next one, `alts` its ALTs. After a refusal some records that come before it are laid.
 pub fn walk_contig<'a>(
     s: &'a [u8],
     rows: &[usize],
@@ -287,6 +291,7 @@ pub fn walk_contig<'a>(
         → RecordsWalked (mergedContig (ready .runs .on .loaded .input) (chosenLetters (ready .runs .on .loaded)) (now (contig .entry))) d₀ bytes records (now (out .exit)) r) ⌝ }
 {
     let mut found = [0usize; 64];
+    let mut owners = [0usize; 64];
     let mut from = [0usize; 64];
     covering_sites::start_search(bounds, samples, &mut from);
     let mut state = Stepped {
@@ -318,6 +323,7 @@ pub fn walk_contig<'a>(
             held,
             fresh,
             &mut found,
+            &mut owners,
             alts,
             out,
             state.at,

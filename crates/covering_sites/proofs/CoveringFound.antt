@@ -5,7 +5,7 @@ use lib.Dec.{eqb, leb}
 use lib.ListN.{length}
 use mathlib.Core.Bool.{Bool, _&&_, cond, false, true}
 use mathlib.Core.List.{List, [], _∷_, filterMap, flatMap, map, map-filterMap}
-use mathlib.Core.Option.{Option, Option·map, some}
+use mathlib.Core.Option.{Option, Option·map, none, some}
 use mathlib.Core.Path.{_∙_, _≡_, ap, refl, sym}
 use native.Mathlib.Omega.{arith}
 use Rattle.definitions.specs.Bytes.{sameBytes}
@@ -16,7 +16,7 @@ use Rattle.laws.proofs.Members.{_∈_, filter-member, first-found, first-map, f
 use Rattle.tables.proofs.SameContig.{same-contig}
 use Rattle.tables.specs.Tables.{SiteRows, column, partAt, siteAt}
 use Rattle.covering_sites.proofs.Same.{filterMap-few, filterMap-same}
-use Rattle.covering_sites.specs.Covering.{contigSites, coveringRows, onContig, rowCovers, sampleSites}
+use Rattle.covering_sites.specs.Covering.{contigSites, coveringRows, coveringSamples, onContig, rowCovers, sampleSites}
 
 -- the first of those that pass one test to pass another is the first to pass both
 first-both : (q k : ℕ → Bool) (l : List ℕ) → firstWhere q (filterBy k l) ≡ firstWhere (λ i. k i && q i) l
@@ -121,6 +121,20 @@ module _ (rows : List ℕ) (count contig : ℕ) where
         let b = member-numbers 0 samples n in
         let (r, p) = first-in-run x e in
         (x, omega (arith, b .1), r, p)
+
+    -- the samples whose runs have one are those of the sites found
+    pub found-owners : (samples : ℕ) → coveringSamples rows position samples (contigSites rows count contig)
+        ≡ map (column 0 rows) (coveringRows rows position samples (contigSites rows count contig))
+    unfolding coveringRows coveringSamples
+    found-owners samples =
+        filterMap-same _ _ (numbersFrom 0 samples) (λ x m. go x (first x) refl) ∙ sym (map-filterMap first (column 0 rows) (numbersFrom 0 samples))
+      where
+        first : ℕ → Option ℕ
+        first x = firstWhere (rowCovers rows position) (contigSites rows count contig x)
+
+        go : (x : ℕ) (o : Option ℕ) → first x ≡ o → Option·map (λ _. x) o ≡ Option·map (column 0 rows) o
+        go x none e = refl
+        go x (some i) e = ap some (sym (first-in-run x e .0 .its-sample))
 
 -- at most one for each sample
 pub found-few : (rows : List ℕ) (position samples : ℕ) (run : ℕ → List ℕ) → length (coveringRows rows position samples run) ≤ samples

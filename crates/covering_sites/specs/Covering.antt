@@ -5,6 +5,7 @@ use lib.ListN.{length}
 use lib.Seq.{sets}
 use mathlib.Core.Bool.{Bool, _&&_}
 use mathlib.Core.List.{List, filterMap}
+use mathlib.Core.Option.{Option·map}
 use mathlib.Core.Path.{_≡_}
 use Rattle.definitions.specs.Lists.{filterBy, firstWhere, numbersFrom}
 use Rattle.tables.specs.Tables.{column}
@@ -29,7 +30,12 @@ rowCovers rows position i = leb (column 2 rows i) position && leb position (colu
 unfoldable pub coveringRows : List ℕ → ℕ → ℕ → (ℕ → List ℕ) → List ℕ
 coveringRows rows position samples run = filterMap (λ x. firstWhere (rowCovers rows position) (run x)) (numbersFrom 0 samples)
 
--- all of them are stored from the beginning on, and r is how many they are
-pub record Found (before all after : List ℕ) (r : ℕ) : Type 0 where
+-- the samples whose runs have one
+unfoldable pub coveringSamples : List ℕ → ℕ → ℕ → (ℕ → List ℕ) → List ℕ
+coveringSamples rows position samples run = filterMap (λ x. Option·map (λ _. x) (firstWhere (rowCovers rows position) (run x))) (numbersFrom 0 samples)
+
+-- all of them are stored from the beginning on, their samples beside them, and r is how many they are
+pub record Found (before all after samples-before samples samples-after : List ℕ) (r : ℕ) : Type 0 where
   pub count : r ≡ length all
   pub stored : after ≡ sets before 0 all
+  pub owned : samples-after ≡ sets samples-before 0 samples

@@ -1,97 +1,81 @@
-// The sites found over a position, each with its sample, in a list; and from it the own site of each sample.
+// The sites found over a position in a list, each with its sample; and from it the row of each sample's own site.
 ghost use mathlib.Core.Path.{_≡_};
-ghost use Prim.Native.Nat.{_-_, _<_, _≤_};
+ghost use Prim.Native.Nat.{_<_, _≤_};
 ghost use lib.ListN.{getD, length, take};
 ghost use lib.Seq.{sets};
-ghost use mathlib.Core.List.{map};
-ghost use Rattle.found_sites.specs.Own.{foundOf, ownSites, putAll, putOwn};
+ghost use Rattle.found_sites.specs.Own.{foundAt, foundList, ownRows, putAll, putOwn};
 use bio_ids::SampleIndex;
 
-// A site found over a position: whose it is, and its number in the table.
+// A site found over a position: whose it is, and its row in the table, where all its offsets stand.
 pub struct Found {
     pub sample: SampleIndex,
-    pub site: usize,
+    pub row: usize,
 }
 
 // The i-th of some sites, with its sample.
-fn found_at(rows: &[usize], sites: &[usize], i: usize) -> Found
-    requires { ⌜ i < length (now sites) ⌝ }
-    ensures { λ r. ⌜ r ≡ foundOf (now (rows .entry)) (getD (now (sites .entry)) i 0) ⌝ }
+fn found_at(sites: &[usize], owners: &[usize], i: usize) -> Found
+    requires { ⌜ (i < length (now sites)) × (i < length (now owners)) ⌝ }
+    ensures { λ r. ⌜ r ≡ foundAt (getD (now (sites .entry)) i 0) (getD (now (owners .entry)) i 0) ⌝ }
 {
-    let site = sites[i];
-    let sample = tables::sample_of(rows, site);
-    Found { sample, site }
+    let row = sites[i];
+    let sample = SampleIndex::new(owners[i]);
+    Found { sample, row }
 }
 
 // Stores each of some sites, with its sample, in the list.
-fn gather(list: &mut [Found], rows: &[usize], sites: &[usize])
-    requires { ⌜ length (now sites) ≤ length (now list) ⌝ }
-    ensures { λ _. ⌜ now (list .exit) ≡ sets (now (list .entry)) 0 (map (foundOf (now (rows .entry))) (now (sites .entry))) ⌝ }
+fn gather(list: &mut [Found], sites: &[usize], owners: &[usize])
+    requires { ⌜ (length (now owners) ≤ length (now list)) × (length (now sites) ≡ length (now owners)) ⌝ }
+    ensures { λ _. ⌜ now (list .exit) ≡ sets (now (list .entry)) 0 (foundList (now (sites .entry)) (now (owners .entry))) ⌝ }
 {
     let mut i = 0;
-    while i < sites.len() {
-        list[i] = found_at(rows, sites, i);
+    while i < owners.len() {
+        list[i] = found_at(sites, owners, i);
         i += 1;
     }
 }
 
-// Stores a found site for its sample, if that is one of those from `first` on that have an entry.
-fn put_own(own: &mut [usize], first: SampleIndex, found: Found)
-    ensures { λ _. ⌜ now (own .exit) ≡ putOwn (first .0) found (now (own .entry)) ⌝ }
+// Stores the row of a found site as its sample's entry, if the sample has one.
+fn put_own(own: &mut [usize], found: Found)
+    ensures { λ _. ⌜ now (own .exit) ≡ putOwn found (now (own .entry)) ⌝ }
 {
-    let least = first.get();
     let sample = found.sample.get();
-    let site = found.site;
-    if least <= sample {
-        let at = sample - least;
-        if at < own.len() {
-            own[at] = site;
-        }
+    let row = found.row;
+    if sample < own.len() {
+        own[sample] = row;
     }
 }
 
 // The same for so many of the list, from the last to the first, so that a sample's first one is left.
-fn spread(list: &[Found], count: usize, first: SampleIndex, own: &mut [usize])
+fn spread(list: &[Found], count: usize, own: &mut [usize])
     requires { ⌜ count ≤ length (now list) ⌝ }
-    ensures { λ _. ⌜ now (own .exit) ≡ putAll (first .0) (take count (now (list .entry))) (now (own .entry)) ⌝ }
+    ensures { λ _. ⌜ now (own .exit) ≡ putAll (take count (now (list .entry))) (now (own .entry)) ⌝ }
 {
     let mut i = count;
     while 0 < i {
         i -= 1;
-        put_own(own, first, list[i]);
+        put_own(own, list[i]);
     }
 }
 
-// The own site of each sample from `first` on that has an entry, for at most 64 sites.
-fn few_own_sites(rows: &[usize], sites: &[usize], first: SampleIndex, own: &mut [usize])
-    requires { ⌜ length (now sites) ≤ 64 ⌝ }
-    ensures { λ _. ⌜ now (own .exit) ≡ putAll (first .0) (map (foundOf (now (rows .entry))) (now (sites .entry))) (now (own .entry)) ⌝ }
+// The list of at most 64 sites, which is begun with a site 64 times, and from it the entries.
+fn list_sites(sites: &[usize], owners: &[usize], blank: Found, own: &mut [usize])
+    requires { ⌜ (length (now owners) ≤ 64) × (length (now sites) ≡ length (now owners)) ⌝ }
+    ensures { λ _. ⌜ now (own .exit) ≡ putAll (foundList (now (sites .entry)) (now (owners .entry))) (now (own .entry)) ⌝ }
 {
-    let mut list = [Found {
-        sample: first,
-        site: 0,
-    }; 64];
-    gather(&mut list, rows, sites);
-    spread(&list, sites.len(), first, own);
+    let mut list = [blank; 64];
+    gather(&mut list, sites, owners);
+    spread(&list, owners.len(), own);
 }
 
-// Where the last 64 of so many begin.
-fn last_from(end: usize) -> usize
-    ensures { λ r. ⌜ r ≡ end - 64 ⌝ }
+// The row of each sample's own site: of at most 64 sites the first that is the sample's. The entry of a sample that has none is left
+// as it is.
+pub fn own_sites(sites: &[usize], owners: &[usize], own: &mut [usize])
+    requires { ⌜ (length (now owners) ≤ 64) × (length (now sites) ≡ length (now owners)) ⌝ }
+    ensures { λ _. ⌜ now (own .exit) ≡ ownRows (foundList (now (sites .entry)) (now (owners .entry))) 0 (now (own .entry)) ⌝ }
 {
-    if 64 < end { end - 64 } else { 0 }
-}
-
-// The own site of each sample that has an entry: the first of the sites that is the sample's. The entry of a sample that has
-// none is left as it is.
-pub fn own_sites(rows: &[usize], sites: &[usize], own: &mut [usize])
-    ensures { λ _. ⌜ now (own .exit) ≡ ownSites (now (rows .entry)) (now (sites .entry)) 0 (now (own .entry)) ⌝ }
-{
-    let first = SampleIndex::new(0);
-    let mut end = sites.len();
-    while 0 < end {
-        let from = last_from(end);
-        few_own_sites(rows, &sites[from..end], first, own);
-        end = from;
-    }
+    let blank = Found {
+        sample: SampleIndex::new(0),
+        row: 0,
+    };
+    list_sites(sites, owners, blank, own);
 }

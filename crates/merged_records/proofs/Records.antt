@@ -2,14 +2,14 @@
 use Prim.Native.Nat.{_<_, _≤_, suc, ℕ}
 use borrow.Author.Tests.{le-leb, lt-leb}
 use lib.ListN.{drop, length, length-map, take}
-use lib.Seq.{length-take-le, sets-eq, take-at}
+use lib.Seq.{length-take-le, sets, sets-eq, take-at}
 use mathlib.Core.Bool.{Bool, false, true}
 use mathlib.Core.List.{List, [], _∷_, map}
 use mathlib.Core.Path.{_∙_, _≡_, ap, refl, subst, sym}
 use native.Mathlib.Nat.{zero-add}
 use native.Mathlib.Omega.{arith}
-use Rattle.covering_sites.proofs.CoveringFound.{covering-found, found-few, member-found}
-use Rattle.covering_sites.specs.Covering.{Found}
+use Rattle.covering_sites.proofs.CoveringFound.{covering-found, found-few, found-owners, member-found}
+use Rattle.covering_sites.specs.Covering.{Found, coveringSamples}
 use Rattle.definitions.specs.Alleles.{Allele, RefAlts}
 use Rattle.definitions.specs.Checked.{Checked, accepted, refused}
 use Rattle.definitions.specs.ClipAndReference.{ChoiceFrom}
@@ -34,11 +34,15 @@ use Rattle.merged_ref.specs.Answers.{refAnswer, refBytes, referenceSegments}
 use Rattle.merged_ref.specs.declared.Place.{Place}
 use Rattle.merged_ref.specs.declared.RefAt.{RefAt}
 use Rattle.merged_ref.specs.declared.RefAt.the-variants as ref
-use Rattle.tables.specs.Tables.{siteAt}
+use Rattle.tables.specs.Tables.{column, siteAt}
 use Rattle.merged_records.specs.Found.{AltsFound, Over, RecordFound, RecordTo, covering}
-use Rattle.merged_records.specs.Loaded.{OnContig, chosenLetters, coveringNumbers, runs}
+use Rattle.merged_records.specs.Loaded.{OnContig, chosenLetters, coveringNumbers, coveringOwners, runs}
 use Rattle.merged_records.specs.declared.RecordAt.{RecordAt}
 use Rattle.merged_records.specs.declared.RecordAt.the-variants as answer
+
+-- what is stored from a list's beginning on stands at its front
+front-of : (d l : List ℕ) → length l ≤ length d → take (length l) (sets d 0 l) ≡ l
+front-of d l h = ap (take (length l)) (sets-eq l d 0 (omega arith) ∙ rw (zero-add (length l))) ∙ take-at l (drop (length l) d) (length l) refl
 
 module _ {s rows : List ℕ} {samples : ℕ} {referenced : Bool} {reference contig : List ℕ}
     (on : OnContig s rows samples referenced reference contig) (position : ℕ) where
@@ -58,9 +62,12 @@ module _ {s rows : List ℕ} {samples : ℕ} {referenced : Bool} {reference cont
       member-found rows (length (on .loaded .input .cohort .sites)) (on .first) position samples m .2 .known
 
   -- they stand at the front of the list that was filled
-  pub front : (found : List ℕ) {after : List ℕ} {n : ℕ} → samples ≤ length found → Found found numbers after n → take n after ≡ numbers
-  front found room f =
-      rw (f .count, f .stored) (ap (take (length numbers)) (sets-eq numbers found 0 (omega (arith, few-numbers)) ∙ rw (zero-add (length numbers))) ∙ take-at numbers (drop (length numbers) found) (length numbers) refl)
+  pub front : (found : List ℕ) {after owners₀ all owners : List ℕ} {n : ℕ} → samples ≤ length found → Found found numbers after owners₀ all owners n → take n after ≡ numbers
+  front found room f = rw (f .count, f .stored) (front-of found numbers (omega (arith, few-numbers)))
+
+  -- their samples, by the runs
+  pub owners-are : coveringSamples rows position samples (runs on) ≡ coveringOwners on position
+  owners-are = found-owners rows (length (on .loaded .input .cohort .sites)) (on .first) position samples
 
   -- ---- REF
 
@@ -178,7 +185,7 @@ letter-answered s rows reference at place e = rw e
 
 module _ {s rows : List ℕ} {samples : ℕ} {referenced : Bool} {reference contig : List ℕ}
     (on : OnContig s rows samples referenced reference contig) (position : ℕ) (found after : List ℕ) (n : ℕ) (room : samples ≤ length found)
-    (f : Found found (coveringNumbers on position) after n) where
+    {owners₀ all owners : List ℕ} (f : Found found (coveringNumbers on position) after owners₀ all owners n) where
   pub fits-in : length after ≡ length found → n ≤ length after
   fits-in same = omega (arith, f .count, few-numbers on position)
 
@@ -197,6 +204,25 @@ module _ {s rows : List ℕ} {samples : ℕ} {referenced : Bool} {reference cont
 module _ {s rows : List ℕ} {samples : ℕ} {referenced : Bool} {reference contig : List ℕ}
     (on : OnContig s rows samples referenced reference contig) (position : ℕ) {found alts : List ℕ} {n : ℕ} {at : RefAt} {len count : ℕ}
     (to : RecordTo on position found alts n at len count) where
+  -- its sites are those that cover the position, and so many samples stand beside them
+  count-is : n ≡ length (coveringNumbers on position)
+  count-is =
+      to .all ∙ sym (length-map found (siteAt s rows)) ∙ ap length (to .sites ∙ sym (numbers-cover on position))
+      ∙ length-map (coveringNumbers on position) (siteAt s rows)
+
+  pub owners-within : (owners : List ℕ) → samples ≤ length owners → n ≤ length owners
+  owners-within owners h = omega (arith, to .few)
+
+  pub owners-beside : (found₀ found′ owners₀ owners : List ℕ) → samples ≤ length found₀ → samples ≤ length owners₀ → found ≡ take n found′
+      → found′ ≡ sets found₀ 0 (coveringNumbers on position) → owners ≡ sets owners₀ 0 (coveringOwners on position)
+      → take n owners ≡ map (column 0 rows) found
+  owners-beside found₀ found′ owners₀ owners room room′ here stored owned =
+      let few = few-numbers on position in
+      let long : length (coveringOwners on position) ≡ length (coveringNumbers on position) = length-map (coveringNumbers on position) (column 0 rows) in
+      let same : n ≡ length (coveringOwners on position) = count-is ∙ sym long in
+      let at : take n found′ ≡ coveringNumbers on position = rw (count-is, stored) (front-of found₀ (coveringNumbers on position) (omega arith)) in
+      rw (here, at, same, owned) (front-of owners₀ (coveringOwners on position) (omega arith))
+
   abbrev pub recordRef : List ℕ
   recordRef = refBytes s rows reference at
 

@@ -65,6 +65,7 @@ pub record Over (s rows : List ℕ) (samples : ℕ) (referenced : Bool) (referen
   pub some-site : 0 < length found
 
 -- the lists that are filled are long enough
-pub record RecordRoom (samples : ℕ) (found alts : List ℕ) : Type 0 where
+pub record RecordRoom (samples : ℕ) (found owners alts : List ℕ) : Type 0 where
   pub for-sites : samples ≤ length found
+  pub for-owners : samples ≤ length owners
   pub for-alts : 4096 ≤ length alts

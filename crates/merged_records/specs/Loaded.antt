@@ -2,7 +2,7 @@
 use Prim.Native.Nat.{_<_, _≤_, ℕ}
 use lib.ListN.{length}
 use mathlib.Core.Bool.{Bool, true}
-use mathlib.Core.List.{List}
+use mathlib.Core.List.{List, map}
 use mathlib.Core.Path.{_≡_}
 use Rattle.clip_and_reference.specs.Groups.{SegmentsFrom}
 use Rattle.covering_sites.specs.Covering.{contigSites, coveringRows}
@@ -51,6 +51,10 @@ module _ {s rows : List ℕ} {samples : ℕ} {referenced : Bool} {reference cont
   -- the numbers of the sites that cover a position
   abbrev pub coveringNumbers : ℕ → List ℕ
   coveringNumbers position = coveringRows rows position samples runs
+
+  -- the samples whose they are
+  abbrev pub coveringOwners : ℕ → List ℕ
+  coveringOwners position = map (column 0 rows) (coveringNumbers position)
 
 -- the same with the sites in these runs
 pub record ContigRuns (s rows : List ℕ) (samples : ℕ) (referenced : Bool) (reference contig chosen bounds : List ℕ) : Type 0 where

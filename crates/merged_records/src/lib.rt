@@ -7,7 +7,7 @@ ghost use Rattle.covering_sites.specs.Ended.{Ended};
 ghost use Rattle.merged_alleles.specs.SoundSites.{SoundSites};
 ghost use Rattle.merged_ref.specs.Answers.{refBytes};
 ghost use Rattle.merged_records.specs.Found.{AltsFound, Over, RecordFound, RecordRoom};
-ghost use Rattle.merged_records.specs.Loaded.{ContigRuns, coveringNumbers};
+ghost use Rattle.merged_records.specs.Loaded.{ContigRuns, coveringNumbers, coveringOwners};
 use bio_ids::GenomePosition;
 use merged_alleles::AltsAt;
 use merged_ref::RefAt;
@@ -73,8 +73,8 @@ fn record_over<'a>(
 }
 
 // The record of a contig at a position, from the contig's sites in runs by sample, each searched from a place behind sites that ended
-// before the position. `found` holds the numbers of the covering sites, whatever the answer, and is as it was behind them. `alts` is a work
-// buffer: of a record its beginning is the ALTs' text (`RecordTo`), and nothing is promised of the rest, as in `collect_target_alleles`.
+// before the position. `found` holds the numbers of the covering sites, whatever the answer, and `owners` their samples; both are as they were
+// behind them. `alts` is a work buffer: of a record its beginning is the ALTs' text (`RecordTo`), and nothing is promised of the rest, as in `collect_target_alleles`.
 pub fn record_at<'a>(
     s: &'a [u8],
     rows: &[usize],
@@ -87,15 +87,27 @@ pub fn record_at<'a>(
     bounds: &[usize],
     position: GenomePosition,
     found: &mut [usize],
+    owners: &mut [usize],
     alts: &mut [u8],
 ) -> RecordAt
-    requires { ⌜ ContigRuns (now s) (now rows) samples referenced (now reference) (now contig) (now chosen) (now bounds) × RecordRoom samples (now found) (now alts) × Ended (now rows) (now chosen) (now bounds) (now from) samples (position .0) ⌝ }
+    requires { ⌜ ContigRuns (now s) (now rows) samples referenced (now reference) (now contig) (now chosen) (now bounds) × RecordRoom samples (now found) (now owners) (now alts) × Ended (now rows) (now chosen) (now bounds) (now from) samples (position .0) ⌝ }
     ensures answer { λ r. ⌜ ((at : ContigRuns (now (s .entry)) (now (rows .entry)) samples referenced (now (reference .entry)) (now (contig .entry)) (now (chosen .entry)) (now (bounds .entry)))
         → RecordFound (at .on) (position .0) (λ n. take n (now (found .exit))) (now (alts .exit)) r) ⌝ }
     ensures sites { λ _. ⌜ ((at : ContigRuns (now (s .entry)) (now (rows .entry)) samples referenced (now (reference .entry)) (now (contig .entry)) (now (chosen .entry)) (now (bounds .entry)))
         → now (found .exit) ≡ sets (now (found .entry)) 0 (coveringNumbers (at .on) (position .0))) ⌝ }
+    ensures samples { λ _. ⌜ ((at : ContigRuns (now (s .entry)) (now (rows .entry)) samples referenced (now (reference .entry)) (now (contig .entry)) (now (chosen .entry)) (now (bounds .entry)))
+        → now (owners .exit) ≡ sets (now (owners .entry)) 0 (coveringOwners (at .on) (position .0))) ⌝ }
 {
-    let n = covering_sites::covering_sites(rows, chosen, from, bounds, samples, position, found);
+    let n = covering_sites::covering_sites(
+        rows,
+        chosen,
+        from,
+        bounds,
+        samples,
+        position,
+        found,
+        owners,
+    );
     if n == 0 {
         return RecordAt::NoSites;
     }

@@ -1,4 +1,4 @@
 pub mod Head
 pub mod Alleles
 pub mod SiteValues
-pub mod FoundSites
+pub mod OwnSamples

@@ -170,27 +170,25 @@ fn put_own_samples(
     next
 }
 
-// Lays what the record says of each of so many samples, at most 64.
+// Lays what the record says of each of so many samples, by the rows of their sites.
 pub fn put_samples(
     s: &[u8],
     rows: &[usize],
     samples: usize,
-    found: &[usize],
+    own: &[usize],
     position: GenomePosition,
     reference: &[u8],
     alts: &[u8],
     out: &mut [u8],
     at: usize,
 ) -> usize
-    requires { ⌜ SamplesPrintable (now s) (now rows) samples (now found) (now alts) at ⌝ }
+    requires { ⌜ SamplesPrintable (now s) (now rows) samples (now own) (now alts) at ⌝ }
     ensures { λ r. ⌜ Laid (now (out .entry)) at
-        (printedSamples (now (s .entry)) (now (rows .entry)) samples (now (found .entry)) (position .0) (now (reference .entry)) (now (alts .entry)))
+        (printedSamples (now (s .entry)) (now (rows .entry)) samples (now (own .entry)) (position .0) (now (reference .entry)) (now (alts .entry)))
         (now (out .exit)) r ⌝ }
 {
     let mut fields = [0usize; 32];
     let alt_count = sample_alleles::split_alts(alts, &mut fields);
-    let mut own = [rows.len(); 64];
-    found_sites::own_sites(rows, found, &mut own);
     put_own_samples(
         s,
         rows,

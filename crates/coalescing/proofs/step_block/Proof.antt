@@ -1,7 +1,7 @@
 -- By whether it joins the one that is held back.
 use borrow.Author.Needs.{needs}
 use mathlib.Core.Path.{_∙_, sym}
-use Rattle.coalescing.proofs.StepLaws.{step-apart, step-joined}
+use Rattle.coalescing.proofs.StepLaws.{held-joined, held-own, step-apart, step-joined}
 use Rattle.coalescing.proofs.step_block.Statement.{statement}
 use Rattle.coalescing.proofs.step_block.Tie as tie
 
@@ -15,8 +15,13 @@ same-length : tie.Need-same-length
 same-length c = search needs
 
 returns : tie.Need-returns
-returns c = λ samples waiting new d₀ bytes records h b p.
-    rw ((c .joined .ensures)) (step-joined _ _ samples _ _ _ d₀ bytes records (c .before .before .before .before .before .before .before .before .before .before .before .args .first) (c .before .before .before .before .before .before .before .before .before .before .before .args .last) (c .before .before .before .before .before .before .before .before .before .before .before .args .place) _ new b _ waiting h (sym ((c .before .before .joins .ensures)) ∙ (c .before .if1 .taken)) _ _ _ p)
+returns c =
+    let args = c .before .before .before .before .before .before .before .before .before .before .before .args in
+    let joins = sym (c .before .before .joins .ensures) ∙ c .before .if1 .taken in (
+      λ samples waiting new d₀ bytes records h b p.
+          rw (c .joined .ensures) (step-joined _ _ samples _ _ _ d₀ bytes records (args .first) (args .last) (args .place) _ new b _ waiting h joins _ _ _ p),
+      held-joined _ _ _ _ _ _ (args .place) _ joins,
+    )
 
 put-pending-requires : tie.Need-put-pending-requires
 put-pending-requires c κs = (c .before .before .before .before .before .before .before .before .before .before .before .before .pre .fits)
@@ -37,8 +42,16 @@ same-length-3 : tie.Need-same-length-3
 same-length-3 c = search needs
 
 returns-2 : tie.Need-returns-2
-returns-2 c = λ samples waiting new d₀ bytes records h b p.
-    rw ((c .before .cap .ensures), (c .count-pending .ensures)) (step-apart _ _ samples _ _ _ d₀ bytes records (c .before .before .before .before .before .before .before .before .before .before .before .before .before .before .before .before .before .before .before .before .before .args .first) (c .before .before .before .before .before .before .before .before .before .before .before .before .before .before .before .before .before .before .before .before .before .args .last) (c .before .before .before .before .before .before .before .before .before .before .before .before .before .before .before .before .before .before .before .before .before .args .place) _ new b _ waiting h (sym ((c .before .before .before .before .before .before .before .before .before .before .before .before .joins .ensures)) ∙ (c .before .before .before .before .before .before .before .before .before .before .before .if1 .left)) _ _ ((c .before .before .before .before .before .before .before .before .before .before .before .before .before .before .before .before .before .before .before .before .before .pre .room)) ((c .before .before .before .before .put-bytes .ensures)) _ _ _ _ _ p ((c .before .before .before .before .before .before .before .before .put-pending .ensures)))
+returns-2 c =
+    let args = c .before .before .before .before .before .before .before .before .before .before .before .before .before .before .before .before .before .before .before .before .before .args in
+    let apart = sym (c .before .before .before .before .before .before .before .before .before .before .before .before .joins .ensures) ∙ c .before .before .before .before .before .before .before .before .before .before .before .if1 .left in
+    let held = c .before .before .before .before .put-bytes .ensures in (
+      λ samples waiting new d₀ bytes records h b p.
+          rw (c .before .cap .ensures, c .count-pending .ensures)
+          (step-apart _ _ samples _ _ _ d₀ bytes records (args .first) (args .last) (args .place) _ new b _ waiting h apart _ _ (c .before .before .before .before .before .before .before .before .before .before .before .before .before .before .before .before .before .before .before .before .before .pre .room) held
+          _ _ _ _ _ p (c .before .before .before .before .before .before .before .before .put-pending .ensures)),
+      held .laid ∙ held-own _ _ _ _ _ _ (args .place) _ apart,
+    )
 
 pub step-block-spec : {M : Type 1} → statement M
 step-block-spec =

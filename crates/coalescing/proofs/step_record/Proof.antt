@@ -13,7 +13,7 @@ cap-requires c κs = search needs
 
 put-record-requires : tie.Need-put-record-requires
 put-record-requires c κs = let f = (c .before .before .before .before .before .before .before .before .before .before .before .before .before .before .pre .1) in
-    record { in-range = f .in-range; sound = f .sound; few = f .few; few-samples = f .few-samples; fits = omega (arith, f .fits, (c .before .cap .ensures)) }
+    record { in-range = f .in-range; enough = f .enough; sound = f .sound; few = f .few; fits = omega (arith, f .fits, (c .before .cap .ensures)) }
 
 cap-requires-2 : tie.Need-cap-requires-2
 cap-requires-2 c κs = search needs

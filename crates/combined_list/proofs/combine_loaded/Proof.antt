@@ -25,7 +25,7 @@ slice-aggregate-combine-contigs-2 : tie.Need-slice-aggregate-combine-contigs-2
 slice-aggregate-combine-contigs-2 c = search needs
 
 combine-contigs-requires : tie.Need-combine-contigs-requires
-combine-contigs-requires c κs = (list-ready ((c .before .before .before .before .before .before .before .before .before .before .before .before .before .before .before .before .before .before .before .before .before .before .before .before .before .before .pre .0)) ((c .before .before .before .before .before .before .before .before .before .before .before .before .before .before .before .before .before .before .before .before .before .before .before .before .before .before .pre .1 .for-firsts)) (c .before .before .before .before .before .before .before .before .order-contigs .ensures (rows-for (c .before .before .before .before .before .before .before .before .before .before .before .before .before .before .before .before .before .before .before .before .before .before .before .before .before .before .pre .0))) ((c .before .before .before .before .before .before .before .before .before .before .before .before .before .group-by-sample .ensures)), omega (arith, (c .before .before .before .before .before .before .before .before .before .before .before .before .before .before .before .before .before .before .before .before .before .before .before .before .before .before .pre .1 .for-chosen), (c .before .before .before .before .before .before .before .before .before .before .before .before .before .group-by-sample .kept .1 .1 .1 .0)))
+combine-contigs-requires c κs = (list-ready ((c .before .before .before .before .before .before .before .before .before .before .before .before .before .before .before .before .before .before .before .before .before .before .before .before .before .before .pre .0)) ((c .before .before .before .before .before .before .before .before .before .before .before .before .before .before .before .before .before .before .before .before .before .before .before .before .before .before .pre .1 .for-firsts)) (c .before .before .before .before .before .before .before .before .order-contigs .ensures (rows-for (c .before .before .before .before .before .before .before .before .before .before .before .before .before .before .before .before .before .before .before .before .before .before .before .before .before .before .pre .0))) ((c .before .before .before .before .before .before .before .before .before .before .before .before .before .group-by-sample .ensures .0)), omega (arith, (c .before .before .before .before .before .before .before .before .before .before .before .before .before .before .before .before .before .before .before .before .before .before .before .before .before .before .pre .1 .for-chosen), (c .before .before .before .before .before .before .before .before .before .before .before .before .before .group-by-sample .kept .1 .1 .1 .0)))
 
 same-length : tie.Need-same-length
 same-length c = search needs
@@ -43,7 +43,7 @@ same-length-5 : tie.Need-same-length-5
 same-length-5 c = search needs
 
 returns : tie.Need-returns
-returns c = λ call. loaded-answered call ((c .before .before .before .before .before .before .before .before .before .before .before .before .before .before .before .before .before .before .before .before .before .before .before .before .before .before .before .before .before .before .before .before .before .pre .1 .for-firsts)) (c .before .before .before .before .before .before .before .before .before .before .before .before .before .before .before .order-contigs .ensures (rows-for call)) ((c .before .before .before .before .before .before .before .before .before .before .before .before .before .before .before .before .before .before .before .before .group-by-sample .ensures)) _ ((c .before .before .before .before .before .before .combine-contigs .ensures))
+returns c = λ call. loaded-answered call ((c .before .before .before .before .before .before .before .before .before .before .before .before .before .before .before .before .before .before .before .before .before .before .before .before .before .before .before .before .before .before .before .before .before .pre .1 .for-firsts)) (c .before .before .before .before .before .before .before .before .before .before .before .before .before .before .before .order-contigs .ensures (rows-for call)) ((c .before .before .before .before .before .before .before .before .before .before .before .before .before .before .before .before .before .before .before .before .group-by-sample .ensures .0)) _ ((c .before .before .before .before .before .before .combine-contigs .ensures))
 
 pub combine-loaded-spec : {M : Type 1} → statement M
 combine-loaded-spec =

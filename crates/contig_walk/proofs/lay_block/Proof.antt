@@ -36,7 +36,7 @@ same-length-3 c = search needs
 returns : tie.Need-returns
 returns c = λ ready block waiting d₀ bytes records h p.
     let f = fresh-lines ready block _ _ (rw (c .before .before .before .before .before .before .before .before .before .before .before .before .ref-bytes .ensures) at (c .before .before .before .before .before .before .before .before .before .before .put-samples .ensures)) in
-    (c .before .before .before .before .step-block .ensures) _ waiting (laidRecord ready) d₀ bytes records h (new-block ready block _ (f .lines)) p
+    (c .before .before .before .before .step-block .ensures .0) _ waiting (laidRecord ready) d₀ bytes records h (new-block ready block _ (f .lines)) p
 
 pub lay-block-spec : {M : Type 1} → statement M
 lay-block-spec =

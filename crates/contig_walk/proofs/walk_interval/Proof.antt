@@ -2,7 +2,7 @@
 use borrow.Author.Needs.{needs}
 use borrow.Author.Tests.{not-false, not-true}
 use mathlib.Core.Path.{_∙_, sym}
-use Rattle.contig_walk.proofs.Turns.{front-within, lay-ready, turn-bare, turn-clipped, turn-laid, turn-none}
+use Rattle.contig_walk.proofs.Turns.{front-within, lay-ready, own-asked, own-known, owners-exact, owners-front, turn-bare, turn-clipped, turn-laid, turn-none}
 use Rattle.merged_records.specs.Found.{RecordFound}
 use Rattle.contig_walk.proofs.walk_interval.Statement.{statement}
 use Rattle.contig_walk.proofs.walk_interval.Tie as tie
@@ -14,7 +14,7 @@ returns : tie.Need-returns
 returns c = λ ready waiting d₀ bytes records h p. turn-clipped ready waiting d₀ bytes records h (sym ((c .before .passes-clip .ensures) _ (ready .clip-given)) ∙ not-true _ (c .if1 .taken)) _ _ p
 
 record-at-requires : tie.Need-record-at-requires
-record-at-requires c κs = ((c .before .before .before .before .before .before .before .before .before .before .before .before .before .before .before .before .before .pre .runs), (c .before .before .before .before .before .before .before .before .before .before .before .before .before .before .before .before .before .pre .room .for-record), (c .before .before .before .before .before .before .before .before .before .before .before .before .before .before .before .before .before .pre .ended))
+record-at-requires c κs = ((c .before .before .before .before .before .before .before .before .before .before .before .before .before .before .before .before .before .before .before .pre .runs), (c .before .before .before .before .before .before .before .before .before .before .before .before .before .before .before .before .before .before .before .pre .room .for-record), (c .before .before .before .before .before .before .before .before .before .before .before .before .before .before .before .before .before .before .before .pre .ended))
 
 enum-told : tie.Need-enum-told
 enum-told c = search needs
@@ -25,63 +25,119 @@ enum-known-here c = search needs
 enum-known-here-2 : tie.Need-enum-known-here-2
 enum-known-here-2 c = search needs
 
+slice-reshare-prefix-own-sites : tie.Need-slice-reshare-prefix-own-sites
+unfolding RecordFound
+slice-reshare-prefix-own-sites c =
+    let start = c .before .before .before .before .before .before .before .before .before .before .before .before .before .before .before .before .before .before .before .before .before .before .before .before .before .before .before .before .before in
+    let answer = c .before .before .before .before .before .before .before .before .before .record-at .ensures in
+    let f = rw (c .before .here2 .given .1) at (answer .0 (start .pre .runs)) in
+    front-within _ (f .all)
+
+slice-aggregate-own-sites : tie.Need-slice-aggregate-own-sites
+unfolding RecordFound
+slice-aggregate-own-sites c =
+    let start = c .before .before .before .before .before .before .before .before .before .before .before .before .before .before .before .before .before .before .before .before .before .before .before .before .before .before .before .before .before .before in
+    let answer = c .before .before .before .before .before .before .before .before .before .before .record-at .ensures in
+    let f = rw (c .before .before .here2 .given .1) at (answer .0 (start .pre .runs)) in
+    f .all
+
+slice-reshare-prefix-own-sites-2 : tie.Need-slice-reshare-prefix-own-sites-2
+unfolding RecordFound
+slice-reshare-prefix-own-sites-2 c =
+    let start = c .before .before .before .before .before .before .before .before .before .before .before .before .before .before .before .before .before .before .before .before .before .before .before .before .before .before .before .before .before .before in
+    let answer = c .before .before .before .before .before .before .before .before .before .before .record-at .ensures in
+    let f = rw (c .before .before .here2 .given .1) at (answer .0 (start .pre .runs)) in
+    owners-front (start .pre) _ _ _ _ _ _ f _ (answer .1 .0 (start .pre .runs)) (answer .1 .1 (start .pre .runs))
+
+slice-aggregate-own-sites-2 : tie.Need-slice-aggregate-own-sites-2
+unfolding RecordFound
+slice-aggregate-own-sites-2 c =
+    let start = c .before .before .before .before .before .before .before .before .before .before .before .before .before .before .before .before .before .before .before .before .before .before .before .before .before .before .before .before .before .before .before in
+    let answer = c .before .before .before .before .before .before .before .before .before .before .before .record-at .ensures in
+    let f = rw (c .before .before .before .here2 .given .1) at (answer .0 (start .pre .runs)) in
+    owners-exact (start .pre) _ _ _ _ _ _ f _ (answer .1 .0 (start .pre .runs)) (answer .1 .1 (start .pre .runs))
+
+slice-aggregate-own-sites-3 : tie.Need-slice-aggregate-own-sites-3
+slice-aggregate-own-sites-3 c = search needs
+
+own-sites-requires : tie.Need-own-sites-requires
+unfolding RecordFound
+own-sites-requires c κs =
+    let start = c .before .before .before .before .before .before .before .before .before .before .before .before .before .before .before .before .before .before .before .before .before .before .before .before .before .before .before .before .before .before .before .before in
+    let answer = c .before .before .before .before .before .before .before .before .before .before .before .before .record-at .ensures in
+    let f = rw (c .before .before .before .before .here2 .given .1) at (answer .0 (start .pre .runs)) in
+    own-asked (start .pre) _ _ _ _ _ _ f _ (answer .1 .0 (start .pre .runs)) (answer .1 .1 (start .pre .runs))
+
 part-requires : tie.Need-part-requires
 part-requires c κs = search needs
 
-slice-reshare-prefix-lay-record : tie.Need-slice-reshare-prefix-lay-record
-unfolding RecordFound
-slice-reshare-prefix-lay-record c = let f = rw (c .before .before .before .here2 .given .1) at ((c .before .before .before .before .before .before .before .before .before .record-at .ensures .0) (c .before .before .before .before .before .before .before .before .before .before .before .before .before .before .before .before .before .before .before .before .before .before .before .before .before .before .before .pre .runs)) in front-within _ (f .all)
-
 slice-aggregate-lay-record : tie.Need-slice-aggregate-lay-record
-unfolding RecordFound
-slice-aggregate-lay-record c = let f = rw (c .before .before .before .before .here2 .given .1) at ((c .before .before .before .before .before .before .before .before .before .before .record-at .ensures .0) (c .before .before .before .before .before .before .before .before .before .before .before .before .before .before .before .before .before .before .before .before .before .before .before .before .before .before .before .before .pre .runs)) in f .all
+slice-aggregate-lay-record c = search needs
 
 lay-record-requires : tie.Need-lay-record-requires
 unfolding RecordFound
-lay-record-requires c κs = let f = rw (c .before .before .before .before .before .before .before .here2 .given .1) at ((c .before .before .before .before .before .before .before .before .before .before .before .before .before .record-at .ensures .0) (c .before .before .before .before .before .before .before .before .before .before .before .before .before .before .before .before .before .before .before .before .before .before .before .before .before .before .before .before .before .before .before .pre .runs)) in
-    lay-ready (c .before .before .before .before .before .before .before .before .before .before .before .before .before .before .before .before .before .before .before .before .before .before .before .before .before .before .before .before .before .before .before .pre) (sym ((c .before .before .before .before .before .before .before .before .before .before .before .before .before .before .before .before .before .passes-clip .ensures) _ (c .before .before .before .before .before .before .before .before .before .before .before .before .before .before .before .before .before .before .before .before .before .before .before .before .before .before .before .before .before .before .before .pre .clip-given)) ∙ not-false _ (c .before .before .before .before .before .before .before .before .before .before .before .before .before .before .before .before .if1 .left)) _ _ _ _ _ _ f _ (c .before .before .before .before .part .ensures)
+lay-record-requires c κs =
+    let start = c .before .before .before .before .before .before .before .before .before .before .before .before .before .before .before .before .before .before .before .before .before .before .before .before .before .before .before .before .before .before .before .before .before .before .before .before .before .before .before .before in
+    let answer = c .before .before .before .before .before .before .before .before .before .before .before .before .before .before .before .before .before .before .before .before .record-at .ensures in
+    let f = rw (c .before .before .before .before .before .before .before .before .before .before .before .before .here2 .given .1) at (answer .0 (start .pre .runs)) in
+    let inside = sym (c .before .before .before .before .before .before .before .before .before .before .before .before .before .before .before .before .before .before .before .before .before .before .before .before .before .passes-clip .ensures _ (start .pre .clip-given)) ∙ not-false _ (c .before .before .before .before .before .before .before .before .before .before .before .before .before .before .before .before .before .before .before .before .before .before .before .before .if1 .left) in
+    lay-ready (start .pre) inside _ _ _ _ _ _ f _ (c .before .before .before .before .part .ensures) _
+    (own-known (start .pre) _ _ _ _ _ _ f _ (answer .1 .0 (start .pre .runs)) (answer .1 .1 (start .pre .runs)) (c .before .before .before .before .before .before .before .own-sites .ensures))
 
 same-length : tie.Need-same-length
-same-length c = search needs
+same-length c = c .before .before .before .before .before .before .before .before .record-at .kept .1 .1 .1 .1 .1 .1 .1 .1 .1 .1 .0
 
 same-length-2 : tie.Need-same-length-2
-same-length-2 c = search needs
+same-length-2 c = c .before .before .before .before .before .before .before .before .record-at .kept .1 .1 .1 .1 .1 .1 .1 .1 .1 .1 .1 .0
+
+same-length-3 : tie.Need-same-length-3
+same-length-3 c = c .before .before .before .before .before .before .before .before .record-at .kept .1 .1 .1 .1 .1 .1 .1 .1 .1 .1 .1 .1 .0
 
 returns-2 : tie.Need-returns-2
 unfolding RecordFound
-returns-2 c = λ ready waiting d₀ bytes records h p. turn-bare ready waiting d₀ bytes records h (sym ((c .before .before .before .before .before .before .before .before .before .before .passes-clip .ensures) _ (ready .clip-given)) ∙ not-false _ (c .before .before .before .before .before .before .before .before .before .if1 .left)) (rw (c .enum-told .given .1) at ((c .before .before .before .before .before .before .record-at .ensures .0) (ready .runs))) _ _ p
-
-same-length-3 : tie.Need-same-length-3
-same-length-3 c = search needs
+returns-2 c = λ ready waiting d₀ bytes records h p. turn-bare ready waiting d₀ bytes records h (sym ((c .before .before .before .before .before .before .before .before .before .before .before .before .before .passes-clip .ensures) _ (ready .clip-given)) ∙ not-false _ (c .before .before .before .before .before .before .before .before .before .before .before .before .if1 .left)) (rw (c .enum-told .given .1) at ((c .before .before .before .before .before .before .before .before .record-at .ensures .0) (ready .runs))) _ _ p
 
 same-length-4 : tie.Need-same-length-4
-same-length-4 c = search needs
+same-length-4 c = c .before .before .before .before .before .before .before .before .before .record-at .kept .1 .1 .1 .1 .1 .1 .1 .1 .1 .1 .0
+
+same-length-5 : tie.Need-same-length-5
+same-length-5 c = c .before .before .before .before .before .before .before .before .before .record-at .kept .1 .1 .1 .1 .1 .1 .1 .1 .1 .1 .1 .0
+
+same-length-6 : tie.Need-same-length-6
+same-length-6 c = c .before .before .before .before .before .before .before .before .before .record-at .kept .1 .1 .1 .1 .1 .1 .1 .1 .1 .1 .1 .1 .0
 
 returns-3 : tie.Need-returns-3
 unfolding RecordFound
-returns-3 c = λ ready waiting d₀ bytes records h p. let f = rw (c .before .here .given .1) at ((c .before .before .before .before .before .before .before .record-at .ensures .0) (ready .runs)) in
-    turn-none ready waiting d₀ bytes records h (sym ((c .before .before .before .before .before .before .before .before .before .before .before .passes-clip .ensures) _ (ready .clip-given)) ∙ not-false _ (c .before .before .before .before .before .before .before .before .before .before .if1 .left)) _ (f .0) (f .1) _
-
-same-length-5 : tie.Need-same-length-5
-same-length-5 c = search needs
-
-same-length-6 : tie.Need-same-length-6
-same-length-6 c = search needs
+returns-3 c = λ ready waiting d₀ bytes records h p. let f = rw (c .before .here .given .1) at ((c .before .before .before .before .before .before .before .before .before .record-at .ensures .0) (ready .runs)) in
+    turn-none ready waiting d₀ bytes records h (sym ((c .before .before .before .before .before .before .before .before .before .before .before .before .before .before .passes-clip .ensures) _ (ready .clip-given)) ∙ not-false _ (c .before .before .before .before .before .before .before .before .before .before .before .before .before .if1 .left)) _ (f .0) (f .1) _ (p .measured .laid)
 
 same-length-7 : tie.Need-same-length-7
-same-length-7 c = search needs
+same-length-7 c = c .before .before .before .before .before .before .lay-record .kept .1 .1 .1 .1 .1 .1 .1 .1 .1 .1 .1 .1 .0
 
 same-length-8 : tie.Need-same-length-8
-same-length-8 c = search needs
+same-length-8 c = c .before .before .before .before .before .before .lay-record .kept .1 .1 .1 .1 .1 .1 .1 .1 .1 .1 .1 .1 .1 .0
 
 same-length-9 : tie.Need-same-length-9
-same-length-9 c = search needs
+same-length-9 c = c .before .before .before .before .before .before .before .before .before .before .before .before .before .before .before .before .before .before .before .before .before .before .before .before .before .before .before .record-at .kept .1 .1 .1 .1 .1 .1 .1 .1 .1 .1 .0
+
+same-length-10 : tie.Need-same-length-10
+same-length-10 c = c .before .before .before .before .before .before .before .before .before .before .before .before .before .before .before .before .before .before .before .before .before .before .before .before .before .before .before .record-at .kept .1 .1 .1 .1 .1 .1 .1 .1 .1 .1 .1 .0
+
+same-length-11 : tie.Need-same-length-11
+same-length-11 c = c .before .before .before .before .before .before .before .before .before .before .before .before .before .before .before .before .before .before .before .before .before .before .before .before .before .before .before .record-at .kept .1 .1 .1 .1 .1 .1 .1 .1 .1 .1 .1 .1 .0
+
+same-length-12 : tie.Need-same-length-12
+same-length-12 c = c .before .before .before .before .before .before .lay-record .kept .1 .1 .1 .1 .1 .1 .1 .1 .1 .1 .1 .1 .1 .1 .0
 
 returns-4 : tie.Need-returns-4
 unfolding RecordFound
-returns-4 c = λ ready waiting d₀ bytes records h p. let f = rw (c .before .before .before .before .before .before .before .before .before .before .before .before .before .before .here2 .given .1) at ((c .before .before .before .before .before .before .before .before .before .before .before .before .before .before .before .before .before .before .before .before .record-at .ensures .0) (ready .runs)) in
-    let inside = sym ((c .before .before .before .before .before .before .before .before .before .before .before .before .before .before .before .before .before .before .before .before .before .before .before .before .passes-clip .ensures) _ (ready .clip-given)) ∙ not-false _ (c .before .before .before .before .before .before .before .before .before .before .before .before .before .before .before .before .before .before .before .before .before .before .before .if1 .left) in
-    turn-laid ready waiting d₀ bytes records h inside _ _ _ _ _ _ f _ (c .before .before .before .before .before .before .before .before .before .before .before .part .ensures) _ _ _ ((c .before .before .before .before .before .before .lay-record .ensures) (lay-ready ready inside _ _ _ _ _ _ f _ (c .before .before .before .before .before .before .before .before .before .before .before .part .ensures)) waiting d₀ bytes records h p)
+returns-4 c = λ ready waiting d₀ bytes records h p.
+    let answer = c .before .before .before .before .before .before .before .before .before .before .before .before .before .before .before .before .before .before .before .before .before .before .before .before .before .before .before .record-at .ensures in
+    let f = rw (c .before .before .before .before .before .before .before .before .before .before .before .before .before .before .before .before .before .before .before .here2 .given .1) at (answer .0 (ready .runs)) in
+    let inside = sym (c .before .before .before .before .before .before .before .before .before .before .before .before .before .before .before .before .before .before .before .before .before .before .before .before .before .before .before .before .before .before .before .before .passes-clip .ensures _ (ready .clip-given)) ∙ not-false _ (c .before .before .before .before .before .before .before .before .before .before .before .before .before .before .before .before .before .before .before .before .before .before .before .before .before .before .before .before .before .before .before .if1 .left) in
+    let own = own-known ready _ _ _ _ _ _ f _ (answer .1 .0 (ready .runs)) (answer .1 .1 (ready .runs)) (c .before .before .before .before .before .before .before .before .before .before .before .before .before .before .own-sites .ensures) in
+    turn-laid ready waiting d₀ bytes records h inside _ _ _ _ _ _ f _ (c .before .before .before .before .before .before .before .before .before .before .before .part .ensures) _ own _ _ _
+    (c .before .before .before .before .before .before .lay-record .ensures (lay-ready ready inside _ _ _ _ _ _ f _ (c .before .before .before .before .before .before .before .before .before .before .before .part .ensures) _ own) waiting d₀ bytes records h p)
 
 pub walk-interval-spec : {M : Type 1} → statement M
 walk-interval-spec =
@@ -93,19 +149,27 @@ walk-interval-spec =
     enum-told
     enum-known-here
     enum-known-here-2
+    slice-reshare-prefix-own-sites
+    slice-aggregate-own-sites
+    slice-reshare-prefix-own-sites-2
+    slice-aggregate-own-sites-2
+    slice-aggregate-own-sites-3
+    own-sites-requires
     part-requires
-    slice-reshare-prefix-lay-record
     slice-aggregate-lay-record
     lay-record-requires
     same-length
     same-length-2
-    returns-2
     same-length-3
+    returns-2
     same-length-4
-    returns-3
     same-length-5
     same-length-6
+    returns-3
     same-length-7
     same-length-8
     same-length-9
+    same-length-10
+    same-length-11
+    same-length-12
     returns-4)

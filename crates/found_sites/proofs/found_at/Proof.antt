@@ -4,17 +4,25 @@ use lib.ListN.{getD}
 use Rattle.found_sites.proofs.found_at.Statement.{statement}
 use Rattle.found_sites.proofs.found_at.Tie as tie
 
-mul-site : tie.Need-mul-site
-mul-site c = search needs
+mul-row : tie.Need-mul-row
+mul-row c = search needs
 
-shared-slice-read-site : tie.Need-shared-slice-read-site
-shared-slice-read-site c = search needs
+shared-slice-read-row : tie.Need-shared-slice-read-row
+shared-slice-read-row c = search needs
 
-sample-of-requires : tie.Need-sample-of-requires
-sample-of-requires c κs = search needs
+mul-new : tie.Need-mul-new
+mul-new c = search needs
+
+shared-slice-read-new : tie.Need-shared-slice-read-new
+shared-slice-read-new c = search needs
+
+new-requires : tie.Need-new-requires
+new-requires c κs = search needs
 
 returns : tie.Need-returns
-returns c = λ j. record { sample = record { 0 = ((c .sample-of .ensures)) j }; site = getD ((c .before .before .before .before .args .sites .now)) ((c .before .before .before .before .args .i)) 0 }
+returns c = λ j. record { sample = record { 0 = c .new .ensures j }; row = getD (c .before .before .before .before .before .args .sites .now) (c .before .before .before .before .before .args .i) 0 }
 
 pub found-at-spec : {M : Type 1} → statement M
-found-at-spec = tie.close (tie.spec mul-site shared-slice-read-site sample-of-requires returns)
+found-at-spec =
+    tie.close
+    (tie.spec mul-row shared-slice-read-row mul-new shared-slice-read-new new-requires returns)

@@ -5,7 +5,7 @@ use lib.ListN.{drop}
 use Rattle.definitions.specs.Printed.{printedSampleData}
 use Rattle.kv_write.proofs.Laying.{Left, done, left-length, recast, room, several, start}
 use Rattle.laws.proofs.Every.{every-at}
-use Rattle.record_lines.proofs.FoundSites.{own-next, own-none}
+use Rattle.record_lines.proofs.OwnSamples.{own-next, own-none}
 use Rattle.record_lines.specs.Samples.{printedOwn}
 use Rattle.record_lines.proofs.put_own_samples.Statement.{statement}
 use Rattle.record_lines.proofs.put_own_samples.Tie as tie

@@ -1,6 +1,6 @@
 -- By whether the number is one of the table's.
 use borrow.Author.Needs.{needs}
-use Rattle.record_lines.proofs.FoundSites.{data-of-no-row, data-of-row, site-printable}
+use Rattle.record_lines.proofs.OwnSamples.{data-of-no-row, data-of-row, site-printable}
 use Rattle.record_lines.proofs.put_sample.Statement.{statement}
 use Rattle.record_lines.proofs.put_sample.Tie as tie
 

@@ -1,6 +1,6 @@
--- The entries say what the sites found say.
+-- The front of the entries.
 use borrow.Author.Needs.{needs}
-use Rattle.record_lines.proofs.FoundSites.{front-count, front-lines, front-printable}
+use Rattle.record_lines.proofs.OwnSamples.{front-count, front-printable}
 use Rattle.record_lines.proofs.put_samples.Statement.{statement}
 use Rattle.record_lines.proofs.put_samples.Tie as tie
 
@@ -10,29 +10,20 @@ slice-aggregate-split-alts c = search needs
 split-alts-requires : tie.Need-split-alts-requires
 split-alts-requires c κs = search needs
 
-slice-aggregate-own-sites : tie.Need-slice-aggregate-own-sites
-slice-aggregate-own-sites c = search needs
-
-own-sites-requires : tie.Need-own-sites-requires
-own-sites-requires c κs = search needs
-
-array-share-prefix-own : tie.Need-array-share-prefix-own
-array-share-prefix-own c = search needs
-
 slice-aggregate-put-own-samples : tie.Need-slice-aggregate-put-own-samples
-slice-aggregate-put-own-samples c = front-count (c .before .before .before .before .before .before .before .before .before .before .before .before .before .pre) (c .before .before .own-sites .ensures)
+slice-aggregate-put-own-samples c = front-count (c .before .before .before .before .before .before .before .before .before .before .pre)
 
 slice-aggregate-put-own-samples-2 : tie.Need-slice-aggregate-put-own-samples-2
 slice-aggregate-put-own-samples-2 c = search needs
 
 put-own-samples-requires : tie.Need-put-own-samples-requires
-put-own-samples-requires c κs = (front-printable (c .before .before .before .before .before .before .before .before .before .before .before .before .before .before .before .pre) (c .before .before .before .before .own-sites .ensures) _ _, (c .before .before .before .before .before .before .before .split-alts .ensures .places))
+put-own-samples-requires c κs = (front-printable (c .before .before .before .before .before .before .before .before .before .before .before .before .pre) _ _, c .before .before .before .before .split-alts .ensures .places)
 
 same-length : tie.Need-same-length
 same-length c = search needs
 
 returns : tie.Need-returns
-returns c = rw (front-lines (c .before .before .before .before .before .before .before .before .before .before .before .before .before .before .before .before .before .before .pre) (c .before .before .before .before .before .before .before .own-sites .ensures) _ _) at (c .before .before .put-own-samples .ensures)
+returns c = c .before .before .put-own-samples .ensures
 
 pub put-samples-spec : {M : Type 1} → statement M
 put-samples-spec =
@@ -40,9 +31,6 @@ put-samples-spec =
     (tie.spec
     slice-aggregate-split-alts
     split-alts-requires
-    slice-aggregate-own-sites
-    own-sites-requires
-    array-share-prefix-own
     slice-aggregate-put-own-samples
     slice-aggregate-put-own-samples-2
     put-own-samples-requires
