@@ -1,10 +1,11 @@
 // Records of a contig one after the other: a block record is held back until the next one does not join it (the Rust's
 // `coalesce_homref_blocks`).
 ghost use Prim.Native.Nat.{ℕ};
-ghost use lib.ListN.{length};
+ghost use lib.ListN.{length, take};
 ghost use mathlib.Core.List.{List, _++_};
 ghost use mathlib.Core.Option.{Option};
 ghost use mathlib.Core.Path.{_≡_};
+ghost use Rattle.definitions.specs.Bytes.{sameBytes};
 ghost use Rattle.definitions.specs.Records.{Record};
 ghost use Rattle.kv_write.specs.Laid.{Laid};
 ghost use Rattle.merged_ref.specs.Answers.{refBytes};
@@ -56,6 +57,14 @@ pub fn put_pending<'a>(
     }
 }
 
+// Whether two blocks agree in PL, AD, DP and GQ of all samples: the lines of their samples are the same bytes.
+fn samples_pl_ad_eq(held: &[u8], len: usize, fresh: &[u8]) -> bool
+    ensures { λ r. ⌜ r ≡ sameBytes (take len (now (held .entry))) (now (fresh .entry)) ⌝ }
+{
+    let lines = tables::part(held, 0, len);
+    kv_text::same_bytes(lines, fresh)
+}
+
 // Whether a block at a position, with this REF and these lines of its samples, joins the record that is held back.
 fn joins<'a>(
     s: &'a [u8],
@@ -84,12 +93,11 @@ fn joins<'a>(
     if !kv_text::same_bytes(one, other) {
         return false;
     }
-    let lines = tables::part(held, 0, len);
-    kv_text::same_bytes(lines, fresh)
+    samples_pl_ad_eq(held, len, fresh)
 }
 
 // The record that is held back with another last position: that of a block that joins it.
-fn joined(pending: Pending, last: GenomePosition) -> Pending
+fn set_end(pending: Pending, last: GenomePosition) -> Pending
     ensures { λ r. ⌜ r ≡ joinedTo pending last ⌝ }
 {
     match pending {
@@ -109,7 +117,7 @@ pub fn count_pending(count: usize, pending: Pending) -> usize
 }
 
 // Lays a record that is no block: contig, POS, REF, ALTs and the lines of its samples.
-fn put_record<'a>(
+fn merge_result_to_record<'a>(
     s: &'a [u8],
     rows: &[usize],
     samples: usize,
@@ -131,7 +139,7 @@ fn put_record<'a>(
 {
     let allele = merged_ref::ref_bytes(s, rows, reference, place);
     let next = record_lines::put_record_head(out, at, contig, position, position, allele, alts);
-    record_lines::put_samples(s, rows, samples, own, position, allele, alts, out, next)
+    record_lines::merge_genotypes(s, rows, samples, own, position, allele, alts, out, next)
 }
 
 // What a record leaves: the block that is held back now, where the list goes on, and how many records it has so far.
@@ -143,7 +151,7 @@ pub struct Stepped {
 
 // The next record is a block, with these lines of its samples: it joins the one that is held back, or that one is laid and this one held,
 // its lines at the front of `held`.
-pub fn step_block<'a>(
+pub fn coalesce_homref_blocks<'a>(
     s: &'a [u8],
     rows: &[usize],
     reference: &'a [u8],
@@ -168,7 +176,7 @@ pub fn step_block<'a>(
 {
     if joins(s, rows, reference, held, pending, first, place, fresh) {
         return Stepped {
-            pending: joined(pending, last),
+            pending: set_end(pending, last),
             at,
             count,
         };
@@ -208,7 +216,7 @@ pub fn step_record<'a>(
         → StepTo (now (s .entry)) (now (rows .entry)) samples (now (reference .entry)) (now (contig .entry)) (now (held .entry)) (now (out .exit)) waiting new d₀ bytes records r) ⌝ }
 {
     let next = list_header::cap(put_pending(s, rows, reference, contig, held, pending, out, at));
-    let end = put_record(
+    let end = merge_result_to_record(
         s,
         rows,
         samples,

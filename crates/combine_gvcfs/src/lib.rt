@@ -98,7 +98,7 @@ fn combine_cohort<'a>(
     }
     index_reference(referenced, reference, rows);
     index_clip(clipped, clip, rows);
-    combined_list::combine_loaded(
+    combined_list::combine_loaded_gvcfs(
         s,
         names,
         rows,

@@ -314,7 +314,7 @@ fn combine_contigs<'a>(
 // Writes the list of an input in order, from its tables: rows 10 to 14. Reading has made sure of what it requires. `order`, `firsts`,
 // `chosen` and `scratch` take the sites by sample, the contigs, a contig's sites and its breakpoints: work lists that only this
 // call reads, and what they hold after it is open.
-pub fn combine_loaded<'a>(
+pub fn combine_loaded_gvcfs<'a>(
     s: &'a [u8],
     names: &[usize],
     rows: &[usize],

@@ -58,8 +58,8 @@ fn lay_block<'a>(
         → StepTo (now (s .entry)) (now (rows .entry)) samples (now (reference .entry)) (now (contig .entry)) (now (held .exit)) (now (out .exit)) waiting (laidRecord ready) d₀ bytes records r) ⌝ }
 {
     let allele = merged_ref::ref_bytes(s, rows, reference, place);
-    let len = record_lines::put_samples(s, rows, samples, own, first, allele, alts, fresh, 0);
-    coalescing::step_block(
+    let len = record_lines::merge_genotypes(s, rows, samples, own, first, allele, alts, fresh, 0);
+    coalescing::coalesce_homref_blocks(
         s,
         rows,
         reference,
@@ -77,7 +77,7 @@ fn lay_block<'a>(
 }
 
 // Whether a record with this REF and so many ALTs is a block: REF is one letter, and the only ALT is <NON_REF>.
-fn is_block<'a>(
+fn is_homref_nonref_only<'a>(
     s: &'a [u8],
     rows: &[usize],
     reference: &'a [u8],
@@ -120,7 +120,7 @@ fn lay_record<'a>(
         → Progress d₀ bytes records (now (out .entry)) at count
         → StepTo (now (s .entry)) (now (rows .entry)) samples (now (reference .entry)) (now (contig .entry)) (now (held .exit)) (now (out .exit)) waiting (laidRecord ready) d₀ bytes records r) ⌝ }
 {
-    if is_block(s, rows, reference, place, number) {
+    if is_homref_nonref_only(s, rows, reference, place, number) {
         return lay_block(
             s,
             rows,
@@ -218,7 +218,7 @@ fn walk_interval<'a>(
     if !passes_clip(clipped, clip, rows, contig, first, last) {
         return Turned::To(same);
     }
-    let here = merged_records::record_at(
+    let here = merged_records::merge_reference_confidence(
         s,
         rows,
         samples,

@@ -111,7 +111,7 @@ module _ {s rows : List ℕ} {samples : ℕ} {referenced : Bool} {reference cont
     unfolding intervalRecord recordOf
     alts-refused ref e h = then _ _ e (not-required _ _ _ (lt-leb (suc (length (mergedAlts ref position (covering on position)))) 16 (omega arith)))
 
-  -- ---- the answers of record_at
+  -- ---- the answers of merge_reference_confidence
 
   pub covering-some : (sites : List ℕ) → sites ≡ numbers → 0 < length sites → 0 < length (covering on position)
   covering-some sites e h = rw (← numbers-cover, ← e) (rw (length-map sites (siteAt s rows)) h)

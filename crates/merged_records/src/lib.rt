@@ -75,7 +75,7 @@ fn record_over<'a>(
 // The record of a contig at a position, from the contig's sites in runs by sample, each searched from a place behind sites that ended
 // before the position. `found` holds the numbers of the covering sites, whatever the answer, and `owners` their samples; both are as they were
 // behind them. `alts` is a work buffer: of a record its beginning is the ALTs' text (`RecordTo`), and nothing is promised of the rest, as in `collect_target_alleles`.
-pub fn record_at<'a>(
+pub fn merge_reference_confidence<'a>(
     s: &'a [u8],
     rows: &[usize],
     samples: usize,

@@ -45,7 +45,7 @@ pub record OwnPrintable (s rows own : List ℕ) (position : ℕ) (ref alts : Lis
   pub few : length (fieldsOf comma alts) ≤ 15
   pub fits : at + length (printedOwn s rows position ref alts own) < 2 ^ 64
 
--- what `put_samples` asks: an entry for each sample; no sample's lines are longer than `mostData`
+-- what `merge_genotypes` asks: an entry for each sample; no sample's lines are longer than `mostData`
 pub record SamplesPrintable (s rows : List ℕ) (samples : ℕ) (own alts : List ℕ) (at : ℕ) : Type 0 where
   pub enough : samples ≤ length own
   pub sound : Every (λ x. x < length rows → SoundSite (siteAt s rows x)) (take samples own)

@@ -171,7 +171,7 @@ fn put_own_samples(
 }
 
 // Lays what the record says of each of so many samples, by the rows of their sites.
-pub fn put_samples(
+pub fn merge_genotypes(
     s: &[u8],
     rows: &[usize],
     samples: usize,

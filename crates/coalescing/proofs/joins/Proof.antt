@@ -2,7 +2,6 @@
 use borrow.Author.Needs.{needs}
 use borrow.Author.Tests.{not-false, not-true}
 use mathlib.Core.Path.{_∙_, sym}
-use native.Mathlib.Nat.{sub-zero}
 use Rattle.coalescing.proofs.Touching.{at-zero, not-touching, other-ref, same-ref}
 use Rattle.coalescing.specs.Held.{joinsPending}
 use Rattle.coalescing.proofs.joins.Statement.{statement}
@@ -46,17 +45,14 @@ returns-4 : tie.Need-returns-4
 returns-4 c = rw (c .before .before .before .before .before .before .before .before .before .pending .given .1) (other-ref _ _ _ _ _ _ _ _ _ _ _
     (rw ((c .before .before .before .ref-bytes .ensures), (c .before .before .ref-bytes2 .ensures)) at (c .before .same-bytes .ensures)) (not-true _ (c .if3 .taken)))
 
-part-requires : tie.Need-part-requires
-part-requires c κs = search needs
-
-same-bytes-requires-2 : tie.Need-same-bytes-requires-2
-same-bytes-requires-2 c κs = search needs
+samples-pl-ad-eq-requires : tie.Need-samples-pl-ad-eq-requires
+samples-pl-ad-eq-requires c κs = search needs
 
 returns-5 : tie.Need-returns-5
-returns-5 c = rw ((c .before .part .ensures), sub-zero) at (c .same-bytes2 .ensures)
-    ∙ rw (c .before .before .before .before .before .before .before .before .before .before .before .pending .given .1) (same-ref _ _ _ _ _ _ _ _ _ _ _ (rw (c .before .before .before .before .before .before .before .before .before .get .ensures) at (c .before .before .before .before .before .before .before .before .if1 .left))
-    (rw ((c .before .before .before .before .before .before .before .before .before .get .ensures), (c .before .before .before .before .before .before .before .get2 .ensures)) at (c .before .before .before .before .before .before .if2 .left))
-    (rw ((c .before .before .before .before .before .ref-bytes .ensures), (c .before .before .before .before .ref-bytes2 .ensures)) at (c .before .before .before .same-bytes .ensures)) (not-false _ (c .before .before .if3 .left)))
+returns-5 c = c .samples-pl-ad-eq .ensures
+    ∙ rw (c .before .before .before .before .before .before .before .before .before .before .pending .given .1) (same-ref _ _ _ _ _ _ _ _ _ _ _ (rw (c .before .before .before .before .before .before .before .before .get .ensures) at (c .before .before .before .before .before .before .before .if1 .left))
+    (rw ((c .before .before .before .before .before .before .before .before .get .ensures), (c .before .before .before .before .before .before .get2 .ensures)) at (c .before .before .before .before .before .if2 .left))
+    (rw ((c .before .before .before .before .ref-bytes .ensures), (c .before .before .before .ref-bytes2 .ensures)) at (c .before .before .same-bytes .ensures)) (not-false _ (c .before .if3 .left)))
 
 pub joins-spec : {M : Type 1} → statement M
 joins-spec =
@@ -74,6 +70,5 @@ joins-spec =
     ref-bytes-requires-2
     same-bytes-requires
     returns-4
-    part-requires
-    same-bytes-requires-2
+    samples-pl-ad-eq-requires
     returns-5)

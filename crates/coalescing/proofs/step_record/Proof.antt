@@ -11,8 +11,8 @@ put-pending-requires c κs = (c .before .before .before .before .before .before 
 cap-requires : tie.Need-cap-requires
 cap-requires c κs = search needs
 
-put-record-requires : tie.Need-put-record-requires
-put-record-requires c κs = let f = (c .before .before .before .before .before .before .before .before .before .before .before .before .before .before .pre .1) in
+merge-result-to-record-requires : tie.Need-merge-result-to-record-requires
+merge-result-to-record-requires c κs = let f = (c .before .before .before .before .before .before .before .before .before .before .before .before .before .before .pre .1) in
     record { in-range = f .in-range; enough = f .enough; sound = f .sound; few = f .few; fits = omega (arith, f .fits, (c .before .cap .ensures)) }
 
 cap-requires-2 : tie.Need-cap-requires-2
@@ -29,7 +29,7 @@ same-length c = search needs
 
 returns : tie.Need-returns
 returns c = λ waiting new d₀ bytes records h o p.
-    rw ((c .before .before .cap2 .ensures), (c .count-more .ensures), (c .before .count-pending .ensures)) (step-other _ _ _ _ _ _ d₀ bytes records _ _ _ _ new o _ waiting h _ _ _ _ _ _ _ p ((c .before .before .before .before .before .before .before .before .before .before .put-pending .ensures)) (rw ((c .before .before .before .before .before .before .before .cap .ensures)) at ((c .before .before .before .before .before .put-record .ensures))))
+    rw ((c .before .before .cap2 .ensures), (c .count-more .ensures), (c .before .count-pending .ensures)) (step-other _ _ _ _ _ _ d₀ bytes records _ _ _ _ new o _ waiting h _ _ _ _ _ _ _ p ((c .before .before .before .before .before .before .before .before .before .before .put-pending .ensures)) (rw ((c .before .before .before .before .before .before .before .cap .ensures)) at ((c .before .before .before .before .before .merge-result-to-record .ensures))))
 
 pub step-record-spec : {M : Type 1} → statement M
 step-record-spec =
@@ -37,7 +37,7 @@ step-record-spec =
     (tie.spec
     put-pending-requires
     cap-requires
-    put-record-requires
+    merge-result-to-record-requires
     cap-requires-2
     count-pending-requires
     count-more-requires

@@ -26,8 +26,8 @@ index-reference-requires c κs = search needs
 index-clip-requires : tie.Need-index-clip-requires
 index-clip-requires c κs = search needs
 
-combine-loaded-requires : tie.Need-combine-loaded-requires
-combine-loaded-requires c κs =
+combine-loaded-gvcfs-requires : tie.Need-combine-loaded-gvcfs-requires
+combine-loaded-gvcfs-requires c κs =
     let at-reference = c .before .before .before .before .before .before .before .before .before .before .before .before .before .before in
     let spans = optional-in-order spanOf _ _ (sym (at-reference .before .before .before .clip-in-order .ensures) ∙ not-false _ (at-reference .before .before .if1 .left)) in
     let segments = optional-in-order segmentOf _ _ (sym (at-reference .before .reference-in-order .ensures) ∙ not-false _ (at-reference .if2 .left)) in
@@ -65,7 +65,7 @@ returns-3 c =
     let second = c .before .before .before .before .before .before .before .before .before .before .before .before .before .before .before .before .before .before .before .index-clip .ensures in
     let held = c .before .before .before .before .before .before .before .before .before .before .before .before .before .before .before .before .before .before .before .before .before .before .before .before .before .before .before .before .before .before .before .before .before .before .before .before .before .before .before .pre .0 in
     texts-answered (still-held held first second) spans segments (segments-there held first second) (spans-there held first second) _
-    (c .before .before .before .before .before .before .before .before .before .before .combine-loaded .ensures)
+    (c .before .before .before .before .before .before .before .before .before .before .combine-loaded-gvcfs .ensures)
 
 pub combine-cohort-spec : {M : Type 1} → statement M
 combine-cohort-spec =
@@ -77,7 +77,7 @@ combine-cohort-spec =
     returns-2
     index-reference-requires
     index-clip-requires
-    combine-loaded-requires
+    combine-loaded-gvcfs-requires
     same-length
     same-length-2
     same-length-3

@@ -11,17 +11,17 @@ use Rattle.contig_walk.proofs.lay_block.Tie as tie
 ref-bytes-requires : tie.Need-ref-bytes-requires
 ref-bytes-requires c κs = search needs
 
-put-samples-requires : tie.Need-put-samples-requires
-put-samples-requires c κs = printable (c .before .before .before .before .before .before .before .before .before .before .before .pre .0) 0 (omega arith)
+merge-genotypes-requires : tie.Need-merge-genotypes-requires
+merge-genotypes-requires c κs = printable (c .before .before .before .before .before .before .before .before .before .before .before .pre .0) 0 (omega arith)
 
-slice-reshare-prefix-step-block : tie.Need-slice-reshare-prefix-step-block
-slice-reshare-prefix-step-block c = fresh-lines (c .before .before .before .before .before .before .before .before .before .before .before .before .before .before .pre .0) (c .before .before .before .before .before .before .before .before .before .before .before .before .before .before .pre .1) _ _ (rw (c .before .before .before .before .ref-bytes .ensures) at (c .before .before .put-samples .ensures)) .within
+slice-reshare-prefix-coalesce-homref-blocks : tie.Need-slice-reshare-prefix-coalesce-homref-blocks
+slice-reshare-prefix-coalesce-homref-blocks c = fresh-lines (c .before .before .before .before .before .before .before .before .before .before .before .before .before .before .pre .0) (c .before .before .before .before .before .before .before .before .before .before .before .before .before .before .pre .1) _ _ (rw (c .before .before .before .before .ref-bytes .ensures) at (c .before .before .merge-genotypes .ensures)) .within
 
-slice-aggregate-step-block : tie.Need-slice-aggregate-step-block
-slice-aggregate-step-block c = fresh-lines (c .before .before .before .before .before .before .before .before .before .before .before .before .before .before .before .pre .0) (c .before .before .before .before .before .before .before .before .before .before .before .before .before .before .before .pre .1) _ _ (rw (c .before .before .before .before .before .ref-bytes .ensures) at (c .before .before .before .put-samples .ensures)) .exact
+slice-aggregate-coalesce-homref-blocks : tie.Need-slice-aggregate-coalesce-homref-blocks
+slice-aggregate-coalesce-homref-blocks c = fresh-lines (c .before .before .before .before .before .before .before .before .before .before .before .before .before .before .before .pre .0) (c .before .before .before .before .before .before .before .before .before .before .before .before .before .before .before .pre .1) _ _ (rw (c .before .before .before .before .before .ref-bytes .ensures) at (c .before .before .before .merge-genotypes .ensures)) .exact
 
-step-block-requires : tie.Need-step-block-requires
-step-block-requires c κs = let f = fresh-lines (c .before .before .before .before .before .before .before .before .before .before .before .before .before .before .before .before .before .pre .0) (c .before .before .before .before .before .before .before .before .before .before .before .before .before .before .before .before .before .pre .1) _ _ (rw (c .before .before .before .before .before .before .before .ref-bytes .ensures) at (c .before .before .before .before .before .put-samples .ensures)) in
+coalesce-homref-blocks-requires : tie.Need-coalesce-homref-blocks-requires
+coalesce-homref-blocks-requires c κs = let f = fresh-lines (c .before .before .before .before .before .before .before .before .before .before .before .before .before .before .before .before .before .pre .0) (c .before .before .before .before .before .before .before .before .before .before .before .before .before .before .before .before .before .pre .1) _ _ (rw (c .before .before .before .before .before .before .before .ref-bytes .ensures) at (c .before .before .before .before .before .merge-genotypes .ensures)) in
     record { fits = (c .before .before .before .before .before .before .before .before .before .before .before .before .before .before .before .before .before .pre .0 .fits); room = omega (arith, ap length (f .lines), (c .before .before .before .before .before .before .before .before .before .before .before .before .before .before .before .before .before .pre .0 .room), lines-few (c .before .before .before .before .before .before .before .before .before .before .before .before .before .before .before .before .before .pre .0) (c .before .before .before .before .before .before .before .before .before .before .before .before .before .before .before .before .before .pre .1)) }
 
 same-length : tie.Need-same-length
@@ -35,18 +35,18 @@ same-length-3 c = search needs
 
 returns : tie.Need-returns
 returns c = λ ready block waiting d₀ bytes records h p.
-    let f = fresh-lines ready block _ _ (rw (c .before .before .before .before .before .before .before .before .before .before .before .before .ref-bytes .ensures) at (c .before .before .before .before .before .before .before .before .before .before .put-samples .ensures)) in
-    (c .before .before .before .before .step-block .ensures .0) _ waiting (laidRecord ready) d₀ bytes records h (new-block ready block _ (f .lines)) p
+    let f = fresh-lines ready block _ _ (rw (c .before .before .before .before .before .before .before .before .before .before .before .before .ref-bytes .ensures) at (c .before .before .before .before .before .before .before .before .before .before .merge-genotypes .ensures)) in
+    (c .before .before .before .before .coalesce-homref-blocks .ensures .0) _ waiting (laidRecord ready) d₀ bytes records h (new-block ready block _ (f .lines)) p
 
 pub lay-block-spec : {M : Type 1} → statement M
 lay-block-spec =
     tie.close
     (tie.spec
     ref-bytes-requires
-    put-samples-requires
-    slice-reshare-prefix-step-block
-    slice-aggregate-step-block
-    step-block-requires
+    merge-genotypes-requires
+    slice-reshare-prefix-coalesce-homref-blocks
+    slice-aggregate-coalesce-homref-blocks
+    coalesce-homref-blocks-requires
     same-length
     same-length-2
     same-length-3

@@ -6,11 +6,11 @@ use Rattle.contig_walk.specs.Laying.{laidRecord}
 use Rattle.contig_walk.proofs.lay_record.Statement.{statement}
 use Rattle.contig_walk.proofs.lay_record.Tie as tie
 
-is-block-requires : tie.Need-is-block-requires
-is-block-requires c κs = search needs
+is-homref-nonref-only-requires : tie.Need-is-homref-nonref-only-requires
+is-homref-nonref-only-requires c κs = search needs
 
 lay-block-requires : tie.Need-lay-block-requires
-lay-block-requires c κs = ((c .before .before .before .before .before .before .before .before .before .before .before .before .before .before .pre), by-numbers (c .before .before .before .before .before .before .before .before .before .before .before .before .before .before .pre) ∙ sym (c .before .before .before .before .is-block .ensures) ∙ (c .before .before .before .if1 .taken))
+lay-block-requires c κs = ((c .before .before .before .before .before .before .before .before .before .before .before .before .before .before .pre), by-numbers (c .before .before .before .before .before .before .before .before .before .before .before .before .before .before .pre) ∙ sym (c .before .before .before .before .is-homref-nonref-only .ensures) ∙ (c .before .before .before .if1 .taken))
 
 same-length : tie.Need-same-length
 same-length c = search needs
@@ -22,7 +22,7 @@ same-length-3 : tie.Need-same-length-3
 same-length-3 c = search needs
 
 returns : tie.Need-returns
-returns c = λ ready waiting d₀ bytes records h p. (c .before .before .before .before .before .before .lay-block .ensures) ready (by-numbers ready ∙ sym (c .before .before .before .before .before .before .before .before .before .before .before .is-block .ensures) ∙ (c .before .before .before .before .before .before .before .before .before .before .if1 .taken)) waiting d₀ bytes records h p
+returns c = λ ready waiting d₀ bytes records h p. (c .before .before .before .before .before .before .lay-block .ensures) ready (by-numbers ready ∙ sym (c .before .before .before .before .before .before .before .before .before .before .before .is-homref-nonref-only .ensures) ∙ (c .before .before .before .before .before .before .before .before .before .before .if1 .taken)) waiting d₀ bytes records h p
 
 step-record-requires : tie.Need-step-record-requires
 step-record-requires c κs = ((c .before .before .before .before .before .before .before .before .before .before .before .before .before .pre .fits), record-fits (c .before .before .before .before .before .before .before .before .before .before .before .before .before .pre))
@@ -34,13 +34,13 @@ same-length-5 : tie.Need-same-length-5
 same-length-5 c = search needs
 
 returns-2 : tie.Need-returns-2
-returns-2 c = λ ready waiting d₀ bytes records h p. (c .before .before .step-record .ensures) waiting (laidRecord ready) d₀ bytes records h (other-record ready (by-numbers ready ∙ sym (c .before .before .before .before .before .before .is-block .ensures) ∙ (c .before .before .before .before .before .if1 .left))) p
+returns-2 c = λ ready waiting d₀ bytes records h p. (c .before .before .step-record .ensures) waiting (laidRecord ready) d₀ bytes records h (other-record ready (by-numbers ready ∙ sym (c .before .before .before .before .before .before .is-homref-nonref-only .ensures) ∙ (c .before .before .before .before .before .if1 .left))) p
 
 pub lay-record-spec : {M : Type 1} → statement M
 lay-record-spec =
     tie.close
     (tie.spec
-    is-block-requires
+    is-homref-nonref-only-requires
     lay-block-requires
     same-length
     same-length-2

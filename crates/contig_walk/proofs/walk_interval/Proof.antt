@@ -13,8 +13,8 @@ passes-clip-requires c κs = search needs
 returns : tie.Need-returns
 returns c = λ ready waiting d₀ bytes records h p. turn-clipped ready waiting d₀ bytes records h (sym ((c .before .passes-clip .ensures) _ (ready .clip-given)) ∙ not-true _ (c .if1 .taken)) _ _ p
 
-record-at-requires : tie.Need-record-at-requires
-record-at-requires c κs = ((c .before .before .before .before .before .before .before .before .before .before .before .before .before .before .before .before .before .before .before .pre .runs), (c .before .before .before .before .before .before .before .before .before .before .before .before .before .before .before .before .before .before .before .pre .room .for-record), (c .before .before .before .before .before .before .before .before .before .before .before .before .before .before .before .before .before .before .before .pre .ended))
+merge-reference-confidence-requires : tie.Need-merge-reference-confidence-requires
+merge-reference-confidence-requires c κs = ((c .before .before .before .before .before .before .before .before .before .before .before .before .before .before .before .before .before .before .before .pre .runs), (c .before .before .before .before .before .before .before .before .before .before .before .before .before .before .before .before .before .before .before .pre .room .for-record), (c .before .before .before .before .before .before .before .before .before .before .before .before .before .before .before .before .before .before .before .pre .ended))
 
 enum-told : tie.Need-enum-told
 enum-told c = search needs
@@ -29,7 +29,7 @@ slice-reshare-prefix-own-sites : tie.Need-slice-reshare-prefix-own-sites
 unfolding RecordFound
 slice-reshare-prefix-own-sites c =
     let start = c .before .before .before .before .before .before .before .before .before .before .before .before .before .before .before .before .before .before .before .before .before .before .before .before .before .before .before .before .before in
-    let answer = c .before .before .before .before .before .before .before .before .before .record-at .ensures in
+    let answer = c .before .before .before .before .before .before .before .before .before .merge-reference-confidence .ensures in
     let f = rw (c .before .here2 .given .1) at (answer .0 (start .pre .runs)) in
     front-within _ (f .all)
 
@@ -37,7 +37,7 @@ slice-aggregate-own-sites : tie.Need-slice-aggregate-own-sites
 unfolding RecordFound
 slice-aggregate-own-sites c =
     let start = c .before .before .before .before .before .before .before .before .before .before .before .before .before .before .before .before .before .before .before .before .before .before .before .before .before .before .before .before .before .before in
-    let answer = c .before .before .before .before .before .before .before .before .before .before .record-at .ensures in
+    let answer = c .before .before .before .before .before .before .before .before .before .before .merge-reference-confidence .ensures in
     let f = rw (c .before .before .here2 .given .1) at (answer .0 (start .pre .runs)) in
     f .all
 
@@ -45,7 +45,7 @@ slice-reshare-prefix-own-sites-2 : tie.Need-slice-reshare-prefix-own-sites-2
 unfolding RecordFound
 slice-reshare-prefix-own-sites-2 c =
     let start = c .before .before .before .before .before .before .before .before .before .before .before .before .before .before .before .before .before .before .before .before .before .before .before .before .before .before .before .before .before .before in
-    let answer = c .before .before .before .before .before .before .before .before .before .before .record-at .ensures in
+    let answer = c .before .before .before .before .before .before .before .before .before .before .merge-reference-confidence .ensures in
     let f = rw (c .before .before .here2 .given .1) at (answer .0 (start .pre .runs)) in
     owners-front (start .pre) _ _ _ _ _ _ f _ (answer .1 .0 (start .pre .runs)) (answer .1 .1 (start .pre .runs))
 
@@ -53,7 +53,7 @@ slice-aggregate-own-sites-2 : tie.Need-slice-aggregate-own-sites-2
 unfolding RecordFound
 slice-aggregate-own-sites-2 c =
     let start = c .before .before .before .before .before .before .before .before .before .before .before .before .before .before .before .before .before .before .before .before .before .before .before .before .before .before .before .before .before .before .before in
-    let answer = c .before .before .before .before .before .before .before .before .before .before .before .record-at .ensures in
+    let answer = c .before .before .before .before .before .before .before .before .before .before .before .merge-reference-confidence .ensures in
     let f = rw (c .before .before .before .here2 .given .1) at (answer .0 (start .pre .runs)) in
     owners-exact (start .pre) _ _ _ _ _ _ f _ (answer .1 .0 (start .pre .runs)) (answer .1 .1 (start .pre .runs))
 
@@ -64,7 +64,7 @@ own-sites-requires : tie.Need-own-sites-requires
 unfolding RecordFound
 own-sites-requires c κs =
     let start = c .before .before .before .before .before .before .before .before .before .before .before .before .before .before .before .before .before .before .before .before .before .before .before .before .before .before .before .before .before .before .before .before in
-    let answer = c .before .before .before .before .before .before .before .before .before .before .before .before .record-at .ensures in
+    let answer = c .before .before .before .before .before .before .before .before .before .before .before .before .merge-reference-confidence .ensures in
     let f = rw (c .before .before .before .before .here2 .given .1) at (answer .0 (start .pre .runs)) in
     own-asked (start .pre) _ _ _ _ _ _ f _ (answer .1 .0 (start .pre .runs)) (answer .1 .1 (start .pre .runs))
 
@@ -78,37 +78,37 @@ lay-record-requires : tie.Need-lay-record-requires
 unfolding RecordFound
 lay-record-requires c κs =
     let start = c .before .before .before .before .before .before .before .before .before .before .before .before .before .before .before .before .before .before .before .before .before .before .before .before .before .before .before .before .before .before .before .before .before .before .before .before .before .before .before .before in
-    let answer = c .before .before .before .before .before .before .before .before .before .before .before .before .before .before .before .before .before .before .before .before .record-at .ensures in
+    let answer = c .before .before .before .before .before .before .before .before .before .before .before .before .before .before .before .before .before .before .before .before .merge-reference-confidence .ensures in
     let f = rw (c .before .before .before .before .before .before .before .before .before .before .before .before .here2 .given .1) at (answer .0 (start .pre .runs)) in
     let inside = sym (c .before .before .before .before .before .before .before .before .before .before .before .before .before .before .before .before .before .before .before .before .before .before .before .before .before .passes-clip .ensures _ (start .pre .clip-given)) ∙ not-false _ (c .before .before .before .before .before .before .before .before .before .before .before .before .before .before .before .before .before .before .before .before .before .before .before .before .if1 .left) in
     lay-ready (start .pre) inside _ _ _ _ _ _ f _ (c .before .before .before .before .part .ensures) _
     (own-known (start .pre) _ _ _ _ _ _ f _ (answer .1 .0 (start .pre .runs)) (answer .1 .1 (start .pre .runs)) (c .before .before .before .before .before .before .before .own-sites .ensures))
 
 same-length : tie.Need-same-length
-same-length c = c .before .before .before .before .before .before .before .before .record-at .kept .1 .1 .1 .1 .1 .1 .1 .1 .1 .1 .0
+same-length c = c .before .before .before .before .before .before .before .before .merge-reference-confidence .kept .1 .1 .1 .1 .1 .1 .1 .1 .1 .1 .0
 
 same-length-2 : tie.Need-same-length-2
-same-length-2 c = c .before .before .before .before .before .before .before .before .record-at .kept .1 .1 .1 .1 .1 .1 .1 .1 .1 .1 .1 .0
+same-length-2 c = c .before .before .before .before .before .before .before .before .merge-reference-confidence .kept .1 .1 .1 .1 .1 .1 .1 .1 .1 .1 .1 .0
 
 same-length-3 : tie.Need-same-length-3
-same-length-3 c = c .before .before .before .before .before .before .before .before .record-at .kept .1 .1 .1 .1 .1 .1 .1 .1 .1 .1 .1 .1 .0
+same-length-3 c = c .before .before .before .before .before .before .before .before .merge-reference-confidence .kept .1 .1 .1 .1 .1 .1 .1 .1 .1 .1 .1 .1 .0
 
 returns-2 : tie.Need-returns-2
 unfolding RecordFound
-returns-2 c = λ ready waiting d₀ bytes records h p. turn-bare ready waiting d₀ bytes records h (sym ((c .before .before .before .before .before .before .before .before .before .before .before .before .before .passes-clip .ensures) _ (ready .clip-given)) ∙ not-false _ (c .before .before .before .before .before .before .before .before .before .before .before .before .if1 .left)) (rw (c .enum-told .given .1) at ((c .before .before .before .before .before .before .before .before .record-at .ensures .0) (ready .runs))) _ _ p
+returns-2 c = λ ready waiting d₀ bytes records h p. turn-bare ready waiting d₀ bytes records h (sym ((c .before .before .before .before .before .before .before .before .before .before .before .before .before .passes-clip .ensures) _ (ready .clip-given)) ∙ not-false _ (c .before .before .before .before .before .before .before .before .before .before .before .before .if1 .left)) (rw (c .enum-told .given .1) at ((c .before .before .before .before .before .before .before .before .merge-reference-confidence .ensures .0) (ready .runs))) _ _ p
 
 same-length-4 : tie.Need-same-length-4
-same-length-4 c = c .before .before .before .before .before .before .before .before .before .record-at .kept .1 .1 .1 .1 .1 .1 .1 .1 .1 .1 .0
+same-length-4 c = c .before .before .before .before .before .before .before .before .before .merge-reference-confidence .kept .1 .1 .1 .1 .1 .1 .1 .1 .1 .1 .0
 
 same-length-5 : tie.Need-same-length-5
-same-length-5 c = c .before .before .before .before .before .before .before .before .before .record-at .kept .1 .1 .1 .1 .1 .1 .1 .1 .1 .1 .1 .0
+same-length-5 c = c .before .before .before .before .before .before .before .before .before .merge-reference-confidence .kept .1 .1 .1 .1 .1 .1 .1 .1 .1 .1 .1 .0
 
 same-length-6 : tie.Need-same-length-6
-same-length-6 c = c .before .before .before .before .before .before .before .before .before .record-at .kept .1 .1 .1 .1 .1 .1 .1 .1 .1 .1 .1 .1 .0
+same-length-6 c = c .before .before .before .before .before .before .before .before .before .merge-reference-confidence .kept .1 .1 .1 .1 .1 .1 .1 .1 .1 .1 .1 .1 .0
 
 returns-3 : tie.Need-returns-3
 unfolding RecordFound
-returns-3 c = λ ready waiting d₀ bytes records h p. let f = rw (c .before .here .given .1) at ((c .before .before .before .before .before .before .before .before .before .record-at .ensures .0) (ready .runs)) in
+returns-3 c = λ ready waiting d₀ bytes records h p. let f = rw (c .before .here .given .1) at ((c .before .before .before .before .before .before .before .before .before .merge-reference-confidence .ensures .0) (ready .runs)) in
     turn-none ready waiting d₀ bytes records h (sym ((c .before .before .before .before .before .before .before .before .before .before .before .before .before .before .passes-clip .ensures) _ (ready .clip-given)) ∙ not-false _ (c .before .before .before .before .before .before .before .before .before .before .before .before .before .if1 .left)) _ (f .0) (f .1) _ (p .measured .laid)
 
 same-length-7 : tie.Need-same-length-7
@@ -118,13 +118,13 @@ same-length-8 : tie.Need-same-length-8
 same-length-8 c = c .before .before .before .before .before .before .lay-record .kept .1 .1 .1 .1 .1 .1 .1 .1 .1 .1 .1 .1 .1 .0
 
 same-length-9 : tie.Need-same-length-9
-same-length-9 c = c .before .before .before .before .before .before .before .before .before .before .before .before .before .before .before .before .before .before .before .before .before .before .before .before .before .before .before .record-at .kept .1 .1 .1 .1 .1 .1 .1 .1 .1 .1 .0
+same-length-9 c = c .before .before .before .before .before .before .before .before .before .before .before .before .before .before .before .before .before .before .before .before .before .before .before .before .before .before .before .merge-reference-confidence .kept .1 .1 .1 .1 .1 .1 .1 .1 .1 .1 .0
 
 same-length-10 : tie.Need-same-length-10
-same-length-10 c = c .before .before .before .before .before .before .before .before .before .before .before .before .before .before .before .before .before .before .before .before .before .before .before .before .before .before .before .record-at .kept .1 .1 .1 .1 .1 .1 .1 .1 .1 .1 .1 .0
+same-length-10 c = c .before .before .before .before .before .before .before .before .before .before .before .before .before .before .before .before .before .before .before .before .before .before .before .before .before .before .before .merge-reference-confidence .kept .1 .1 .1 .1 .1 .1 .1 .1 .1 .1 .1 .0
 
 same-length-11 : tie.Need-same-length-11
-same-length-11 c = c .before .before .before .before .before .before .before .before .before .before .before .before .before .before .before .before .before .before .before .before .before .before .before .before .before .before .before .record-at .kept .1 .1 .1 .1 .1 .1 .1 .1 .1 .1 .1 .1 .0
+same-length-11 c = c .before .before .before .before .before .before .before .before .before .before .before .before .before .before .before .before .before .before .before .before .before .before .before .before .before .before .before .merge-reference-confidence .kept .1 .1 .1 .1 .1 .1 .1 .1 .1 .1 .1 .1 .0
 
 same-length-12 : tie.Need-same-length-12
 same-length-12 c = c .before .before .before .before .before .before .lay-record .kept .1 .1 .1 .1 .1 .1 .1 .1 .1 .1 .1 .1 .1 .1 .0
@@ -132,7 +132,7 @@ same-length-12 c = c .before .before .before .before .before .before .lay-record
 returns-4 : tie.Need-returns-4
 unfolding RecordFound
 returns-4 c = λ ready waiting d₀ bytes records h p.
-    let answer = c .before .before .before .before .before .before .before .before .before .before .before .before .before .before .before .before .before .before .before .before .before .before .before .before .before .before .before .record-at .ensures in
+    let answer = c .before .before .before .before .before .before .before .before .before .before .before .before .before .before .before .before .before .before .before .before .before .before .before .before .before .before .before .merge-reference-confidence .ensures in
     let f = rw (c .before .before .before .before .before .before .before .before .before .before .before .before .before .before .before .before .before .before .before .here2 .given .1) at (answer .0 (ready .runs)) in
     let inside = sym (c .before .before .before .before .before .before .before .before .before .before .before .before .before .before .before .before .before .before .before .before .before .before .before .before .before .before .before .before .before .before .before .before .passes-clip .ensures _ (ready .clip-given)) ∙ not-false _ (c .before .before .before .before .before .before .before .before .before .before .before .before .before .before .before .before .before .before .before .before .before .before .before .before .before .before .before .before .before .before .before .if1 .left) in
     let own = own-known ready _ _ _ _ _ _ f _ (answer .1 .0 (ready .runs)) (answer .1 .1 (ready .runs)) (c .before .before .before .before .before .before .before .before .before .before .before .before .before .before .own-sites .ensures) in
@@ -145,7 +145,7 @@ walk-interval-spec =
     (tie.spec
     passes-clip-requires
     returns
-    record-at-requires
+    merge-reference-confidence-requires
     enum-told
     enum-known-here
     enum-known-here-2

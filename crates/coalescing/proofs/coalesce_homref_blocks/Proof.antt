@@ -1,15 +1,15 @@
 -- By whether it joins the one that is held back.
 use borrow.Author.Needs.{needs}
 use mathlib.Core.Path.{_∙_, sym}
-use Rattle.coalescing.proofs.StepLaws.{held-joined, held-own, step-apart, step-joined}
-use Rattle.coalescing.proofs.step_block.Statement.{statement}
-use Rattle.coalescing.proofs.step_block.Tie as tie
+use Rattle.coalescing.proofs.StepLaws.{held-set-end, held-own, step-apart, step-set-end}
+use Rattle.coalescing.proofs.coalesce_homref_blocks.Statement.{statement}
+use Rattle.coalescing.proofs.coalesce_homref_blocks.Tie as tie
 
 joins-requires : tie.Need-joins-requires
 joins-requires c κs = search needs
 
-joined-requires : tie.Need-joined-requires
-joined-requires c κs = search needs
+set-end-requires : tie.Need-set-end-requires
+set-end-requires c κs = search needs
 
 same-length : tie.Need-same-length
 same-length c = search needs
@@ -19,8 +19,8 @@ returns c =
     let args = c .before .before .before .before .before .before .before .before .before .before .before .args in
     let joins = sym (c .before .before .joins .ensures) ∙ c .before .if1 .taken in (
       λ samples waiting new d₀ bytes records h b p.
-          rw (c .joined .ensures) (step-joined _ _ samples _ _ _ d₀ bytes records (args .first) (args .last) (args .place) _ new b _ waiting h joins _ _ _ p),
-      held-joined _ _ _ _ _ _ (args .place) _ joins,
+          rw (c .set-end .ensures) (step-set-end _ _ samples _ _ _ d₀ bytes records (args .first) (args .last) (args .place) _ new b _ waiting h joins _ _ _ p),
+      held-set-end _ _ _ _ _ _ (args .place) _ joins,
     )
 
 put-pending-requires : tie.Need-put-pending-requires
@@ -53,12 +53,12 @@ returns-2 c =
       held .laid ∙ held-own _ _ _ _ _ _ (args .place) _ apart,
     )
 
-pub step-block-spec : {M : Type 1} → statement M
-step-block-spec =
+pub coalesce-homref-blocks-spec : {M : Type 1} → statement M
+coalesce-homref-blocks-spec =
     tie.close
     (tie.spec
     joins-requires
-    joined-requires
+    set-end-requires
     same-length
     returns
     put-pending-requires

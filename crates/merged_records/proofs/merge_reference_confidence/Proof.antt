@@ -4,8 +4,8 @@ use lib.Seq.{sets}
 use mathlib.Core.Path.{_∙_, ap}
 use Rattle.merged_records.proofs.Records.{at-front, exactly, fits-in, none-covering, over-them, owners-are}
 use Rattle.merged_records.specs.Found.{RecordFound}
-use Rattle.merged_records.proofs.record_at.Statement.{statement}
-use Rattle.merged_records.proofs.record_at.Tie as tie
+use Rattle.merged_records.proofs.merge_reference_confidence.Statement.{statement}
+use Rattle.merged_records.proofs.merge_reference_confidence.Tie as tie
 
 covering-sites-requires : tie.Need-covering-sites-requires
 covering-sites-requires c κs = (c .before .before .before .before .before .before .before .before .before .before .before .before .pre .0 .in-runs .bounded, (c .before .before .before .before .before .before .before .before .before .before .before .before .pre .2, (c .before .before .before .before .before .before .before .before .before .before .before .before .pre .1 .for-sites, c .before .before .before .before .before .before .before .before .before .before .before .before .pre .1 .for-owners)))
@@ -55,8 +55,8 @@ returns-2 c = (
   ),
 )
 
-pub record-at-spec : {M : Type 1} → statement M
-record-at-spec =
+pub merge-reference-confidence-spec : {M : Type 1} → statement M
+merge-reference-confidence-spec =
     tie.close
     (tie.spec
     covering-sites-requires

@@ -3,8 +3,8 @@ use borrow.Author.Needs.{needs}
 use native.Mathlib.Omega.{arith}
 use Rattle.combined_list.proofs.ListReady.{firsts-within, list-ready, loaded-answered, rows-for}
 use Rattle.combined_list.proofs.OneContig.{taken-exactly}
-use Rattle.combined_list.proofs.combine_loaded.Statement.{statement}
-use Rattle.combined_list.proofs.combine_loaded.Tie as tie
+use Rattle.combined_list.proofs.combine_loaded_gvcfs.Statement.{statement}
+use Rattle.combined_list.proofs.combine_loaded_gvcfs.Tie as tie
 
 slice-aggregate-group-by-sample : tie.Need-slice-aggregate-group-by-sample
 slice-aggregate-group-by-sample c = search needs
@@ -45,8 +45,8 @@ same-length-5 c = search needs
 returns : tie.Need-returns
 returns c = λ call. loaded-answered call ((c .before .before .before .before .before .before .before .before .before .before .before .before .before .before .before .before .before .before .before .before .before .before .before .before .before .before .before .before .before .before .before .before .before .pre .1 .for-firsts)) (c .before .before .before .before .before .before .before .before .before .before .before .before .before .before .before .order-contigs .ensures (rows-for call)) ((c .before .before .before .before .before .before .before .before .before .before .before .before .before .before .before .before .before .before .before .before .group-by-sample .ensures .0)) _ ((c .before .before .before .before .before .before .combine-contigs .ensures))
 
-pub combine-loaded-spec : {M : Type 1} → statement M
-combine-loaded-spec =
+pub combine-loaded-gvcfs-spec : {M : Type 1} → statement M
+combine-loaded-gvcfs-spec =
     tie.close
     (tie.spec
     slice-aggregate-group-by-sample

@@ -1,8 +1,8 @@
 -- The front of the entries.
 use borrow.Author.Needs.{needs}
 use Rattle.record_lines.proofs.OwnSamples.{front-count, front-printable}
-use Rattle.record_lines.proofs.put_samples.Statement.{statement}
-use Rattle.record_lines.proofs.put_samples.Tie as tie
+use Rattle.record_lines.proofs.merge_genotypes.Statement.{statement}
+use Rattle.record_lines.proofs.merge_genotypes.Tie as tie
 
 slice-aggregate-split-alts : tie.Need-slice-aggregate-split-alts
 slice-aggregate-split-alts c = search needs
@@ -25,8 +25,8 @@ same-length c = search needs
 returns : tie.Need-returns
 returns c = c .before .before .put-own-samples .ensures
 
-pub put-samples-spec : {M : Type 1} → statement M
-put-samples-spec =
+pub merge-genotypes-spec : {M : Type 1} → statement M
+merge-genotypes-spec =
     tie.close
     (tie.spec
     slice-aggregate-split-alts

@@ -1,8 +1,8 @@
 -- Test by test.
 use borrow.Author.Needs.{needs}
 use borrow.Author.Tests.{eq-eqb, ne-eqb}
-use Rattle.contig_walk.proofs.is_block.Statement.{statement}
-use Rattle.contig_walk.proofs.is_block.Tie as tie
+use Rattle.contig_walk.proofs.is_homref_nonref_only.Statement.{statement}
+use Rattle.contig_walk.proofs.is_homref_nonref_only.Tie as tie
 
 returns : tie.Need-returns
 returns c = rw (ne-eqb (c .before .before .before .before .args .number) 1 (c .if1 .taken))
@@ -13,5 +13,5 @@ ref-bytes-requires c κs = search needs
 returns-2 : tie.Need-returns-2
 returns-2 c = rw (eq-eqb (c .before .before .before .before .before .args .number) 1 (c .before .if1 .left), (c .ref-bytes .ensures))
 
-pub is-block-spec : {M : Type 1} → statement M
-is-block-spec = tie.close (tie.spec returns ref-bytes-requires returns-2)
+pub is-homref-nonref-only-spec : {M : Type 1} → statement M
+is-homref-nonref-only-spec = tie.close (tie.spec returns ref-bytes-requires returns-2)

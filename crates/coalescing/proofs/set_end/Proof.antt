@@ -1,8 +1,8 @@
 -- Variant by variant.
 use borrow.Author.Needs.{needs}
 use Rattle.coalescing.specs.Held.{joinedTo}
-use Rattle.coalescing.proofs.joined.Statement.{statement}
-use Rattle.coalescing.proofs.joined.Tie as tie
+use Rattle.coalescing.proofs.set_end.Statement.{statement}
+use Rattle.coalescing.proofs.set_end.Tie as tie
 
 enum-told : tie.Need-enum-told
 enum-told c = search needs
@@ -18,5 +18,5 @@ returns-2 : tie.Need-returns-2
 unfolding joinedTo
 returns-2 c = rw (c .before .pending .given .1)
 
-pub joined-spec : {M : Type 1} → statement M
-joined-spec = tie.close (tie.spec enum-told enum-known-pending returns returns-2)
+pub set-end-spec : {M : Type 1} → statement M
+set-end-spec = tie.close (tie.spec enum-told enum-known-pending returns returns-2)
