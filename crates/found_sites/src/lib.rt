@@ -57,7 +57,7 @@ fn spread(list: &[Found], count: usize, own: &mut [usize])
     }
 }
 
-// The list of at most 64 sites, which is begun with a site 64 times, and from it the entries.
+// Makes the list of 64, each `blank` at first, has at most 64 sites gathered in it, and their rows spread from it.
 fn list_sites(sites: &[usize], owners: &[usize], blank: Found, own: &mut [usize])
     requires { ⌜ (length (now owners) ≤ 64) × (length (now sites) ≡ length (now owners)) ⌝ }
     ensures { λ _. ⌜ now (own .exit) ≡ putAll (foundList (now (sites .entry)) (now (owners .entry))) (now (own .entry)) ⌝ }

@@ -73,8 +73,9 @@ fn record_over<'a>(
 }
 
 // The record of a contig at a position, from the contig's sites in runs by sample, each searched from a place behind sites that ended
-// before the position. `found` holds the numbers of the covering sites, whatever the answer, and `owners` their samples; both are as they were
-// behind them. `alts` is a work buffer: of a record its beginning is the ALTs' text (`RecordTo`), and nothing is promised of the rest, as in `collect_target_alleles`.
+// before the position. `found` holds the numbers of the covering sites, whatever the answer, and `owners` their samples; behind them both
+// are as they were. `alts` is a work buffer: of a record its beginning is the ALTs' text (`RecordTo`), and nothing is promised of the
+// rest, as in `collect_target_alleles`.
 pub fn merge_reference_confidence<'a>(
     s: &'a [u8],
     rows: &[usize],
@@ -95,7 +96,7 @@ pub fn merge_reference_confidence<'a>(
         → RecordFound (at .on) (position .0) (λ n. take n (now (found .exit))) (now (alts .exit)) r) ⌝ }
     ensures sites { λ _. ⌜ ((at : ContigRuns (now (s .entry)) (now (rows .entry)) samples referenced (now (reference .entry)) (now (contig .entry)) (now (chosen .entry)) (now (bounds .entry)))
         → now (found .exit) ≡ sets (now (found .entry)) 0 (coveringNumbers (at .on) (position .0))) ⌝ }
-    ensures samples { λ _. ⌜ ((at : ContigRuns (now (s .entry)) (now (rows .entry)) samples referenced (now (reference .entry)) (now (contig .entry)) (now (chosen .entry)) (now (bounds .entry)))
+    ensures owners { λ _. ⌜ ((at : ContigRuns (now (s .entry)) (now (rows .entry)) samples referenced (now (reference .entry)) (now (contig .entry)) (now (chosen .entry)) (now (bounds .entry)))
         → now (owners .exit) ≡ sets (now (owners .entry)) 0 (coveringOwners (at .on) (position .0))) ⌝ }
 {
     let n = covering_sites::covering_sites(

@@ -1,6 +1,6 @@
 // The lines of a record of the combined list, laid over a lent buffer as `kv_write` lays lines.
-// Sites stand in a table, `rows`, over the cohort's text, `s`; `found` are the numbers of the sites that cover the record's
-// position. `reference` is REF of the record, and `alts` are its ALTs, with commas; `fields` says where each of the `alt_count` ALTs
+// Sites stand in a table, `rows`, over the cohort's text, `s`; `own` has for each sample the row of its site that covers the record's
+// position, or a number past the table. `reference` is REF of the record, and `alts` are its ALTs, with commas; `fields` says where each of the `alt_count` ALTs
 // stands there (`sample_alleles::split_alts`).
 ghost use mathlib.Core.Path.{_≡_};
 ghost use Prim.Native.Nat.{_≤_};
