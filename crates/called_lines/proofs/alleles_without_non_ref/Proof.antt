@@ -49,17 +49,30 @@ part-put-alt-end c = let h = field-within _ _ _ _ ((c .before .before .before .b
 
 put-alt-requires : tie.Need-put-alt-requires Inv-loop μ-loop
 unfolding text
-put-alt-requires c κs = field-fits _ ((c .before .before .before .before .before .before .loop .inv)) ((c .before .before .before .before .before .field-end .ensures)) ((c .before .before .same-bytes .ensures))
+put-alt-requires c κs =
+    let at-same-bytes = c .before .before in
+    let at-field-end = at-same-bytes .before .before .before in
+    let at-loop = at-field-end .before in
+    field-fits _ ((at-loop .loop .inv)) ((at-field-end .field-end .ensures)) ((at-same-bytes .same-bytes .ensures))
 
 any-laid-requires : tie.Need-any-laid-requires Inv-loop μ-loop
 any-laid-requires c κs = search needs
 
 same-length : tie.Need-same-length Inv-loop μ-loop
-same-length c = ((c .before .before .before .before .put-alt .kept .0)) ∙ left-length ((c .before .before .before .before .before .before .before .before .before .before .before .loop .inv .left))
+same-length c =
+    let at-put-alt = c .before .before .before .before in
+    let at-loop = at-put-alt .before .before .before .before .before .before .before in
+    ((at-put-alt .put-alt .kept .0)) ∙ left-length ((at-loop .loop .inv .left))
 
 returns : tie.Need-returns Inv-loop μ-loop
 unfolding text
-returns c = alts-done _ ((c .before .before .before .before .before .before .before .before .before .before .before .loop .inv)) ((c .before .before .before .before .before .before .before .before .before .before .field-end .ensures)) ((c .before .before .before .before .before .before .before .same-bytes .ensures)) ((c .before .before .before .before .put-alt .ensures)) ((c .if1 .taken))
+returns c =
+    let at-put-alt = c .before .before .before .before in
+    let at-same-bytes = at-put-alt .before .before .before in
+    let at-field-end = at-same-bytes .before .before .before in
+    let at-loop = at-field-end .before in
+    alts-done _ ((at-loop .loop .inv)) ((at-field-end .field-end .ensures)) ((at-same-bytes .same-bytes .ensures)) ((at-put-alt .put-alt .ensures))
+    ((c .if1 .taken))
 
 add-from : tie.Need-add-from Inv-loop μ-loop
 add-from c = search needs

@@ -58,21 +58,39 @@ new-requires c κs = search needs
 
 returns : tie.Need-returns Inv-loop μ-loop
 unfolding text
-returns c = λ ref. ((c .new .ensures)) ∙ reading-found _ _ _ _ _ _ _ _ ((c .before .before .before .before .before .before .loop .inv)) ((c .before .before .before .before .before .field-end .ensures)) (non-ref-by-bytes _ ∙ sym ((c .before .before .same-bytes .ensures)) ∙ ((c .before .if1 .taken))) ∙ any-ref _ ref
+returns c =
+    let at-same-bytes = c .before .before in
+    let at-field-end = at-same-bytes .before .before .before in
+    let at-loop = at-field-end .before in
+    λ ref. ((c .new .ensures)) ∙ reading-found _ _ _ _ _ _ _ _ ((at-loop .loop .inv)) ((at-field-end .field-end .ensures))
+    (non-ref-by-bytes _ ∙ sym ((at-same-bytes .same-bytes .ensures)) ∙ ((c .before .if1 .taken))) ∙ any-ref _ ref
 
 reference-requires : tie.Need-reference-requires Inv-loop μ-loop
 reference-requires c κs = search needs
 
 returns-2 : tie.Need-returns-2 Inv-loop μ-loop
 unfolding text
-returns-2 c = λ ref. ((c .reference .ensures)) ∙ all-read _ _ _ _ _ _ _ _ ((c .before .before .before .before .before .before .before .loop .inv)) ((c .before .before .before .before .before .before .field-end .ensures)) (non-ref-by-bytes _ ∙ sym ((c .before .before .before .same-bytes .ensures)) ∙ ((c .before .before .if1 .left))) ((c .before .if2 .taken)) ∙ any-ref _ ref
+returns-2 c =
+    let at-if1 = c .before .before in
+    let at-same-bytes = at-if1 .before in
+    let at-field-end = at-same-bytes .before .before .before in
+    let at-loop = at-field-end .before in
+    λ ref. ((c .reference .ensures)) ∙ all-read _ _ _ _ _ _ _ _ ((at-loop .loop .inv)) ((at-field-end .field-end .ensures))
+    (non-ref-by-bytes _ ∙ sym ((at-same-bytes .same-bytes .ensures)) ∙ ((at-if1 .if1 .left))) ((c .before .if2 .taken)) ∙ any-ref _ ref
 
 reference-requires-2 : tie.Need-reference-requires-2 Inv-loop μ-loop
 reference-requires-2 c κs = search needs
 
 returns-3 : tie.Need-returns-3 Inv-loop μ-loop
 unfolding text
-returns-3 c = λ ref. ((c .reference2 .ensures)) ∙ no-number _ _ _ _ _ _ _ _ ((c .before .before .before .before .before .before .before .before .loop .inv)) ((c .before .before .before .before .before .before .before .field-end .ensures)) (non-ref-by-bytes _ ∙ sym ((c .before .before .before .before .same-bytes .ensures)) ∙ ((c .before .before .before .if1 .left))) ((c .before .before .if2 .left)) ((c .before .if3 .taken)) ∙ any-ref _ ref
+returns-3 c =
+    let at-if2 = c .before .before in
+    let at-if1 = at-if2 .before in
+    let at-same-bytes = at-if1 .before in
+    let at-field-end = at-same-bytes .before .before .before in
+    let at-loop = at-field-end .before in
+    λ ref. ((c .reference2 .ensures)) ∙ no-number _ _ _ _ _ _ _ _ ((at-loop .loop .inv)) ((at-field-end .field-end .ensures))
+    (non-ref-by-bytes _ ∙ sym ((at-same-bytes .same-bytes .ensures)) ∙ ((at-if1 .if1 .left))) ((at-if2 .if2 .left)) ((c .before .if3 .taken)) ∙ any-ref _ ref
 
 add-number : tie.Need-add-number Inv-loop μ-loop
 add-number c = omega (arith, (c .before .before .before .before .before .before .before .loop .inv .most), (c .if3 .left))
@@ -85,7 +103,13 @@ loop-less c = omega (arith, (c .before .before .before .before .before .before .
 
 loop-again : tie.Need-loop-again Inv-loop μ-loop
 unfolding text
-loop-again c = next-unread _ _ _ _ _ _ _ _ ((c .before .before .before .before .before .before .before .loop .inv)) ((c .before .before .before .before .before .before .field-end .ensures)) (non-ref-by-bytes _ ∙ sym ((c .before .before .before .same-bytes .ensures)) ∙ ((c .before .before .if1 .left))) ((c .before .if2 .left)) ((c .if3 .left))
+loop-again c =
+    let at-if1 = c .before .before in
+    let at-same-bytes = at-if1 .before in
+    let at-field-end = at-same-bytes .before .before .before in
+    let at-loop = at-field-end .before in
+    next-unread _ _ _ _ _ _ _ _ ((at-loop .loop .inv)) ((at-field-end .field-end .ensures))
+    (non-ref-by-bytes _ ∙ sym ((at-same-bytes .same-bytes .ensures)) ∙ ((at-if1 .if1 .left))) ((c .before .if2 .left)) ((c .if3 .left))
 
 pub non-ref-number-spec : {M : Type 1} → statement M
 non-ref-number-spec =

@@ -11,25 +11,48 @@ returns : tie.Need-returns
 returns c = rw (alt-dropped _ _ _ ((c .if1 .taken))) laid-none
 
 put-bytes-requires : tie.Need-put-bytes-requires
-put-bytes-requires c κs = rw (alt-first _ _ _ ((c .before .before .if1 .left)) (not-true _ ((c .before .if2 .taken)))) at ((c .before .before .before .before .before .pre))
+put-bytes-requires c κs =
+    let at-if1 = c .before .before in
+    let at-pre = at-if1 .before .before .before in
+    rw (alt-first _ _ _ ((at-if1 .if1 .left)) (not-true _ ((c .before .if2 .taken)))) at ((at-pre .pre))
 
 same-length : tie.Need-same-length
 same-length c = search needs
 
 returns-2 : tie.Need-returns-2
-returns-2 c = rw (alt-first _ _ _ ((c .before .before .before .before .before .if1 .left)) (not-true _ ((c .before .before .before .before .if2 .taken)))) ((c .before .before .put-bytes .ensures))
+returns-2 c =
+    let at-put-bytes = c .before .before in
+    let at-if2 = at-put-bytes .before .before in
+    let at-if1 = at-if2 .before in
+    rw (alt-first _ _ _ ((at-if1 .if1 .left)) (not-true _ ((at-if2 .if2 .taken)))) ((at-put-bytes .put-bytes .ensures))
 
 put-byte-requires : tie.Need-put-byte-requires
-put-byte-requires c κs = fits-first ((c .before .before .before .before .before .args .at)) (44 ∷ []) ((c .before .before .before .before .before .args .alt .now)) (rw (alt-next _ _ _ ((c .before .before .if1 .left)) (not-false _ ((c .before .if2 .left)))) at ((c .before .before .before .before .before .pre)))
+put-byte-requires c κs =
+    let at-if1 = c .before .before in
+    let at-args = at-if1 .before .before .before in
+    fits-first ((at-args .args .at)) (44 ∷ []) ((at-args .args .alt .now))
+    (rw (alt-next _ _ _ ((at-if1 .if1 .left)) (not-false _ ((c .before .if2 .left)))) at ((at-args .pre)))
 
 put-bytes-requires-2 : tie.Need-put-bytes-requires-2
-put-bytes-requires-2 c κs = fits-rest ((c .before .before .before .before .before .before .before .before .before .args .alt .now)) ((c .before .before .before .put-byte .ensures)) (rw (alt-next _ _ _ ((c .before .before .before .before .before .before .if1 .left)) (not-false _ ((c .before .before .before .before .before .if2 .left)))) at ((c .before .before .before .before .before .before .before .before .before .pre)))
+put-bytes-requires-2 c κs =
+    let at-put-byte = c .before .before .before in
+    let at-if2 = at-put-byte .before .before in
+    let at-if1 = at-if2 .before in
+    let at-args = at-if1 .before .before .before in
+    fits-rest ((at-args .args .alt .now)) ((at-put-byte .put-byte .ensures))
+    (rw (alt-next _ _ _ ((at-if1 .if1 .left)) (not-false _ ((at-if2 .if2 .left)))) at ((at-args .pre)))
 
 same-length-2 : tie.Need-same-length-2
 same-length-2 c = search needs
 
 returns-3 : tie.Need-returns-3
-returns-3 c = rw (alt-next _ _ _ ((c .before .before .before .before .before .before .before .before .before .if1 .left)) (not-false _ ((c .before .before .before .before .before .before .before .before .if2 .left)))) (laid-append ((c .before .before .before .before .before .before .put-byte .ensures)) ((c .before .before .put-bytes2 .ensures)))
+returns-3 c =
+    let at-put-bytes2 = c .before .before in
+    let at-put-byte = at-put-bytes2 .before .before .before .before in
+    let at-if2 = at-put-byte .before .before in
+    let at-if1 = at-if2 .before in
+    rw (alt-next _ _ _ ((at-if1 .if1 .left)) (not-false _ ((at-if2 .if2 .left))))
+    (laid-append ((at-put-byte .put-byte .ensures)) ((at-put-bytes2 .put-bytes2 .ensures)))
 
 pub put-alt-spec : {M : Type 1} → statement M
 put-alt-spec =

@@ -13,35 +13,82 @@ slice-aggregate-put-optional-number-line : tie.Need-slice-aggregate-put-optional
 slice-aggregate-put-optional-number-line c = search needs
 
 put-optional-number-line-requires : tie.Need-put-optional-number-line-requires
-put-optional-number-line-requires c κs = rw ((c .before .before .gq-of-pl .ensures)) (omega (arith, (c .before .before .before .before .before .before .pre), called-length (optionOf ((c .before .before .before .before .before .before .args .dp))) ((c .before .before .before .before .before .before .args .ad .now)) ((c .before .before .before .before .before .before .args .pl .now))))
+put-optional-number-line-requires c κs =
+    let at-gq-of-pl = c .before .before in
+    let at-pre = at-gq-of-pl .before .before .before .before in
+    rw ((at-gq-of-pl .gq-of-pl .ensures)) (omega (
+      arith,
+      (at-pre .pre),
+      called-length (optionOf ((at-pre .args .dp))) ((at-pre .args .ad .now))
+          ((at-pre .args .pl .now)),
+    ))
 
 slice-aggregate-put-optional-number-line-2 : tie.Need-slice-aggregate-put-optional-number-line-2
 slice-aggregate-put-optional-number-line-2 c = search needs
 
 put-optional-number-line-requires-2 : tie.Need-put-optional-number-line-requires-2
-put-optional-number-line-requires-2 c κs = let gq = rw ((c .before .before .before .before .before .before .before .gq-of-pl .ensures)) at ((c .before .before .before .before .put-optional-number-line .ensures)) in
-    omega (arith, (c .before .before .before .before .before .before .before .before .before .before .before .pre), gq .next, called-length (optionOf ((c .before .before .before .before .before .before .before .before .before .before .before .args .dp))) ((c .before .before .before .before .before .before .before .before .before .before .before .args .ad .now)) ((c .before .before .before .before .before .before .before .before .before .before .before .args .pl .now)))
+put-optional-number-line-requires-2 c κs =
+    let at-put-optional-number-line = c .before .before .before .before in
+    let at-gq-of-pl = at-put-optional-number-line .before .before .before in
+    let at-pre = at-gq-of-pl .before .before .before .before in
+    let gq = rw ((at-gq-of-pl .gq-of-pl .ensures)) at ((at-put-optional-number-line .put-optional-number-line .ensures)) in
+    omega (arith, (at-pre .pre), gq .next, called-length (optionOf ((at-pre .args .dp))) ((at-pre .args .ad .now)) ((at-pre .args .pl .now)))
 
 slice-aggregate-put-optional-numbers-line : tie.Need-slice-aggregate-put-optional-numbers-line
 slice-aggregate-put-optional-numbers-line c = search needs
 
 put-optional-numbers-line-requires : tie.Need-put-optional-numbers-line-requires
-put-optional-numbers-line-requires c κs = let gq = rw ((c .before .before .before .before .before .before .before .before .before .before .before .before .gq-of-pl .ensures)) at ((c .before .before .before .before .before .before .before .before .before .put-optional-number-line .ensures)) in
-    omega (arith, (c .before .before .before .before .before .before .before .before .before .before .before .before .before .before .before .before .pre), gq .next, (c .before .before .before .before .put-optional-number-line2 .ensures .next), called-length (optionOf ((c .before .before .before .before .before .before .before .before .before .before .before .before .before .before .before .before .args .dp))) ((c .before .before .before .before .before .before .before .before .before .before .before .before .before .before .before .before .args .ad .now)) ((c .before .before .before .before .before .before .before .before .before .before .before .before .before .before .before .before .args .pl .now)))
+put-optional-numbers-line-requires c κs =
+    let at-put-optional-number-line2 = c .before .before .before .before in
+    let at-put-optional-number-line = at-put-optional-number-line2 .before .before .before .before .before in
+    let at-gq-of-pl = at-put-optional-number-line .before .before .before in
+    let at-pre = at-gq-of-pl .before .before .before .before in
+    let gq = rw ((at-gq-of-pl .gq-of-pl .ensures)) at ((at-put-optional-number-line .put-optional-number-line .ensures)) in
+    omega (
+      arith,
+      (at-pre .pre),
+      gq .next,
+      (at-put-optional-number-line2 .put-optional-number-line2 .ensures .next),
+      called-length
+          (optionOf ((at-pre .args .dp))) ((at-pre .args .ad .now)) ((at-pre .args .pl .now)),
+    )
 
 slice-aggregate-put-optional-numbers-line-2 : tie.Need-slice-aggregate-put-optional-numbers-line-2
 slice-aggregate-put-optional-numbers-line-2 c = search needs
 
 put-optional-numbers-line-requires-2 : tie.Need-put-optional-numbers-line-requires-2
-put-optional-numbers-line-requires-2 c κs = let gq = rw ((c .before .before .before .before .before .before .before .before .before .before .before .before .before .before .before .before .before .gq-of-pl .ensures)) at ((c .before .before .before .before .before .before .before .before .before .before .before .before .before .before .put-optional-number-line .ensures)) in
-    omega (arith, (c .before .before .before .before .before .before .before .before .before .before .before .before .before .before .before .before .before .before .before .before .before .pre), gq .next, (c .before .before .before .before .before .before .before .before .before .put-optional-number-line2 .ensures .next), (c .before .before .before .before .put-optional-numbers-line .ensures .next), called-length (optionOf ((c .before .before .before .before .before .before .before .before .before .before .before .before .before .before .before .before .before .before .before .before .before .args .dp))) ((c .before .before .before .before .before .before .before .before .before .before .before .before .before .before .before .before .before .before .before .before .before .args .ad .now)) ((c .before .before .before .before .before .before .before .before .before .before .before .before .before .before .before .before .before .before .before .before .before .args .pl .now)))
+put-optional-numbers-line-requires-2 c κs =
+    let at-put-optional-numbers-line = c .before .before .before .before in
+    let at-put-optional-number-line2 = at-put-optional-numbers-line .before .before .before .before .before in
+    let at-put-optional-number-line = at-put-optional-number-line2 .before .before .before .before .before in
+    let at-gq-of-pl = at-put-optional-number-line .before .before .before in
+    let at-pre = at-gq-of-pl .before .before .before .before in
+    let gq = rw ((at-gq-of-pl .gq-of-pl .ensures)) at ((at-put-optional-number-line .put-optional-number-line .ensures)) in
+    omega (
+      arith,
+      (at-pre .pre),
+      gq .next,
+      (at-put-optional-number-line2 .put-optional-number-line2 .ensures .next),
+      (at-put-optional-numbers-line .put-optional-numbers-line .ensures .next),
+      called-length (optionOf ((at-pre .args .dp))) ((at-pre .args .ad .now))
+          ((at-pre .args .pl .now)),
+    )
 
 same-length : tie.Need-same-length
 same-length c = search needs
 
 returns : tie.Need-returns
-returns c = called-laid (optionOf ((c .before .before .before .before .before .before .before .before .before .before .before .before .before .before .before .before .before .before .before .before .before .before .before .before .args .dp))) ((c .before .before .before .before .before .before .before .before .before .before .before .before .before .before .before .before .before .before .before .before .before .before .before .before .args .ad .now)) ((c .before .before .before .before .before .before .before .before .before .before .before .before .before .before .before .before .before .before .before .before .before .before .before .before .args .pl .now)) (rw ((c .before .before .before .before .before .before .before .before .before .before .before .before .before .before .before .before .before .before .before .before .gq-of-pl .ensures)) at ((c .before .before .before .before .before .before .before .before .before .before .before .before .before .before .before .before .before .put-optional-number-line .ensures)))
-    ((c .before .before .before .before .before .before .before .before .before .before .before .before .put-optional-number-line2 .ensures)) ((c .before .before .before .before .before .before .before .put-optional-numbers-line .ensures)) ((c .before .before .put-optional-numbers-line2 .ensures))
+returns c =
+    let at-put-optional-numbers-line2 = c .before .before in
+    let at-put-optional-numbers-line = at-put-optional-numbers-line2 .before .before .before .before .before in
+    let at-put-optional-number-line2 = at-put-optional-numbers-line .before .before .before .before .before in
+    let at-put-optional-number-line = at-put-optional-number-line2 .before .before .before .before .before in
+    let at-gq-of-pl = at-put-optional-number-line .before .before .before in
+    let at-args = at-gq-of-pl .before .before .before .before in
+    called-laid (optionOf ((at-args .args .dp))) ((at-args .args .ad .now)) ((at-args .args .pl .now))
+    (rw ((at-gq-of-pl .gq-of-pl .ensures)) at ((at-put-optional-number-line .put-optional-number-line .ensures)))
+    ((at-put-optional-number-line2 .put-optional-number-line2 .ensures)) ((at-put-optional-numbers-line .put-optional-numbers-line .ensures))
+    ((at-put-optional-numbers-line2 .put-optional-numbers-line2 .ensures))
 
 pub put-called-values-spec : {M : Type 1} → statement M
 put-called-values-spec =

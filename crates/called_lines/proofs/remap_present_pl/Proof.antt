@@ -7,7 +7,9 @@ use Rattle.called_lines.proofs.remap_present_pl.Statement.{statement}
 use Rattle.called_lines.proofs.remap_present_pl.Tie as tie
 
 returns : tie.Need-returns
-returns c = none-filled (plWithoutAllele ((c .before .before .before .args .alleles)) ((c .before .before .before .args .dropped .0))) ((c .before .before .before .args .pl .now)) ((c .if1 .taken))
+returns c =
+    let at-args = c .before .before .before in
+    none-filled (plWithoutAllele ((at-args .args .alleles)) ((at-args .args .dropped .0))) ((at-args .args .pl .now)) ((c .if1 .taken))
 
 remap-pl-drop-alleles-requires : tie.Need-remap-pl-drop-alleles-requires
 remap-pl-drop-alleles-requires c κs = search needs
@@ -16,7 +18,12 @@ same-length : tie.Need-same-length
 same-length c = search needs
 
 returns-2 : tie.Need-returns-2
-returns-2 c = some-filled (plWithoutAllele ((c .before .before .before .before .before .before .before .args .alleles)) ((c .before .before .before .before .before .before .before .args .dropped .0))) ((c .before .before .before .before .before .before .before .args .pl .now)) ((c .before .before .before .before .if1 .left)) (pl-filled ((c .before .before .before .before .before .before .before .pre .0)) ((c .before .before .before .before .before .before .before .pre .1)) ((c .before .before .before .before .before .before .before .pre .2)) ((c .before .before .remap-pl-drop-alleles .ensures)))
+returns-2 c =
+    let at-remap-pl-drop-alleles = c .before .before in
+    let at-if1 = at-remap-pl-drop-alleles .before .before in
+    let at-args = at-if1 .before .before .before in
+    some-filled (plWithoutAllele ((at-args .args .alleles)) ((at-args .args .dropped .0))) ((at-args .args .pl .now)) ((at-if1 .if1 .left))
+    (pl-filled ((at-args .pre .0)) ((at-args .pre .1)) ((at-args .pre .2)) ((at-remap-pl-drop-alleles .remap-pl-drop-alleles .ensures)))
 
 pub remap-present-pl-spec : {M : Type 1} → statement M
 remap-present-pl-spec =

@@ -31,13 +31,17 @@ slice-aggregate-call-samples c = search needs
 
 call-samples-requires : tie.Need-call-samples-requires
 unfolding Header
-call-samples-requires c κs = let h = rw ((c .before .before .before .header2 .given .1)) at (c .before .before .before .before .before .before .read-samples .ensures) in
+call-samples-requires c κs =
+    let at-header2 = c .before .before .before in
+    let at-read-samples = at-header2 .before .before .before in
+    let at-if1 = at-read-samples .before .before in
+    let h = rw ((at-header2 .header2 .given .1)) at (at-read-samples .read-samples .ensures) in
     record {
-      short = short-enough _ (c .before .before .before .before .before .before .before .before .if1 .left);
+      short = short-enough _ (at-if1 .if1 .left);
       value = h .value;
       behind = h .behind;
       few = h .few;
-      in-table = omega (arith, h .few, (c .before .before .before .before .before .before .read-samples .kept .1 .0));
+      in-table = omega (arith, h .few, (at-read-samples .read-samples .kept .1 .0));
     }
 
 returns-2 : tie.Need-returns-2

@@ -31,14 +31,23 @@ call-records-requires c κs = header-names (c .before .before .before .before .b
 
 returns : tie.Need-returns
 unfolding keyOf text
-returns c = answered-refused (records-unread _ _ (c .before .before .before .before .before .before .before .pre) (rw ((c .enum-told .given .1)) at (c .before .before .number-line .ensures))) refl
+returns c =
+    let at-number-line = c .before .before in
+    let at-pre = at-number-line .before .before .before .before .before in
+    answered-refused (records-unread _ _ (at-pre .pre) (rw ((c .enum-told .given .1)) at (at-number-line .number-line .ensures))) refl
 
 same-length : tie.Need-same-length
 same-length c = search needs
 
 returns-2 : tie.Need-returns-2
 unfolding keyOf text LineReads
-returns-2 c = let l = rw ((c .before .before .before .before .before .line .given .1)) at (c .before .before .before .before .before .before .before .number-line .ensures) in rw (called-is _ _ (c .before .before .before .before .before .before .before .before .before .before .before .before .pre) l) (c .before .before .call-records .ensures)
+returns-2 c =
+    let at-call-records = c .before .before in
+    let at-line = at-call-records .before .before .before in
+    let at-number-line = at-line .before .before in
+    let at-pre = at-number-line .before .before .before .before .before in
+    let l = rw ((at-line .line .given .1)) at (at-number-line .number-line .ensures) in rw (called-is _ _ (at-pre .pre) l)
+    (at-call-records .call-records .ensures)
 
 pub call-samples-spec : {M : Type 1} → statement M
 call-samples-spec =

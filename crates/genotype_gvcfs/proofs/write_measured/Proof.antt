@@ -33,7 +33,10 @@ slice-aggregate-write-list : tie.Need-slice-aggregate-write-list
 slice-aggregate-write-list c = taken-exactly _ _ (c .before .before .if1 .left)
 
 write-list-requires : tie.Need-write-list-requires
-write-list-requires c κs = ((c .before .before .before .before .before .before .before .before .before .before .before .pre), part-low (c .before .before .before .before .before .before .before .before .before .before .before .pre) (c .before .before .before .before .before .put-header .ensures) _)
+write-list-requires c κs =
+    let at-put-header = c .before .before .before .before .before in
+    let at-pre = at-put-header .before .before .before .before .before .before in
+    ((at-pre .pre), part-low (at-pre .pre) (at-put-header .put-header .ensures) _)
 
 same-length-2 : tie.Need-same-length-2
 same-length-2 c = search needs
@@ -42,7 +45,11 @@ same-length-3 : tie.Need-same-length-3
 same-length-3 c = search needs
 
 returns-2 : tie.Need-returns-2
-returns-2 c = λ m. fitting-answered m (c .before .before .before .before .before .before .before .before .before .before .put-header .ensures) _ (c .before .before .before .before .before .before .before .if1 .left) (c .before .before .before .before .write-list .ensures)
+returns-2 c =
+    let at-write-list = c .before .before .before .before in
+    let at-if1 = at-write-list .before .before .before in
+    let at-put-header = at-if1 .before .before .before in
+    λ m. fitting-answered m (at-put-header .put-header .ensures) _ (at-if1 .if1 .left) (at-write-list .write-list .ensures)
 
 pub write-measured-spec : {M : Type 1} → statement M
 write-measured-spec =

@@ -33,7 +33,17 @@ missing-or-requires c κs = search needs
 
 returns-3 : tie.Need-returns-3
 unfolding genotypeCount
-returns-3 c = rw (not-false (c .before .before .before .before .args .before) (c .before .before .before .if1 .left), lt-ltb _ _ (c .before .before .if2 .left), ← add-one (c .before .before .before .before .args .alts), ← add-one ((c .before .before .before .before .args .alts) + 1))
+returns-3 c =
+    let at-if2 = c .before .before in
+    let at-if1 = at-if2 .before in
+    let at-args = at-if1 .before in
+    rw (
+      not-false (at-args .args .before) (at-if1 .if1 .left),
+      lt-ltb _ _ (at-if2 .if2 .left),
+      ← add-one (at-args .args .alts),
+      ← add-one
+          ((at-args .args .alts) + 1),
+    )
     (rw (sym (c .before .missing-or .ensures) ∙ not-true _ (c .if3 .taken)))
 
 missing-or-requires-2 : tie.Need-missing-or-requires-2
@@ -41,8 +51,19 @@ missing-or-requires-2 c κs = search needs
 
 returns-4 : tie.Need-returns-4
 unfolding genotypeCount
-returns-4 c = rw (not-false (c .before .before .before .before .before .args .before) (c .before .before .before .before .if1 .left), lt-ltb _ _ (c .before .before .before .if2 .left), ← add-one (c .before .before .before .before .before .args .alts), ← add-one ((c .before .before .before .before .before .args .alts) + 1))
-    (rw (sym (c .before .before .missing-or .ensures) ∙ not-false _ (c .before .if3 .left)) (c .missing-or2 .ensures))
+returns-4 c =
+    let at-missing-or = c .before .before in
+    let at-if2 = at-missing-or .before in
+    let at-if1 = at-if2 .before in
+    let at-args = at-if1 .before in
+    rw (
+      not-false (at-args .args .before) (at-if1 .if1 .left),
+      lt-ltb _ _ (at-if2 .if2 .left),
+      ← add-one (at-args .args .alts),
+      ← add-one
+          ((at-args .args .alts) + 1),
+    )
+    (rw (sym (at-missing-or .missing-or .ensures) ∙ not-false _ (c .before .if3 .left)) (c .missing-or2 .ensures))
 
 pub counts-fit-spec : {M : Type 1} → statement M
 counts-fit-spec =

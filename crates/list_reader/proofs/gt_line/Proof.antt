@@ -27,7 +27,10 @@ enum-told c = search needs
 
 returns : tie.Need-returns
 unfolding GtRead keyOf text
-returns c = read-absent _ _ _ (orMissing (gtOf (suc (c .before .before .before .before .before .args .alts)))) ((rw (c .enum-told .given .1) at (c .before .before .value-line .ensures)) .0)
+returns c =
+    let at-value-line = c .before .before in
+    let at-args = at-value-line .before .before .before in
+    read-absent _ _ _ (orMissing (gtOf (suc (at-args .args .alts)))) ((rw (c .enum-told .given .1) at (at-value-line .value-line .ensures)) .0)
 
 part-requires : tie.Need-part-requires
 part-requires c κs = search needs
@@ -40,22 +43,52 @@ same-bytes-requires c κs = search needs
 
 returns-2 : tie.Need-returns-2
 unfolding GtRead keyOf text
-returns-2 c = let l = rw (c .before .before .before .before .before .line .given .1) at (c .before .before .before .before .before .before .before .value-line .ensures) in
-    record { gt = none; line = read-right _ _ _ (orMissing (gtOf (suc (c .before .before .before .before .before .before .before .before .before .before .args .alts)))) _ _ none (l .0) (missing-dot (gtOf (suc (c .before .before .before .before .before .before .before .before .before .before .args .alts))) _ (rw (c .before .before .before .part .ensures) at (sym (c .before .same-bytes .ensures) ∙ (c .if1 .taken)))) }
+returns-2 c =
+    let at-part = c .before .before .before in
+    let at-line = at-part .before .before in
+    let at-value-line = at-line .before .before in
+    let at-args = at-value-line .before .before .before in
+    let l = rw (at-line .line .given .1) at (at-value-line .value-line .ensures) in
+    record {
+      gt = none;
+      line = read-right _ _ _ (orMissing (gtOf (suc (at-args .args .alts)))) _ _ none (l .0)
+          (missing-dot (gtOf (suc (at-args .args .alts))) _ (rw (at-part .part .ensures) at (sym (c .before .same-bytes .ensures) ∙ (c .if1 .taken))));
+    }
 
 is-gt-requires : tie.Need-is-gt-requires
 is-gt-requires c κs = search needs
 
 returns-3 : tie.Need-returns-3
 unfolding GtRead keyOf text
-returns-3 c = let l = rw (c .before .before .before .before .before .before .before .line .given .1) at (c .before .before .before .before .before .before .before .before .before .value-line .ensures) in
-    let g = is-there _ (rw (c .before .before .before .before .before .part .ensures) at (sym (c .before .is-gt .ensures) ∙ (c .if2 .taken))) in
-    record { gt = some (g .0); line = read-right _ _ _ (orMissing (gtOf (suc (c .before .before .before .before .before .before .before .before .before .before .before .before .args .alts)))) _ _ (some (g .0)) (l .0) (missing-some (gtOf (suc (c .before .before .before .before .before .before .before .before .before .before .before .before .args .alts))) _ (g .0) (rw (c .before .before .before .before .before .part .ensures) at (sym (c .before .before .before .same-bytes .ensures) ∙ (c .before .before .if1 .left))) (g .1)) }
+returns-3 c =
+    let at-if1 = c .before .before in
+    let at-same-bytes = at-if1 .before in
+    let at-part = at-same-bytes .before .before in
+    let at-line = at-part .before .before in
+    let at-value-line = at-line .before .before in
+    let at-args = at-value-line .before .before .before in
+    let l = rw (at-line .line .given .1) at (at-value-line .value-line .ensures) in
+    let g = is-there _ (rw (at-part .part .ensures) at (sym (c .before .is-gt .ensures) ∙ (c .if2 .taken))) in
+    record {
+      gt = some (g .0);
+      line = read-right _ _ _ (orMissing (gtOf (suc (at-args .args .alts)))) _ _ (some (g .0)) (l .0)
+          (missing-some (gtOf (suc (at-args .args .alts))) _ (g .0) (rw (at-part .part .ensures) at
+          (sym (at-same-bytes .same-bytes .ensures) ∙ (at-if1 .if1 .left))) (g .1));
+    }
 
 returns-4 : tie.Need-returns-4
 unfolding GtRead keyOf text
-returns-4 c = let l = rw (c .before .before .before .before .before .before .before .line .given .1) at (c .before .before .before .before .before .before .before .before .before .value-line .ensures) in
-    read-wrong _ _ _ (orMissing (gtOf (suc (c .before .before .before .before .before .before .before .before .before .before .before .before .args .alts)))) _ _ (l .0) (missing-none (gtOf (suc (c .before .before .before .before .before .before .before .before .before .before .before .before .args .alts))) _ (rw (c .before .before .before .before .before .part .ensures) at (sym (c .before .before .before .same-bytes .ensures) ∙ (c .before .before .if1 .left))) (not-there _ (rw (c .before .before .before .before .before .part .ensures) at (sym (c .before .is-gt .ensures) ∙ (c .if2 .left)))))
+returns-4 c =
+    let at-if1 = c .before .before in
+    let at-same-bytes = at-if1 .before in
+    let at-part = at-same-bytes .before .before in
+    let at-line = at-part .before .before in
+    let at-value-line = at-line .before .before in
+    let at-args = at-value-line .before .before .before in
+    let l = rw (at-line .line .given .1) at (at-value-line .value-line .ensures) in
+    read-wrong _ _ _ (orMissing (gtOf (suc (at-args .args .alts)))) _ _ (l .0)
+    (missing-none (gtOf (suc (at-args .args .alts))) _ (rw (at-part .part .ensures) at (sym (at-same-bytes .same-bytes .ensures) ∙ (at-if1 .if1 .left)))
+    (not-there _ (rw (at-part .part .ensures) at (sym (c .before .is-gt .ensures) ∙ (c .if2 .left)))))
 
 pub gt-line-spec : {M : Type 1} → statement M
 gt-line-spec =

@@ -44,8 +44,12 @@ enum-told-2 c = search needs
 
 returns-2 : tie.Need-returns-2
 unfolding GtRead keyOf text
-returns-2 c = let g = rw (c .before .before .before .before .before .genotype .given .1) at (c .before .before .before .before .before .before .before .gt-line .ensures) in
-    gq-wrong _ _ _ _ _ (g .line) (rw (c .enum-told2 .given .1) at (c .before .before .code-line .ensures))
+returns-2 c =
+    let at-code-line = c .before .before in
+    let at-genotype = at-code-line .before .before .before in
+    let at-gt-line = at-genotype .before .before in
+    let g = rw (at-genotype .genotype .given .1) at (at-gt-line .gt-line .ensures) in
+    gq-wrong _ _ _ _ _ (g .line) (rw (c .enum-told2 .given .1) at (at-code-line .code-line .ensures))
 
 add-code-line-2 : tie.Need-add-code-line-2
 add-code-line-2 c = let h = line-within _ _ _ (orMissing number) _ _ (rw (c .before .quality .given .1) at (c .before .before .before .code-line .ensures)) in omega arith
@@ -64,8 +68,15 @@ enum-told-3 c = search needs
 
 returns-3 : tie.Need-returns-3
 unfolding GtRead keyOf text
-returns-3 c = let g = rw (c .before .before .before .before .before .before .before .before .before .before .genotype .given .1) at (c .before .before .before .before .before .before .before .before .before .before .before .before .gt-line .ensures) in
-    dp-wrong _ _ _ _ _ (g .line) _ _ (rw (c .before .before .before .before .before .quality .given .1) at (c .before .before .before .before .before .before .before .code-line .ensures)) (rw (c .enum-told3 .given .1) at (c .before .before .code-line2 .ensures))
+returns-3 c =
+    let at-code-line2 = c .before .before in
+    let at-quality = at-code-line2 .before .before .before in
+    let at-code-line = at-quality .before .before in
+    let at-genotype = at-code-line .before .before .before in
+    let at-gt-line = at-genotype .before .before in
+    let g = rw (at-genotype .genotype .given .1) at (at-gt-line .gt-line .ensures) in
+    dp-wrong _ _ _ _ _ (g .line) _ _ (rw (at-quality .quality .given .1) at (at-code-line .code-line .ensures))
+    (rw (c .enum-told3 .given .1) at (at-code-line2 .code-line2 .ensures))
 
 add-part-line : tie.Need-add-part-line
 add-part-line c = let h = line-within _ _ _ (orMissing number) _ _ (rw (c .before .depth .given .1) at (c .before .before .before .code-line2 .ensures)) in omega arith
@@ -84,8 +95,17 @@ enum-told-4 c = search needs
 
 returns-4 : tie.Need-returns-4
 unfolding GtRead keyOf text
-returns-4 c = let g = rw (c .before .before .before .before .before .before .before .before .before .before .before .before .before .before .before .genotype .given .1) at (c .before .before .before .before .before .before .before .before .before .before .before .before .before .before .before .before .before .gt-line .ensures) in
-    ad-wrong _ _ _ _ _ (g .line) _ _ (rw (c .before .before .before .before .before .before .before .before .before .before .quality .given .1) at (c .before .before .before .before .before .before .before .before .before .before .before .before .code-line .ensures)) _ _ (rw (c .before .before .before .before .before .depth .given .1) at (c .before .before .before .before .before .before .before .code-line2 .ensures)) ((rw (c .enum-told4 .given .1) at (c .before .before .part-line .ensures)) .0)
+returns-4 c =
+    let at-part-line = c .before .before in
+    let at-depth = at-part-line .before .before .before in
+    let at-code-line2 = at-depth .before .before in
+    let at-quality = at-code-line2 .before .before .before in
+    let at-code-line = at-quality .before .before in
+    let at-genotype = at-code-line .before .before .before in
+    let at-gt-line = at-genotype .before .before in
+    let g = rw (at-genotype .genotype .given .1) at (at-gt-line .gt-line .ensures) in
+    ad-wrong _ _ _ _ _ (g .line) _ _ (rw (at-quality .quality .given .1) at (at-code-line .code-line .ensures)) _ _
+    (rw (at-depth .depth .given .1) at (at-code-line2 .code-line2 .ensures)) ((rw (c .enum-told4 .given .1) at (at-part-line .part-line .ensures)) .0)
 
 add-part-line-2 : tie.Need-add-part-line-2
 add-part-line-2 c = let h = line-within _ _ _ (orMissing numberList) _ _ ((rw (c .before .depths .given .1) at (c .before .before .before .part-line .ensures)) .0) in omega arith
@@ -104,19 +124,46 @@ enum-told-5 c = search needs
 
 returns-5 : tie.Need-returns-5
 unfolding GtRead keyOf text
-returns-5 c = let g = rw (c .before .before .before .before .before .before .before .before .before .before .before .before .before .before .before .before .before .before .before .before .genotype .given .1) at (c .before .before .before .before .before .before .before .before .before .before .before .before .before .before .before .before .before .before .before .before .before .before .gt-line .ensures) in
-    let depths = rw (c .before .before .before .before .before .depths .given .1) at (c .before .before .before .before .before .before .before .part-line .ensures) in
-    pl-wrong _ _ _ _ _ (g .line) _ _ (rw (c .before .before .before .before .before .before .before .before .before .before .before .before .before .before .before .quality .given .1) at (c .before .before .before .before .before .before .before .before .before .before .before .before .before .before .before .before .before .code-line .ensures)) _ _ (rw (c .before .before .before .before .before .before .before .before .before .before .depth .given .1) at (c .before .before .before .before .before .before .before .before .before .before .before .before .code-line2 .ensures)) _ _ _ (depths .0) (depths .1) ((rw (c .enum-told5 .given .1) at (c .before .before .part-line2 .ensures)) .0)
+returns-5 c =
+    let at-part-line2 = c .before .before in
+    let at-depths = at-part-line2 .before .before .before in
+    let at-part-line = at-depths .before .before in
+    let at-depth = at-part-line .before .before .before in
+    let at-code-line2 = at-depth .before .before in
+    let at-quality = at-code-line2 .before .before .before in
+    let at-code-line = at-quality .before .before in
+    let at-genotype = at-code-line .before .before .before in
+    let at-gt-line = at-genotype .before .before in
+    let g = rw (at-genotype .genotype .given .1) at (at-gt-line .gt-line .ensures) in
+    let depths = rw (at-depths .depths .given .1) at (at-part-line .part-line .ensures) in
+    pl-wrong _ _ _ _ _ (g .line) _ _ (rw (at-quality .quality .given .1) at (at-code-line .code-line .ensures)) _ _
+    (rw (at-depth .depth .given .1) at (at-code-line2 .code-line2 .ensures)) _ _ _ (depths .0) (depths .1)
+    ((rw (c .enum-told5 .given .1) at (at-part-line2 .part-line2 .ensures)) .0)
 
 add-next : tie.Need-add-next
-add-next c = let h = line-within _ _ _ (orMissing numberList) _ _ ((rw (c .before .likelihoods .given .1) at (c .before .before .before .part-line2 .ensures)) .0) in omega (arith, h, (c .before .before .before .before .before .before .before .before .before .before .before .before .before .before .before .before .before .before .before .before .before .before .before .before .before .good))
+add-next c =
+    let at-part-line2 = c .before .before .before in
+    let at-good = at-part-line2 .before .before .before .before .before .before .before .before .before .before .before .before .before .before .before .before .before .before .before .before .before .before in
+    let h = line-within _ _ _ (orMissing numberList) _ _ ((rw (c .before .likelihoods .given .1) at (at-part-line2 .part-line2 .ensures)) .0) in omega
+    (arith, h, (at-good .good))
 
 returns-6 : tie.Need-returns-6
 unfolding GtRead keyOf text
-returns-6 c = let g = rw (c .before .before .before .before .before .before .before .before .before .before .before .before .before .before .before .before .before .before .before .before .before .genotype .given .1) at (c .before .before .before .before .before .before .before .before .before .before .before .before .before .before .before .before .before .before .before .before .before .before .before .gt-line .ensures) in
-    let depths = rw (c .before .before .before .before .before .before .depths .given .1) at (c .before .before .before .before .before .before .before .before .part-line .ensures) in
-    let likelihoods = rw (c .before .likelihoods .given .1) at (c .before .before .before .part-line2 .ensures) in
-    sample-read _ _ _ _ _ (g .line) _ _ (rw (c .before .before .before .before .before .before .before .before .before .before .before .before .before .before .before .before .quality .given .1) at (c .before .before .before .before .before .before .before .before .before .before .before .before .before .before .before .before .before .before .code-line .ensures)) _ _ (rw (c .before .before .before .before .before .before .before .before .before .before .before .depth .given .1) at (c .before .before .before .before .before .before .before .before .before .before .before .before .before .code-line2 .ensures)) _ _ _ (depths .0) (depths .1) _ _ _ (likelihoods .0) (likelihoods .1)
+returns-6 c =
+    let at-part-line2 = c .before .before .before in
+    let at-depths = at-part-line2 .before .before .before in
+    let at-part-line = at-depths .before .before in
+    let at-depth = at-part-line .before .before .before in
+    let at-code-line2 = at-depth .before .before in
+    let at-quality = at-code-line2 .before .before .before in
+    let at-code-line = at-quality .before .before in
+    let at-genotype = at-code-line .before .before .before in
+    let at-gt-line = at-genotype .before .before in
+    let g = rw (at-genotype .genotype .given .1) at (at-gt-line .gt-line .ensures) in
+    let depths = rw (at-depths .depths .given .1) at (at-part-line .part-line .ensures) in
+    let likelihoods = rw (c .before .likelihoods .given .1) at (at-part-line2 .part-line2 .ensures) in
+    sample-read _ _ _ _ _ (g .line) _ _ (rw (at-quality .quality .given .1) at (at-code-line .code-line .ensures)) _ _
+    (rw (at-depth .depth .given .1) at (at-code-line2 .code-line2 .ensures)) _ _ _ (depths .0) (depths .1) _ _ _ (likelihoods .0) (likelihoods .1)
 
 pub sample-lines-spec : {M : Type 1} → statement M
 sample-lines-spec =
