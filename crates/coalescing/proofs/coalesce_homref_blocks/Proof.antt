@@ -1,7 +1,7 @@
 -- By whether it joins the one that is held back.
 use borrow.Author.Needs.{needs}
 use mathlib.Core.Path.{_∙_, sym}
-use Rattle.coalescing.proofs.StepLaws.{held-set-end, held-own, step-apart, step-set-end}
+use Rattle.coalescing.proofs.StepLaws.{held-joined, held-own, step-apart, step-joined}
 use Rattle.coalescing.proofs.coalesce_homref_blocks.Statement.{statement}
 use Rattle.coalescing.proofs.coalesce_homref_blocks.Tie as tie
 
@@ -19,8 +19,8 @@ returns c =
     let args = c .before .before .before .before .before .before .before .before .before .before .before .args in
     let joins = sym (c .before .before .joins .ensures) ∙ c .before .if1 .taken in (
       λ samples waiting new d₀ bytes records h b p.
-          rw (c .set-end .ensures) (step-set-end _ _ samples _ _ _ d₀ bytes records (args .first) (args .last) (args .place) _ new b _ waiting h joins _ _ _ p),
-      held-set-end _ _ _ _ _ _ (args .place) _ joins,
+          rw (c .set-end .ensures) (step-joined _ _ samples _ _ _ d₀ bytes records (args .first) (args .last) (args .place) _ new b _ waiting h joins _ _ _ p),
+      held-joined _ _ _ _ _ _ (args .place) _ joins,
     )
 
 put-pending-requires : tie.Need-put-pending-requires
