@@ -1,6 +1,6 @@
 -- A record comes behind the one that is held back: what is laid, what waits, and that all goes on as it would have gone on with it.
 use Prim.Native.Nat.{_+_, _≤_, min, ℕ}
-use lib.ListN.{drop, length, length-append, take}
+use lib.ListN.{drop, length, length-append}
 use lib.Seq.{sets, take-at, take-length}
 use mathlib.Core.Bool.{false, true}
 use mathlib.Core.List.{List, [], _++_, _∷_, append-assoc, append-nil, flatMap}
@@ -17,11 +17,11 @@ use Rattle.kv_write.specs.Laid.{Laid}
 use Rattle.laws.proofs.Members.{flatMap-append}
 use Rattle.laws.proofs.Tests.{clash}
 use Rattle.list_header.proofs.TwoPasses.{counted-more, measured-more}
-use Rattle.list_header.specs.Measured.{Counted, Measured, limit}
+use Rattle.list_header.specs.Measured.{Counted, limit}
 use Rattle.merged_ref.specs.Answers.{refBytes}
 use Rattle.merged_ref.specs.declared.RefAt.{RefAt}
 use Rattle.record_laws.proofs.Coalescing.{turn-apart, turn-both-done, turn-done, turn-held, turn-joined}
-use Rattle.record_laws.specs.Pending.{andLater, blockRecord, finish}
+use Rattle.record_laws.specs.Pending.{andLater, finish}
 use Rattle.record_lines.specs.Head.{headOf}
 use Rattle.record_lines.specs.Samples.{printedSamples}
 use Rattle.coalescing.proofs.HeldBlocks.{held-joins, held-printed, holds-joined}
@@ -32,11 +32,13 @@ use Rattle.coalescing.specs.declared.Pending.the-variants.{Block, Nothin
 
 -- the lines that are held behind a block
 module _ (s rows reference held : List ℕ) (pending : Pending) (position : ℕ) (place : RefAt) (fresh : List ℕ) where
-  pub held-joined : joinsPending s rows reference held pending position place fresh ≡ true → held ≡ heldAfter s rows reference held pending position place fresh
+  pub held-joined : joinsPending s rows reference held pending position place fresh ≡ true
+      → held ≡ heldAfter s rows reference held pending position place fresh
   unfolding heldAfter
   held-joined e = rw e
 
-  pub held-own : joinsPending s rows reference held pending position place fresh ≡ false → sets held 0 fresh ≡ heldAfter s rows reference held pending position place fresh
+  pub held-own : joinsPending s rows reference held pending position place fresh ≡ false
+      → sets held 0 fresh ≡ heldAfter s rows reference held pending position place fresh
   unfolding heldAfter
   held-own e = rw e
 

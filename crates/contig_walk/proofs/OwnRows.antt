@@ -70,15 +70,18 @@ module _ (s rows : List ℕ) (position : ℕ) (ref alts found : List ℕ) (sound
             (data-of-no-row s rows position ref alts (omega arith) ∙ sym (rw (first-found-site, f)), λ h. absurd (omega arith))
 
   -- the entries of the samples from `first` on
-  abbrev entries : ℕ → ℕ → List ℕ
-  entries first n = ownRows (foundList found (map (column 0 rows) found)) first (replicate n (length rows))
+  abbrev list : List Found
+  list = foundList found (map (column 0 rows) found)
 
-  said : (first : ℕ) → (dataOwn s rows position ref alts (Option·getD (ownRow (foundList found (map (column 0 rows) found)) first) (length rows)) ≡ dataFound first)
-      × (Option·getD (ownRow (foundList found (map (column 0 rows) found)) first) (length rows) < length rows
-      → SoundSite (siteAt s rows (Option·getD (ownRow (foundList found (map (column 0 rows) found)) first) (length rows))))
+  abbrev entries : ℕ → ℕ → List ℕ
+  entries first n = ownRows list first (replicate n (length rows))
+
+  said : (first : ℕ) → (dataOwn s rows position ref alts (Option·getD (ownRow list first) (length rows)) ≡ dataFound first)
+      × (Option·getD (ownRow list first) (length rows) < length rows → SoundSite (siteAt s rows (Option·getD (ownRow list first) (length rows))))
   said first = data-of-own first (ap (λ (o : Option ℕ). Option·getD o (length rows)) (row-of rows found first))
 
-  entries-say : (n count first : ℕ) → count ≤ n → map (dataOwn s rows position ref alts) (take count (entries first n)) ≡ map dataFound (numbersFrom first count)
+  entries-say : (n count first : ℕ) → count ≤ n
+      → map (dataOwn s rows position ref alts) (take count (entries first n)) ≡ map dataFound (numbersFrom first count)
   unfolding ownRows numbersFrom
   entries-say n zero first h = refl
   entries-say zero (suc count) first h = absurd (omega arith)
@@ -96,7 +99,7 @@ module _ (s rows : List ℕ) (position : ℕ) (ref alts found : List ℕ) (sound
   module _ {own : List ℕ} (e : own ≡ ownOf rows found) {samples : ℕ} (few : samples ≤ maxSamples) where
     pub own-enough : samples ≤ length own
     own-enough =
-        let long = ap length e ∙ own-length (foundList found (map (column 0 rows) found)) 0 (replicate maxSamples (length rows)) ∙ length-replicate maxSamples (length rows) in
+        let long = ap length e ∙ own-length list 0 (replicate maxSamples (length rows)) ∙ length-replicate maxSamples (length rows) in
         omega arith
 
     pub own-data : map (dataOwn s rows position ref alts) (take samples own) ≡ map dataFound (numbersFrom 0 samples)

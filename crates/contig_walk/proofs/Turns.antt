@@ -1,15 +1,15 @@
 -- The turns of the walk: an interval without a record, one whose record is refused, and one whose record is laid.
-use Prim.Native.Nat.{_+_, _<_, _≤_, ℕ}
+use Prim.Native.Nat.{_<_, _≤_, ℕ}
 use borrow.Author.Tests.{lt-ltb}
 use lib.ListN.{length, length-map, length-take, replicate, take}
 use lib.Seq.{length-sets, length-take-le, sets, take-length}
 use mathlib.Core.Bool.{Bool, false, true}
 use mathlib.Core.List.{List, [], append-nil, flatMap, map}
 use mathlib.Core.Option.{Option}
-use mathlib.Core.Path.{_∙_, _≡_, ap, refl, subst, sym}
+use mathlib.Core.Path.{_∙_, _≡_, ap, refl, sym}
 use native.Mathlib.Nat.{add-zero, sub-zero}
 use native.Mathlib.Omega.{arith}
-use Rattle.coalescing.specs.Held.{Holds, PendingFits}
+use Rattle.coalescing.specs.Held.{Holds}
 use Rattle.coalescing.specs.Steps.{Progress, StepTo}
 use Rattle.coalescing.specs.declared.Pending.{Pending}
 use Rattle.coalescing.specs.declared.Stepped.{Stepped}
@@ -26,9 +26,9 @@ use Rattle.merged_records.specs.Loaded.{OnContig, chosenLetters, coveringNumber
 use Rattle.merged_ref.specs.declared.RefAt.{RefAt}
 use Rattle.record_laws.proofs.Coalescing.{turn-refused}
 use Rattle.record_laws.proofs.Walking.{withInterval}
-use Rattle.record_laws.specs.Pending.{andLater, finish}
+use Rattle.record_laws.specs.Pending.{andLater}
 use Rattle.tables.specs.Tables.{column, siteAt}
-use Rattle.contig_walk.specs.Laying.{LayReady, TurnReady, TurnTo, Turns, laidRecord, ownOf}
+use Rattle.contig_walk.specs.Laying.{LayReady, TurnReady, Turns, laidRecord, ownOf}
 use Rattle.contig_walk.specs.declared.Turned.the-variants as turned
 
 -- as many as were found are there

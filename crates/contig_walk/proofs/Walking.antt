@@ -13,12 +13,11 @@ use Rattle.coalescing.proofs.HeldBlocks.{holds-fits}
 use Rattle.coalescing.proofs.StepLaws.{laid-pending}
 use Rattle.coalescing.specs.Held.{Holds, PendingFits, ofOption, pendingBytes, pendingCount}
 use Rattle.coalescing.specs.Steps.{Progress}
-use Rattle.coalescing.specs.declared.Pending.{Pending}
 use Rattle.coalescing.specs.declared.Pending.the-variants.{Nothing}
 use Rattle.coalescing.specs.declared.Stepped.{Stepped}
 use Rattle.covering_sites.proofs.Ended.{ended-later, ended-skipped, ended-start}
 use Rattle.covering_sites.specs.Ended.{Ended, Replaced, behindEnded}
-use Rattle.definitions.specs.Checked.{Checked, accepted, refused}
+use Rattle.definitions.specs.Checked.{Checked, accepted}
 use Rattle.definitions.specs.CombinedList.{recordIntervals}
 use Rattle.definitions.specs.CoveringSites.{coveringSites}
 use Rattle.definitions.specs.Intervals.{breakpoints, clippedIntervals, inClip, intervalsBetween}
@@ -32,7 +31,7 @@ use Rattle.laws.proofs.Orders.{ascending-numbers}
 use Rattle.list_header.specs.Measured.{limit}
 use Rattle.merged_records.specs.Loaded.{OnContig, chosenLetters}
 use Rattle.record_laws.proofs.Coalescing.{at-end, at-end-pending}
-use Rattle.record_laws.proofs.Walking.{here, recordsFrom, walk-end, walk-start, walk-turn, withInterval}
+use Rattle.record_laws.proofs.Walking.{here, recordsFrom, walk-end, walk-start, walk-turn}
 use Rattle.record_laws.specs.Pending.{finish, mergedContig}
 use Rattle.contig_walk.proofs.LaidRecords.{contig-named}
 use Rattle.contig_walk.specs.Laying.{TurnReady, TurnRoom, Turns}

@@ -92,7 +92,8 @@ pub record TurnTo (x : Input) (choose : LetterChoice) (s rows : List ℕ) (sampl
       → finish done waiting (withInterval x choose contig (record { first = first; last = last }) later) ≡ finish (done ++ laid) waits later
 
 -- or the interval's record is refused, and nothing is laid
-pub record TurnRefused (x : Input) (choose : LetterChoice) (contig out : List ℕ) (first last : ℕ) (waiting : Option Record) (d₀ bytes : List ℕ) (row : ℕ) : Type 0 where
+pub record TurnRefused (x : Input) (choose : LetterChoice) (contig out : List ℕ) (first last : ℕ) (waiting : Option Record)
+    (d₀ bytes : List ℕ) (row : ℕ) : Type 0 where
   pub unlaid : out ≡ sets d₀ 0 bytes
   pub refuses : (done : List Record) (later : Checked (List Record))
       → finish done waiting (withInterval x choose contig (record { first = first; last = last }) later) ≡ refused row

@@ -62,7 +62,8 @@ module _ {s rows : List ℕ} {samples : ℕ} {referenced : Bool} {reference cont
       member-found rows (length (on .loaded .input .cohort .sites)) (on .first) position samples m .2 .known
 
   -- they stand at the front of the list that was filled
-  pub front : (found : List ℕ) {after owners₀ all owners : List ℕ} {n : ℕ} → samples ≤ length found → Found found numbers after owners₀ all owners n → take n after ≡ numbers
+  pub front : (found : List ℕ) {after owners₀ all owners : List ℕ} {n : ℕ} → samples ≤ length found
+      → Found found numbers after owners₀ all owners n → take n after ≡ numbers
   front found room f = rw (f .count, f .stored) (front-of found numbers (omega (arith, few-numbers)))
 
   -- their samples, by the runs

@@ -1,7 +1,7 @@
 // The lines of a record of the combined list, laid over a lent buffer as `kv_write` lays lines.
 // Sites stand in a table, `rows`, over the cohort's text, `s`; `own` has for each sample the row of its site that covers the record's
-// position, or a number past the table. `reference` is REF of the record, and `alts` are its ALTs, with commas; `fields` says where each of the `alt_count` ALTs
-// stands there (`sample_alleles::split_alts`).
+// position, or a number past the table. `reference` is REF of the record, and `alts` are its ALTs, with commas; `fields` says where each
+// of the `alt_count` ALTs stands there (`sample_alleles::split_alts`).
 ghost use mathlib.Core.Path.{_≡_};
 ghost use Prim.Native.Nat.{_≤_};
 ghost use Rattle.definitions.specs.Numbers.{maxNumber};

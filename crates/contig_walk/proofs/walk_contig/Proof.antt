@@ -3,7 +3,7 @@ use Prim.Native.Nat.{_-_, _≤_, ℕ}
 use borrow.Author.Needs.{needs}
 use lib.ListN.{getD, length}
 use mathlib.Core.List.{List}
-use mathlib.Core.Path.{_∙_, _≡_, refl, sym}
+use mathlib.Core.Path.{_∙_, _≡_, refl}
 use native.Mathlib.Omega.{arith}
 use Rattle.coalescing.specs.Steps.{Progress}
 use Rattle.contig_walk.proofs.Walking.{Walking, end-fits, next-place, refused-here, search-here, search-later, search-start, turn-ready, walking-end, walking-next, walking-start}
