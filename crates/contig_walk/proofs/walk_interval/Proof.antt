@@ -1,8 +1,7 @@
 -- By the clip, then by what is found at the interval's first position.
 use borrow.Author.Needs.{needs}
 use borrow.Author.Tests.{not-false, not-true}
-use mathlib.Core.Path.{_∙_, sym}
-use Rattle.contig_walk.proofs.Turns.{front-within, lay-ready, own-asked, own-known, owners-exact, owners-front, turn-bare, turn-clipped, turn-laid, turn-none}
+use Rattle.contig_walk.proofs.Turns.{front-within, in-input-clip, lay-ready, own-asked, own-known, owners-exact, owners-front, turn-bare, turn-clipped, turn-laid, turn-none}
 use Rattle.merged_records.specs.Found.{RecordFound}
 use Rattle.contig_walk.proofs.walk_interval.Statement.{statement}
 use Rattle.contig_walk.proofs.walk_interval.Tie as tie
@@ -11,7 +10,7 @@ passes-clip-requires : tie.Need-passes-clip-requires
 passes-clip-requires c κs = search needs
 
 returns : tie.Need-returns
-returns c = λ ready waiting d₀ bytes records h p. turn-clipped ready waiting d₀ bytes records h (sym ((c .before .passes-clip .ensures) _ (ready .clip-given)) ∙ not-true _ (c .if1 .taken)) _ _ p
+returns c = λ ready waiting d₀ bytes records h p. turn-clipped ready waiting d₀ bytes records h (in-input-clip ready (c .before .passes-clip .ensures) (not-true _ (c .if1 .taken))) _ _ p
 
 merge-reference-confidence-requires : tie.Need-merge-reference-confidence-requires
 merge-reference-confidence-requires c κs = ((c .before .before .before .before .before .before .before .before .before .before .before .before .before .before .before .before .before .before .before .pre .runs), (c .before .before .before .before .before .before .before .before .before .before .before .before .before .before .before .before .before .before .before .pre .room .for-record), (c .before .before .before .before .before .before .before .before .before .before .before .before .before .before .before .before .before .before .before .pre .ended))
@@ -80,7 +79,7 @@ lay-record-requires c κs =
     let start = c .before .before .before .before .before .before .before .before .before .before .before .before .before .before .before .before .before .before .before .before .before .before .before .before .before .before .before .before .before .before .before .before .before .before .before .before .before .before .before .before in
     let answer = c .before .before .before .before .before .before .before .before .before .before .before .before .before .before .before .before .before .before .before .before .merge-reference-confidence .ensures in
     let f = rw (c .before .before .before .before .before .before .before .before .before .before .before .before .here2 .given .1) at (answer .0 (start .pre .runs)) in
-    let inside = sym (c .before .before .before .before .before .before .before .before .before .before .before .before .before .before .before .before .before .before .before .before .before .before .before .before .before .passes-clip .ensures _ (start .pre .clip-given)) ∙ not-false _ (c .before .before .before .before .before .before .before .before .before .before .before .before .before .before .before .before .before .before .before .before .before .before .before .before .if1 .left) in
+    let inside = in-input-clip (start .pre) (c .before .before .before .before .before .before .before .before .before .before .before .before .before .before .before .before .before .before .before .before .before .before .before .before .before .passes-clip .ensures) (not-false _ (c .before .before .before .before .before .before .before .before .before .before .before .before .before .before .before .before .before .before .before .before .before .before .before .before .if1 .left)) in
     lay-ready (start .pre) inside _ _ _ _ _ _ f _ (c .before .before .before .before .part .ensures) _
     (own-known (start .pre) _ _ _ _ _ _ f _ (answer .1 .0 (start .pre .runs)) (answer .1 .1 (start .pre .runs)) (c .before .before .before .before .before .before .before .own-sites .ensures))
 
@@ -95,7 +94,7 @@ same-length-3 c = c .before .before .before .before .before .before .before .bef
 
 returns-2 : tie.Need-returns-2
 unfolding RecordFound
-returns-2 c = λ ready waiting d₀ bytes records h p. turn-bare ready waiting d₀ bytes records h (sym ((c .before .before .before .before .before .before .before .before .before .before .before .before .before .passes-clip .ensures) _ (ready .clip-given)) ∙ not-false _ (c .before .before .before .before .before .before .before .before .before .before .before .before .if1 .left)) (rw (c .enum-told .given .1) at ((c .before .before .before .before .before .before .before .before .merge-reference-confidence .ensures .0) (ready .runs))) _ _ p
+returns-2 c = λ ready waiting d₀ bytes records h p. turn-bare ready waiting d₀ bytes records h (in-input-clip ready (c .before .before .before .before .before .before .before .before .before .before .before .before .before .passes-clip .ensures) (not-false _ (c .before .before .before .before .before .before .before .before .before .before .before .before .if1 .left))) (rw (c .enum-told .given .1) at ((c .before .before .before .before .before .before .before .before .merge-reference-confidence .ensures .0) (ready .runs))) _ _ p
 
 same-length-4 : tie.Need-same-length-4
 same-length-4 c = c .before .before .before .before .before .before .before .before .before .merge-reference-confidence .kept .1 .1 .1 .1 .1 .1 .1 .1 .1 .1 .0
@@ -109,13 +108,13 @@ same-length-6 c = c .before .before .before .before .before .before .before .bef
 returns-3 : tie.Need-returns-3
 unfolding RecordFound
 returns-3 c = λ ready waiting d₀ bytes records h p. let f = rw (c .before .here .given .1) at ((c .before .before .before .before .before .before .before .before .before .merge-reference-confidence .ensures .0) (ready .runs)) in
-    turn-none ready waiting d₀ bytes records h (sym ((c .before .before .before .before .before .before .before .before .before .before .before .before .before .before .passes-clip .ensures) _ (ready .clip-given)) ∙ not-false _ (c .before .before .before .before .before .before .before .before .before .before .before .before .before .if1 .left)) _ (f .0) (f .1) _ (p .measured .laid)
+    turn-none ready waiting d₀ bytes records h (in-input-clip ready (c .before .before .before .before .before .before .before .before .before .before .before .before .before .before .passes-clip .ensures) (not-false _ (c .before .before .before .before .before .before .before .before .before .before .before .before .before .if1 .left))) _ (f .0) (f .1) _ (p .measured .laid)
 
 same-length-7 : tie.Need-same-length-7
-same-length-7 c = c .before .before .before .before .before .before .lay-record .kept .1 .1 .1 .1 .1 .1 .1 .1 .1 .1 .1 .1 .0
+same-length-7 c = c .before .before .before .before .before .before .lay-record .kept .1 .1 .1 .1 .1 .1 .1 .1 .1 .1 .1 .0
 
 same-length-8 : tie.Need-same-length-8
-same-length-8 c = c .before .before .before .before .before .before .lay-record .kept .1 .1 .1 .1 .1 .1 .1 .1 .1 .1 .1 .1 .1 .0
+same-length-8 c = c .before .before .before .before .before .before .lay-record .kept .1 .1 .1 .1 .1 .1 .1 .1 .1 .1 .1 .1 .0
 
 same-length-9 : tie.Need-same-length-9
 same-length-9 c = c .before .before .before .before .before .before .before .before .before .before .before .before .before .before .before .before .before .before .before .before .before .before .before .before .before .before .before .merge-reference-confidence .kept .1 .1 .1 .1 .1 .1 .1 .1 .1 .1 .0
@@ -127,14 +126,14 @@ same-length-11 : tie.Need-same-length-11
 same-length-11 c = c .before .before .before .before .before .before .before .before .before .before .before .before .before .before .before .before .before .before .before .before .before .before .before .before .before .before .before .merge-reference-confidence .kept .1 .1 .1 .1 .1 .1 .1 .1 .1 .1 .1 .1 .0
 
 same-length-12 : tie.Need-same-length-12
-same-length-12 c = c .before .before .before .before .before .before .lay-record .kept .1 .1 .1 .1 .1 .1 .1 .1 .1 .1 .1 .1 .1 .1 .0
+same-length-12 c = c .before .before .before .before .before .before .lay-record .kept .1 .1 .1 .1 .1 .1 .1 .1 .1 .1 .1 .1 .1 .0
 
 returns-4 : tie.Need-returns-4
 unfolding RecordFound
 returns-4 c = λ ready waiting d₀ bytes records h p.
     let answer = c .before .before .before .before .before .before .before .before .before .before .before .before .before .before .before .before .before .before .before .before .before .before .before .before .before .before .before .merge-reference-confidence .ensures in
     let f = rw (c .before .before .before .before .before .before .before .before .before .before .before .before .before .before .before .before .before .before .before .here2 .given .1) at (answer .0 (ready .runs)) in
-    let inside = sym (c .before .before .before .before .before .before .before .before .before .before .before .before .before .before .before .before .before .before .before .before .before .before .before .before .before .before .before .before .before .before .before .before .passes-clip .ensures _ (ready .clip-given)) ∙ not-false _ (c .before .before .before .before .before .before .before .before .before .before .before .before .before .before .before .before .before .before .before .before .before .before .before .before .before .before .before .before .before .before .before .if1 .left) in
+    let inside = in-input-clip ready (c .before .before .before .before .before .before .before .before .before .before .before .before .before .before .before .before .before .before .before .before .before .before .before .before .before .before .before .before .before .before .before .before .passes-clip .ensures) (not-false _ (c .before .before .before .before .before .before .before .before .before .before .before .before .before .before .before .before .before .before .before .before .before .before .before .before .before .before .before .before .before .before .before .if1 .left)) in
     let own = own-known ready _ _ _ _ _ _ f _ (answer .1 .0 (ready .runs)) (answer .1 .1 (ready .runs)) (c .before .before .before .before .before .before .before .before .before .before .before .before .before .before .own-sites .ensures) in
     turn-laid ready waiting d₀ bytes records h inside _ _ _ _ _ _ f _ (c .before .before .before .before .before .before .before .before .before .before .before .part .ensures) _ own _ _ _
     (c .before .before .before .before .before .before .lay-record .ensures (lay-ready ready inside _ _ _ _ _ _ f _ (c .before .before .before .before .before .before .before .before .before .before .before .part .ensures) _ own) waiting d₀ bytes records h p)

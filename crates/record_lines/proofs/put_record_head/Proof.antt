@@ -21,7 +21,7 @@ slice-aggregate-put-line c = search needs
 
 put-line-requires : tie.Need-put-line-requires
 put-line-requires c κs = let args = (c .before .before .before .before .before .before .before .before .args) in
-    omega (arith, (c .before .before .before .before .before .before .before .before .pre .fits), head-length (args .contig .now) (args .first .0) (args .last .0) (args .reference .now) (args .alts .now))
+    omega (arith, (c .before .before .before .before .before .before .before .before .pre .fits), head-length (args .contig .now) (args .loc .start .0) (args .loc .end .0) (args .reference .now) (args .alts .now))
 
 slice-aggregate-put-number-line : tie.Need-slice-aggregate-put-number-line
 slice-aggregate-put-number-line c = search needs
@@ -32,7 +32,7 @@ put-number-line-requires c κs = let args = (c .before .before .before .before .
       arith,
       (c .before .before .before .before .before .before .before .before .before .before .before .before .before .pre .fits),
       (c .before .before .before .before .put-line .ensures .next),
-      head-length (args .contig .now) (args .first .0) (args .last .0) (args .reference .now) (args .alts .now),
+      head-length (args .contig .now) (args .loc .start .0) (args .loc .end .0) (args .reference .now) (args .alts .now),
     ))
 
 slice-aggregate-put-optional-number-line : tie.Need-slice-aggregate-put-optional-number-line
@@ -46,7 +46,7 @@ put-optional-number-line-requires c κs = let args = (c .before .before .before 
       (c .before .before .before .before .before .before .before .before .before .before .before .before .before .before .before .before .before .before .pre .fits),
       (c .before .before .before .before .before .before .before .before .before .put-line .ensures .next),
       pos .next,
-      head-length (args .contig .now) (args .first .0) (args .last .0) (args .reference .now) (args .alts .now),
+      head-length (args .contig .now) (args .loc .start .0) (args .loc .end .0) (args .reference .now) (args .alts .now),
     ))
 
 slice-aggregate-put-line-2 : tie.Need-slice-aggregate-put-line-2
@@ -62,7 +62,7 @@ put-line-requires-2 c κs = let args = (c .before .before .before .before .befor
       (c .before .before .before .before .before .before .before .before .before .before .before .before .before .before .put-line .ensures .next),
       pos .next,
       end .next,
-      head-length (args .contig .now) (args .first .0) (args .last .0) (args .reference .now) (args .alts .now),
+      head-length (args .contig .now) (args .loc .start .0) (args .loc .end .0) (args .reference .now) (args .alts .now),
     )
 
 slice-aggregate-put-line-3 : tie.Need-slice-aggregate-put-line-3
@@ -79,7 +79,7 @@ put-line-requires-3 c κs = let args = (c .before .before .before .before .befor
       pos .next,
       end .next,
       (c .before .before .before .before .put-line2 .ensures .next),
-      head-length (args .contig .now) (args .first .0) (args .last .0) (args .reference .now) (args .alts .now),
+      head-length (args .contig .now) (args .loc .start .0) (args .loc .end .0) (args .reference .now) (args .alts .now),
     )
 
 same-length : tie.Need-same-length
@@ -89,7 +89,7 @@ returns : tie.Need-returns
 returns c = let args = (c .before .before .before .before .before .before .before .before .before .before .before .before .before .before .before .before .before .before .before .before .before .before .before .before .before .before .before .before .before .before .before .args) in
     let pos = rw (c .before .before .before .before .before .before .before .before .before .before .before .before .before .before .before .before .before .before .before .before .before .before .before .before .before .before .get .ensures) at (c .before .before .before .before .before .before .before .before .before .before .before .before .before .before .before .before .before .put-number-line .ensures) in
     let end = rw (c .before .before .before .before .before .before .before .before .before .before .before .before .before .before .before .before .before .before .before .before .before .before .before .before .before .end-from .ensures) at (c .before .before .before .before .before .before .before .before .before .before .before .before .put-optional-number-line .ensures) in
-    head-laid (args .contig .now) (args .first .0) (args .last .0) (args .reference .now) (args .alts .now)
+    head-laid (args .contig .now) (args .loc .start .0) (args .loc .end .0) (args .reference .now) (args .alts .now)
     (c .before .before .before .before .before .before .before .before .before .before .before .before .before .before .before .before .before .before .before .before .before .before .put-line .ensures) pos end (c .before .before .before .before .before .before .before .put-line2 .ensures) (c .before .before .put-line3 .ensures)
 
 pub put-record-head-spec : {M : Type 1} → statement M
