@@ -8,6 +8,7 @@ use mathlib.Core.List.{List, _++_, append-nil, flatMap}
 use mathlib.Core.Option.{Option, some}
 use mathlib.Core.Path.{_∙_, _≡_, ap, refl, sym}
 use native.Mathlib.Omega.{arith}
+use Rattle.bio_ids.specs.declared.GenomeLoc.{GenomeLoc}
 use Rattle.bio_ids.specs.declared.GenomePosition.{GenomePosition}
 use Rattle.definitions.specs.Alleles.{spelled, writtenAlleles}
 use Rattle.definitions.specs.Bytes.{joinedBy, sameBytes, text}
@@ -44,25 +45,25 @@ module _ (s rows : List ℕ) (samples : ℕ) (reference contig held : List ℕ) 
       → pendingBytes s rows reference contig held pending ≡ flatMap printedRecord (ofOption waiting)
   unfolding Holds pendingBytes ofOption flatMap
   held-printed Nothing waiting h = rw h
-  held-printed (Block first last place len) waiting (p, e, h) =
+  held-printed (Block loc place len) waiting (p, e, h) =
       rw (e, h .record-is, append-nil, h .printed)
-      (sym (block-printed contig (first .0) (last .0) (refBytes s rows reference place) (h .values)))
+      (sym (block-printed contig (loc .start .0) (loc .end .0) (refBytes s rows reference place) (h .values)))
 
 -- ---- the next block
 
-module _ (s rows : List ℕ) (samples : ℕ) (reference contig held : List ℕ) (first last : GenomePosition) (place : RefAt) (len : ℕ) (p : Record)
-    (h : HeldBlock s rows samples reference contig held (first .0) (last .0) place len p)
+module _ (s rows : List ℕ) (samples : ℕ) (reference contig held : List ℕ) (loc : GenomeLoc) (place : RefAt) (len : ℕ) (p : Record)
+    (h : HeldBlock s rows samples reference contig held (loc .start .0) (loc .end .0) place len p)
     (position last′ : ℕ) (ref : List ℕ) (vs : List SampleData) where
   coalesce-by : length ref ≡ 1 → coalesces p (blockRecord contig position last′ ref vs)
-      ≡ (eqb position (suc (last .0)) && sameBytes (refBytes s rows reference place) ref && sameEach sameSampleData (h .values) vs)
+      ≡ (eqb position (suc (loc .end .0)) && sameBytes (refBytes s rows reference place) ref && sameEach sameSampleData (h .values) vs)
   coalesce-by one =
       ap (λ (q : Record). coalesces q (blockRecord contig position last′ ref vs)) (h .record-is)
-      ∙ block-records-coalesce contig (first .0) (last .0) (refBytes s rows reference place) (h .values)
+      ∙ block-records-coalesce contig (loc .start .0) (loc .end .0) (refBytes s rows reference place) (h .values)
       contig position last′ ref vs (h .ordered) (h .one-letter) one
 
   pub held-joins : (place′ : RefAt) (fresh : List ℕ) → ref ≡ refBytes s rows reference place′ → length ref ≡ 1 → Every (Derived 2) vs
       → flatMap printedSampleData vs ≡ fresh
-      → joinsPending s rows reference held (Block first last place len) position place′ fresh
+      → joinsPending s rows reference held (Block loc place len) position place′ fresh
       ≡ coalesces p (blockRecord contig position last′ ref vs)
   unfolding joinsPending
   held-joins place′ fresh e one derived printed =
@@ -70,15 +71,15 @@ module _ (s rows : List ℕ) (samples : ℕ) (reference contig held : List ℕ) 
       (sym (coalesce-by one))
 
   pub held-joined : length ref ≡ 1 → position ≤ last′ → last′ ≤ maxNumber → coalesces p (blockRecord contig position last′ ref vs) ≡ true
-      → HeldBlock s rows samples reference contig held (first .0) last′ place len (coalesced p (blockRecord contig position last′ ref vs))
+      → HeldBlock s rows samples reference contig held (loc .start .0) last′ place len (coalesced p (blockRecord contig position last′ ref vs))
   held-joined one ordered in-range joins =
-      let touches : position ≡ suc (last .0) =
+      let touches : position ≡ suc (loc .end .0) =
       eqb-true _ _ (both-of _ _ (both-of _ _ (sym (coalesce-by one) ∙ joins) .0) .0) in
       record {
         values = h .values;
         record-is =
             ap (λ (q : Record). coalesced q (blockRecord contig position last′ ref vs)) (h .record-is)
-            ∙ block-records-coalesced contig (first .0) (last .0) (refBytes s rows reference place) (h .values)
+            ∙ block-records-coalesced contig (loc .start .0) (loc .end .0) (refBytes s rows reference place) (h .values)
             contig position last′ ref vs (omega (arith, h .ordered)) ordered;
         derived = h .derived;
         all-samples = h .all-samples;
@@ -88,15 +89,15 @@ module _ (s rows : List ℕ) (samples : ℕ) (reference contig held : List ℕ) 
         in-range = in-range;
       }
 
-pub holds-joined : (s rows : List ℕ) (samples : ℕ) (reference contig held : List ℕ) (first last : GenomePosition) (place : RefAt) (len : ℕ) (p : Record)
-    → HeldBlock s rows samples reference contig held (first .0) (last .0) place len p
+pub holds-joined : (s rows : List ℕ) (samples : ℕ) (reference contig held : List ℕ) (loc : GenomeLoc) (place : RefAt) (len : ℕ) (p : Record)
+    → HeldBlock s rows samples reference contig held (loc .start .0) (loc .end .0) place len p
     → (position : ℕ) (last′ : GenomePosition) (ref : List ℕ) (vs : List SampleData) → length ref ≡ 1 → position ≤ last′ .0 → last′ .0 ≤ maxNumber
     → coalesces p (blockRecord contig position (last′ .0) ref vs) ≡ true
-    → Holds s rows samples reference contig held (joinedTo (Block first last place len) last′)
+    → Holds s rows samples reference contig held (joinedTo (Block loc place len) last′)
     (some (coalesced p (blockRecord contig position (last′ .0) ref vs)))
 unfolding Holds joinedTo
-holds-joined s rows samples reference contig held first last place len p h position last′ ref vs one ordered in-range joins =
-    (_, refl, held-joined s rows samples reference contig held first last place len p h position (last′ .0) ref vs one ordered in-range joins)
+holds-joined s rows samples reference contig held loc place len p h position last′ ref vs one ordered in-range joins =
+    (_, refl, held-joined s rows samples reference contig held loc place len p h position (last′ .0) ref vs one ordered in-range joins)
 
 -- ---- its length
 
@@ -108,11 +109,11 @@ end-few first last h = go (ltb first last)
     go true = decimal-few last h
     go false = omega arith
 
-pub held-short : (s rows : List ℕ) (samples : ℕ) (reference contig held : List ℕ) (first last : GenomePosition) (place : RefAt) (len : ℕ) (p : Record)
-    → HeldBlock s rows samples reference contig held (first .0) (last .0) place len p → samples ≤ 64 → length contig ≤ 32
-    → length (pendingBytes s rows reference contig held (Block first last place len)) ≤ 16384
+pub held-short : (s rows : List ℕ) (samples : ℕ) (reference contig held : List ℕ) (loc : GenomeLoc) (place : RefAt) (len : ℕ) (p : Record)
+    → HeldBlock s rows samples reference contig held (loc .start .0) (loc .end .0) place len p → samples ≤ 64 → length contig ≤ 32
+    → length (pendingBytes s rows reference contig held (Block loc place len)) ≤ 16384
 unfolding pendingBytes text
-held-short s rows samples reference contig held first last place len p h few short =
+held-short s rows samples reference contig held loc place len p h few short =
     let lines : length (flatMap printedSampleData (h .values)) ≤ 128 * length (h .values) =
     all-block-data-few (every-map (λ v d. d .sound) (h .derived)) in
     rw (h .printed)
@@ -124,8 +125,8 @@ held-short s rows samples reference contig held first last place len p h few sho
       h .one-letter,
       h .ordered,
       h .in-range,
-      decimal-few (first .0) (omega (arith, h .ordered, h .in-range)),
-      end-few (first .0) (last .0) (h .in-range),
+      decimal-few (loc .start .0) (omega (arith, h .ordered, h .in-range)),
+      end-few (loc .start .0) (loc .end .0) (h .in-range),
     )))
 
 -- so that it can be laid, at offsets up to 2^63
@@ -134,10 +135,10 @@ pub holds-fits : (s rows : List ℕ) (samples : ℕ) (reference contig held : Li
     → PendingFits s rows reference contig held pending at
 unfolding Holds PendingFits
 holds-fits s rows samples reference contig held Nothing waiting at h few short room = tt
-holds-fits s rows samples reference contig held (Block first last place len) waiting at (p, e, h) few short room = (
+holds-fits s rows samples reference contig held (Block loc place len) waiting at (p, e, h) few short room = (
   h .ordered,
   record {
     in-range = h .in-range;
-    fits = omega (arith, held-short s rows samples reference contig held first last place len p h few short);
+    fits = omega (arith, held-short s rows samples reference contig held loc place len p h few short);
   },
 )

@@ -3,7 +3,7 @@ use Prim.Native.Nat.{_+_, _<_, _^_, ℕ}
 use lib.ListN.{length, take}
 use mathlib.Core.List.{List, [], _∷_}
 use native.Mathlib.Omega.{arith}
-use Rattle.bio_ids.specs.declared.GenomePosition.{GenomePosition}
+use Rattle.bio_ids.specs.declared.GenomeLoc.{GenomeLoc}
 use Rattle.definitions.specs.Bytes.{text}
 use Rattle.kv_write.proofs.Laying.{fits-first, fits-rest, laid-append}
 use Rattle.kv_write.specs.Laid.{Laid}
@@ -21,23 +21,23 @@ nonRefBytes = 60 ∷ 78 ∷ 79 ∷ 78 ∷ 95 ∷ 82 ∷ 69 ∷ 70 ∷ 62 ∷ []
 
 -- ---- a block that is held back
 
-module _ (s rows reference contig held : List ℕ) (first last : GenomePosition) (place : RefAt) (len at : ℕ)
-    (h : PendingFits s rows reference contig held (Block first last place len) at) where
-  pub block-head-fits : HeadFits contig (first .0) (last .0) (refBytes s rows reference place) nonRefBytes at
+module _ (s rows reference contig held : List ℕ) (loc : GenomeLoc) (place : RefAt) (len at : ℕ)
+    (h : PendingFits s rows reference contig held (Block loc place len) at) where
+  pub block-head-fits : HeadFits contig (loc .start .0) (loc .end .0) (refBytes s rows reference place) nonRefBytes at
   unfolding PendingFits pendingBytes text
   block-head-fits = record {
     pos = omega (arith, h .0, h .1 .in-range);
     end = h .1 .in-range;
-    fits = fits-first at (headOf contig (first .0) (last .0) (refBytes s rows reference place) nonRefBytes) (take len held) (h .1 .fits);
+    fits = fits-first at (headOf contig (loc .start .0) (loc .end .0) (refBytes s rows reference place) nonRefBytes) (take len held) (h .1 .fits);
   }
 
-  module _ {d d′ : List ℕ} {at′ : ℕ} (l : Laid d at (headOf contig (first .0) (last .0) (refBytes s rows reference place) nonRefBytes) d′ at′) where
+  module _ {d d′ : List ℕ} {at′ : ℕ} (l : Laid d at (headOf contig (loc .start .0) (loc .end .0) (refBytes s rows reference place) nonRefBytes) d′ at′) where
     pub block-lines-fit : at′ + length (take len held) < 2 ^ 64
     unfolding PendingFits pendingBytes text
     block-lines-fit = fits-rest (take len held) l (h .1 .fits)
 
     pub block-laid : {d″ : List ℕ} {at″ : ℕ} → Laid d′ at′ (take len held) d″ at″
-        → Laid d at (pendingBytes s rows reference contig held (Block first last place len)) d″ at″
+        → Laid d at (pendingBytes s rows reference contig held (Block loc place len)) d″ at″
     unfolding pendingBytes text
     block-laid m = laid-append l m
 

@@ -8,7 +8,7 @@ use mathlib.Core.Option.{Option, none, some}
 use mathlib.Core.Path.{_∙_, _≡_, ap, refl, sym}
 use native.Mathlib.Nat.{add-zero, zero-add}
 use native.Mathlib.Omega.{arith}
-use Rattle.bio_ids.specs.declared.GenomePosition.{GenomePosition}
+use Rattle.bio_ids.specs.declared.GenomeLoc.{GenomeLoc}
 use Rattle.definitions.specs.Checked.{Checked, accepted}
 use Rattle.definitions.specs.Printed.{printedRecord, printedSampleData}
 use Rattle.definitions.specs.Records.{Record, coalesced, coalesces}
@@ -48,7 +48,7 @@ module _ (s rows : List ℕ) (samples : ℕ) (reference contig held : List ℕ) 
       → Counted records count → Counted (records + length (ofOption waiting)) (pendingCount pending count)
   unfolding Holds ofOption pendingCount
   count-laid Nothing waiting h c = rw (h, add-zero records) c
-  count-laid (Block first last place len) waiting (p, e, b) c = rw e (counted-more c)
+  count-laid (Block loc place len) waiting (p, e, b) c = rw e (counted-more c)
 
   pub laid-pending : (pending : Pending) (waiting : Option Record) → Holds s rows samples reference contig held pending waiting
       → {out out′ : List ℕ} {at count r : ℕ} → Progress d₀ bytes records out at count
@@ -61,30 +61,30 @@ module _ (s rows : List ℕ) (samples : ℕ) (reference contig held : List ℕ) 
 
   -- ---- a block
 
-  module _ (first last : GenomePosition) (place : RefAt) (fresh : List ℕ) (new : Record)
-      (b : HeldBlock s rows samples reference contig fresh (first .0) (last .0) place (length fresh) new) where
+  module _ (loc : GenomeLoc) (place : RefAt) (fresh : List ℕ) (new : Record)
+      (b : HeldBlock s rows samples reference contig fresh (loc .start .0) (loc .end .0) place (length fresh) new) where
     lines : flatMap printedSampleData (b .values) ≡ fresh
     lines = sym (b .printed) ∙ take-length fresh
 
-    same-joins : (f l : GenomePosition) (own : RefAt) (len : ℕ) (p : Record) → HeldBlock s rows samples reference contig held (f .0) (l .0) own len p
-        → joinsPending s rows reference held (Block f l own len) (first .0) place fresh ≡ coalesces p new
-    same-joins f l own len p h =
-        held-joins s rows samples reference contig held f l own len p h (first .0) (last .0) (refBytes s rows reference place) (b .values) place fresh
+    same-joins : (l : GenomeLoc) (own : RefAt) (len : ℕ) (p : Record) → HeldBlock s rows samples reference contig held (l .start .0) (l .end .0) own len p
+        → joinsPending s rows reference held (Block l own len) (loc .start .0) place fresh ≡ coalesces p new
+    same-joins l own len p h =
+        held-joins s rows samples reference contig held l own len p h (loc .start .0) (loc .end .0) (refBytes s rows reference place) (b .values) place fresh
         refl (b .one-letter) (b .derived) lines
         ∙ ap (coalesces p) (sym (b .record-is))
 
     pub step-joined : (pending : Pending) (waiting : Option Record) → Holds s rows samples reference contig held pending waiting
-        → joinsPending s rows reference held pending (first .0) place fresh ≡ true
+        → joinsPending s rows reference held pending (loc .start .0) place fresh ≡ true
         → (out : List ℕ) (at count : ℕ) → Progress d₀ bytes records out at count
-        → StepTo s rows samples reference contig held out waiting new d₀ bytes records (record { pending = joinedTo pending last; at = at; count = count })
+        → StepTo s rows samples reference contig held out waiting new d₀ bytes records (record { pending = joinedTo pending (loc .end); at = at; count = count })
     unfolding Holds joinsPending flatMap
     step-joined Nothing waiting h j out at count p = clash j refl
-    step-joined (Block f l own len) waiting (q, e, h) j out at count p =
-        let c : coalesces q new ≡ true = sym (same-joins f l own len q h) ∙ j in
+    step-joined (Block l own len) waiting (q, e, h) j out at count p =
+        let c : coalesces q new ≡ true = sym (same-joins l own len q h) ∙ j in
         record {
           laid = [];
           waits = some (coalesced q new);
-          holds = rw (b .record-is) (holds-joined s rows samples reference contig held f l own len q h (first .0) last (refBytes s rows reference place) (b .values)
+          holds = rw (b .record-is) (holds-joined s rows samples reference contig held l own len q h (loc .start .0) (loc .end) (refBytes s rows reference place) (b .values)
               (b .one-letter) (b .ordered) (b .in-range) (rw (← b .record-is) c));
           progress = rw (append-nil bytes, add-zero records) p;
           turned = λ done m later k. rw (e, append-nil done) (turn-joined done m later q k c);
@@ -92,7 +92,7 @@ module _ (s rows : List ℕ) (samples : ℕ) (reference contig held : List ℕ) 
 
     -- the new block is held back
     held-new : (after : List ℕ) (len : ℕ) → length fresh ≤ length held → Laid held 0 fresh after len
-        → HeldBlock s rows samples reference contig after (first .0) (last .0) place len new
+        → HeldBlock s rows samples reference contig after (loc .start .0) (loc .end .0) place len new
     held-new after len room l =
         let same : len ≡ length fresh = l .next ∙ zero-add (length fresh) in
         record {
@@ -108,21 +108,21 @@ module _ (s rows : List ℕ) (samples : ℕ) (reference contig held : List ℕ) 
         }
 
     apart-turned : (pending : Pending) (waiting : Option Record) → Holds s rows samples reference contig held pending waiting
-        → joinsPending s rows reference held pending (first .0) place fresh ≡ false
+        → joinsPending s rows reference held pending (loc .start .0) place fresh ≡ false
         → (done : List Record) (m : Checked Record) (c : Checked (List Record)) → m ≡ accepted new
         → finish done waiting (andLater m c) ≡ finish (done ++ ofOption waiting) (some new) c
     unfolding Holds ofOption
     apart-turned Nothing waiting h j done m c k = rw (h, append-nil done) (turn-held done m c k)
-    apart-turned (Block f l own len) waiting (q, e, h) j done m c k =
-        rw e (turn-apart done m c q k (sym (same-joins f l own len q h) ∙ j))
+    apart-turned (Block l own len) waiting (q, e, h) j done m c k =
+        rw e (turn-apart done m c q k (sym (same-joins l own len q h) ∙ j))
 
     pub step-apart : (pending : Pending) (waiting : Option Record) → Holds s rows samples reference contig held pending waiting
-        → joinsPending s rows reference held pending (first .0) place fresh ≡ false
+        → joinsPending s rows reference held pending (loc .start .0) place fresh ≡ false
         → (after : List ℕ) (len : ℕ) → length fresh ≤ length held → Laid held 0 fresh after len
         → (out out′ : List ℕ) (at count r : ℕ) → Progress d₀ bytes records out at count
         → Laid out at (pendingBytes s rows reference contig held pending) out′ r
         → StepTo s rows samples reference contig after out′ waiting new d₀ bytes records
-        (record { pending = Block first last place len; at = min limit r; count = pendingCount pending count })
+        (record { pending = Block loc place len; at = min limit r; count = pendingCount pending count })
     unfolding Holds
     step-apart pending waiting h j after len room l out out′ at count r p laid = record {
       laid = ofOption waiting;
@@ -141,7 +141,7 @@ module _ (s rows : List ℕ) (samples : ℕ) (reference contig held : List ℕ) 
         → finish done waiting (andLater m c) ≡ finish (done ++ (ofOption waiting ++ (new ∷ []))) none c
     unfolding Holds ofOption
     done-turned Nothing waiting h done m c k = rw h (turn-done done m c k (o .not-block))
-    done-turned (Block f l own len) waiting (q, e, h) done m c k = rw e (turn-both-done done m c q k (o .not-block))
+    done-turned (Block l own len) waiting (q, e, h) done m c k = rw e (turn-both-done done m c q k (o .not-block))
 
     pub step-other : (pending : Pending) (waiting : Option Record) → Holds s rows samples reference contig held pending waiting
         → (out middle out′ : List ℕ) (at count r end : ℕ) → Progress d₀ bytes records out at count

@@ -25,8 +25,8 @@ use Rattle.coalescing.specs.declared.Pending.the-variants.{Block, Nothin
 -- its lines: the samples' data stand in a buffer
 unfoldable pub pendingBytes : List ℕ → List ℕ → List ℕ → List ℕ → List ℕ → Pending → List ℕ
 pendingBytes s rows reference contig held Nothing = []
-pendingBytes s rows reference contig held (Block first last place len) =
-    headOf contig (first .0) (last .0) (refBytes s rows reference place) (text "<NON_REF>") ++ take len held
+pendingBytes s rows reference contig held (Block loc place len) =
+    headOf contig (loc .start .0) (loc .end .0) (refBytes s rows reference place) (text "<NON_REF>") ++ take len held
 
 -- what laying it asks: positions as a file has them, and the offset behind its lines fits a usize
 pub record BlockFits (s rows reference contig held : List ℕ) (pending : Pending) (last : ℕ) (at : ℕ) : Type 0 where
@@ -35,14 +35,14 @@ pub record BlockFits (s rows reference contig held : List ℕ) (pending : Pendin
 
 unfoldable pub PendingFits : List ℕ → List ℕ → List ℕ → List ℕ → List ℕ → Pending → ℕ → Type 0
 PendingFits s rows reference contig held Nothing at = Unit {0}
-PendingFits s rows reference contig held (Block first last place len) at =
-    (first .0 ≤ last .0) × BlockFits s rows reference contig held (Block first last place len) (last .0) at
+PendingFits s rows reference contig held (Block loc place len) at =
+    (loc .start .0 ≤ loc .end .0) × BlockFits s rows reference contig held (Block loc place len) (loc .end .0) at
 
 -- a block at a position joins it: it touches, and REF and all samples' data agree, which is told by the bytes
 unfoldable pub joinsPending : List ℕ → List ℕ → List ℕ → List ℕ → Pending → ℕ → RefAt → List ℕ → Bool
 joinsPending s rows reference held Nothing position place fresh = false
-joinsPending s rows reference held (Block first last own len) position place fresh =
-    eqb position (suc (last .0))
+joinsPending s rows reference held (Block loc own len) position place fresh =
+    eqb position (suc (loc .end .0))
     && sameBytes (refBytes s rows reference own) (refBytes s rows reference place)
     && sameBytes (take len held) fresh
 
@@ -53,13 +53,13 @@ heldAfter s rows reference held pending position place fresh =
 
 -- it with another last position
 unfoldable pub joinedTo : Pending → GenomePosition → Pending
-joinedTo Nothing last = Nothing
-joinedTo (Block first own place len) last = Block first last place len
+joinedTo Nothing end = Nothing
+joinedTo (Block loc place len) end = Block (record { start = loc .start; end = end }) place len
 
 -- how many records there are with it, held at the greatest u32
 unfoldable pub pendingCount : Pending → ℕ → ℕ
 pendingCount Nothing count = count
-pendingCount (Block first last place len) count = min 4294967295 (count + 1)
+pendingCount (Block loc place len) count = min 4294967295 (count + 1)
 
 -- the record that is held back
 pub record HeldBlock (s rows : List ℕ) (samples : ℕ) (reference contig held : List ℕ) (first last : ℕ) (place : RefAt) (len : ℕ) (p : Record) : Type 0 where
@@ -79,5 +79,5 @@ ofOption (some p) = p ∷ []
 
 unfoldable pub Holds : List ℕ → List ℕ → ℕ → List ℕ → List ℕ → List ℕ → Pending → Option Record → Type 0
 Holds s rows samples reference contig held Nothing waiting = waiting ≡ none
-Holds s rows samples reference contig held (Block first last place len) waiting =
-    (p : Record) × (waiting ≡ some p) × HeldBlock s rows samples reference contig held (first .0) (last .0) place len p
+Holds s rows samples reference contig held (Block loc place len) waiting =
+    (p : Record) × (waiting ≡ some p) × HeldBlock s rows samples reference contig held (loc .start .0) (loc .end .0) place len p

@@ -13,13 +13,14 @@ ghost use Rattle.record_lines.specs.Head.{headOf};
 ghost use Rattle.record_lines.specs.Samples.{printedSamples};
 ghost use Rattle.coalescing.specs.Held.{HeldBlock, Holds, PendingFits, heldAfter, joinedTo, joinsPending, pendingBytes, pendingCount};
 ghost use Rattle.coalescing.specs.Steps.{BlockReady, OtherRecord, Progress, RecordFits, StepTo};
+use bio_ids::GenomeLoc;
 use bio_ids::GenomePosition;
 use merged_ref::RefAt;
 
 // A block record that is held back: its first and last position, REF, and how long its samples' lines are, which stand in a buffer.
 pub enum Pending {
     Nothing,
-    Block(GenomePosition, GenomePosition, RefAt, usize),
+    Block(GenomeLoc, RefAt, usize),
 }
 
 // Lays the lines of the record that is held back, if there is one.
@@ -40,17 +41,9 @@ pub fn put_pending<'a>(
 {
     match pending {
         Pending::Nothing => at,
-        Pending::Block(first, last, place, len) => {
+        Pending::Block(loc, place, len) => {
             let allele = merged_ref::ref_bytes(s, rows, reference, place);
-            let next = record_lines::put_record_head(
-                out,
-                at,
-                contig,
-                first,
-                last,
-                allele,
-                b"<NON_REF>",
-            );
+            let next = record_lines::put_record_head(out, at, contig, loc, allele, b"<NON_REF>");
             let lines = tables::part(held, 0, len);
             kv_write::put_bytes(out, next, lines)
         }
@@ -78,14 +71,14 @@ fn joins<'a>(
 ) -> bool
     ensures { λ r. ⌜ r ≡ joinsPending (now (s .entry)) (now (rows .entry)) (now (reference .entry)) (now (held .entry)) pending (position .0) place (now (fresh .entry)) ⌝ }
 {
-    let Pending::Block(_, last, own, len) = pending else {
+    let Pending::Block(loc, own, len) = pending else {
         return false;
     };
     let first = position.get();
     if first == 0 {
         return false;
     }
-    if first - 1 != last.get() {
+    if first - 1 != loc.end.get() {
         return false;
     }
     let one = merged_ref::ref_bytes(s, rows, reference, own);
@@ -97,12 +90,15 @@ fn joins<'a>(
 }
 
 // The record that is held back with another last position: that of a block that joins it.
-fn set_end(pending: Pending, last: GenomePosition) -> Pending
-    ensures { λ r. ⌜ r ≡ joinedTo pending last ⌝ }
+fn set_end(pending: Pending, end: GenomePosition) -> Pending
+    ensures { λ r. ⌜ r ≡ joinedTo pending end ⌝ }
 {
     match pending {
         Pending::Nothing => Pending::Nothing,
-        Pending::Block(first, _, place, len) => Pending::Block(first, last, place, len),
+        Pending::Block(loc, place, len) => {
+            let start = loc.start;
+            Pending::Block(GenomeLoc { start, end }, place, len)
+        }
     }
 }
 
@@ -110,7 +106,7 @@ fn set_end(pending: Pending, last: GenomePosition) -> Pending
 pub fn count_pending(count: usize, pending: Pending) -> usize
     ensures { λ r. ⌜ r ≡ pendingCount pending count ⌝ }
 {
-    let Pending::Block(_, _, _, _) = pending else {
+    let Pending::Block(_, _, _) = pending else {
         return count;
     };
     list_header::count_more(count)
@@ -138,7 +134,8 @@ fn merge_result_to_record<'a>(
         (now (out .exit)) r ⌝ }
 {
     let allele = merged_ref::ref_bytes(s, rows, reference, place);
-    let next = record_lines::put_record_head(out, at, contig, position, position, allele, alts);
+    let loc = GenomeLoc::new(position, position);
+    let next = record_lines::put_record_head(out, at, contig, loc, allele, alts);
     record_lines::merge_genotypes(s, rows, samples, own, position, allele, alts, out, next)
 }
 
@@ -156,8 +153,7 @@ pub fn coalesce_homref_blocks<'a>(
     rows: &[usize],
     reference: &'a [u8],
     contig: &[u8],
-    first: GenomePosition,
-    last: GenomePosition,
+    loc: GenomeLoc,
     place: RefAt,
     fresh: &[u8],
     pending: Pending,
@@ -169,14 +165,14 @@ pub fn coalesce_homref_blocks<'a>(
     requires { ⌜ BlockReady (now s) (now rows) (now reference) (now contig) (now held) (now fresh) pending at ⌝ }
     ensures step { λ r. ⌜ ((samples : ℕ) (waiting : Option Record) (new : Record) (d₀ bytes : List ℕ) (records : ℕ)
         → Holds (now (s .entry)) (now (rows .entry)) samples (now (reference .entry)) (now (contig .entry)) (now (held .entry)) pending waiting
-        → HeldBlock (now (s .entry)) (now (rows .entry)) samples (now (reference .entry)) (now (contig .entry)) (now (fresh .entry)) (first .0) (last .0) place (length (now (fresh .entry))) new
+        → HeldBlock (now (s .entry)) (now (rows .entry)) samples (now (reference .entry)) (now (contig .entry)) (now (fresh .entry)) (loc .start .0) (loc .end .0) place (length (now (fresh .entry))) new
         → Progress d₀ bytes records (now (out .entry)) at count
         → StepTo (now (s .entry)) (now (rows .entry)) samples (now (reference .entry)) (now (contig .entry)) (now (held .exit)) (now (out .exit)) waiting new d₀ bytes records r) ⌝ }
-    ensures lines { λ _. ⌜ now (held .exit) ≡ heldAfter (now (s .entry)) (now (rows .entry)) (now (reference .entry)) (now (held .entry)) pending (first .0) place (now (fresh .entry)) ⌝ }
+    ensures lines { λ _. ⌜ now (held .exit) ≡ heldAfter (now (s .entry)) (now (rows .entry)) (now (reference .entry)) (now (held .entry)) pending (loc .start .0) place (now (fresh .entry)) ⌝ }
 {
-    if joins(s, rows, reference, held, pending, first, place, fresh) {
+    if joins(s, rows, reference, held, pending, loc.start, place, fresh) {
         return Stepped {
-            pending: set_end(pending, last),
+            pending: set_end(pending, loc.end),
             at,
             count,
         };
@@ -184,7 +180,7 @@ pub fn coalesce_homref_blocks<'a>(
     let next = put_pending(s, rows, reference, contig, held, pending, out, at);
     let len = kv_write::put_bytes(held, 0, fresh);
     Stepped {
-        pending: Pending::Block(first, last, place, len),
+        pending: Pending::Block(loc, place, len),
         at: list_header::cap(next),
         count: count_pending(count, pending),
     }

@@ -14,11 +14,14 @@ use Rattle.coalescing.specs.Steps.{Progress, StepTo}
 use Rattle.coalescing.specs.declared.Pending.{Pending}
 use Rattle.coalescing.specs.declared.Stepped.{Stepped}
 use Rattle.definitions.specs.Checked.{Checked, refused}
-use Rattle.definitions.specs.CombinedList.{intervalRecord}
+use Rattle.definitions.specs.CombinedList.{Input, intervalRecord}
 use Rattle.definitions.specs.CoveringSites.{coveringSites}
 use Rattle.definitions.specs.Intervals.{inClip}
+use Rattle.definitions.specs.Lists.{onlyIf}
 use Rattle.definitions.specs.Records.{Record}
 use Rattle.found_sites.specs.Own.{foundList, ownRows}
+use Rattle.intervals.proofs.InClip.{all-clip-spans}
+use Rattle.intervals.specs.InClip.{clipSpans}
 use Rattle.kv_text.specs.Fields.{between}
 use Rattle.merged_records.proofs.Records.{owners-beside, record-is}
 use Rattle.merged_records.specs.Found.{RecordTo, covering}
@@ -29,6 +32,7 @@ use Rattle.record_laws.proofs.Walking.{withInterval}
 use Rattle.record_laws.specs.Pending.{andLater}
 use Rattle.tables.specs.Tables.{column, siteAt}
 use Rattle.contig_walk.specs.Laying.{LayReady, TurnReady, Turns, laidRecord, ownOf}
+use Rattle.contig_walk.specs.Walk.{ClipGiven}
 use Rattle.contig_walk.specs.declared.Turned.the-variants as turned
 
 -- as many as were found are there
@@ -39,11 +43,26 @@ front-within {n} l e = omega (arith, length-take n l)
 text-front : (t alts : List ℕ) (len : ℕ) → t ≡ between alts 0 len → t ≡ take len alts
 text-front t alts len e = e ∙ rw (sub-zero len)
 
+-- ---- the clip
+
+-- the spans that the clip's text and rows give are the input's clip
+clip-spans : (clipped : Bool) {clip rows : List ℕ} {x : Input} → ClipGiven clipped clip rows x → onlyIf clipped (clipSpans clip rows) ≡ x .clip
+unfolding onlyIf
+clip-spans true given = rw (all-clip-spans _ _ (given .spans-indexed refl) (given .spans-from refl)) (sym (given .clip-is))
+clip-spans false given = sym (given .clip-is)
+
+-- ---- a turn
+
 module _ {s rows : List ℕ} {samples : ℕ} {clipped : Bool} {clip : List ℕ} {referenced : Bool} {reference contig chosen from bounds : List ℕ}
     {first last : ℕ} {pending : Pending} {held fresh found₀ owners₀ alts₀ : List ℕ} {at : ℕ}
     (ready : TurnReady s rows samples clipped clip referenced reference contig chosen from bounds first last pending held fresh found₀ owners₀ alts₀ at) where
   abbrev on : OnContig s rows samples referenced reference contig
   on = ready .runs .on
+
+  -- what is told by the clip's text and rows is told of the input's clip
+  pub in-input-clip : {r v : Bool} → r ≡ inClip contig (onlyIf clipped (clipSpans clip rows)) (record { first = first; last = last }) → r ≡ v
+      → inClip contig (on .loaded .input .clip) (record { first = first; last = last }) ≡ v
+  in-input-clip e told = rw (← clip-spans clipped (ready .clip-given)) (sym e ∙ told)
 
   -- the samples stand beside the sites found
   module _ (found alts : List ℕ) (n : ℕ) (place : RefAt) (len number : ℕ) (to : RecordTo on first (take n found) alts n place len number) (owners : List ℕ)

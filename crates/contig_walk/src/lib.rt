@@ -9,14 +9,15 @@ ghost use mathlib.Core.Path.{_≡_};
 ghost use Rattle.coalescing.specs.Held.{Holds};
 ghost use Rattle.coalescing.specs.Steps.{Progress, StepTo};
 ghost use Rattle.definitions.specs.Alleles.{isBlock};
-ghost use Rattle.definitions.specs.CombinedList.{Input};
 ghost use Rattle.definitions.specs.Intervals.{inClip};
+ghost use Rattle.definitions.specs.Lists.{onlyIf};
 ghost use Rattle.definitions.specs.Records.{Record};
+ghost use Rattle.intervals.specs.InClip.{clipSpans, intervalOf};
 ghost use Rattle.merged_records.specs.Loaded.{chosenLetters};
 ghost use Rattle.merged_ref.specs.Answers.{refBytes};
 ghost use Rattle.record_laws.specs.Pending.{mergedContig};
 ghost use Rattle.contig_walk.specs.Laying.{LayReady, TurnReady, Turns, laidRecord};
-ghost use Rattle.contig_walk.specs.Walk.{Begun, ClipGiven, RecordsWalked, WalkReady, WalkRoom};
+ghost use Rattle.contig_walk.specs.Walk.{Begun, RecordsWalked, WalkReady, WalkRoom};
 use bio_ids::GenomeLoc;
 use bio_ids::GenomePosition;
 use coalescing::Pending;
@@ -37,8 +38,7 @@ fn lay_block<'a>(
     samples: usize,
     reference: &'a [u8],
     contig: &[u8],
-    first: GenomePosition,
-    last: GenomePosition,
+    loc: GenomeLoc,
     place: RefAt,
     number: usize,
     own: &[usize],
@@ -50,22 +50,31 @@ fn lay_block<'a>(
     at: usize,
     count: usize,
 ) -> Stepped
-    requires { ⌜ ((r : LayReady (now s) (now rows) samples (now reference) (now contig) (first .0) (last .0) place number (now own) (now alts) pending (now held) (now fresh) at) × (isBlock (laidRecord r .alleles) ≡ true)) ⌝ }
-    ensures { λ r. ⌜ ((ready : LayReady (now (s .entry)) (now (rows .entry)) samples (now (reference .entry)) (now (contig .entry)) (first .0) (last .0) place number (now (own .entry)) (now (alts .entry)) pending (now (held .entry)) (now (fresh .entry)) at)
+    requires { ⌜ ((r : LayReady (now s) (now rows) samples (now reference) (now contig) (loc .start .0) (loc .end .0) place number (now own) (now alts) pending (now held) (now fresh) at) × (isBlock (laidRecord r .alleles) ≡ true)) ⌝ }
+    ensures { λ r. ⌜ ((ready : LayReady (now (s .entry)) (now (rows .entry)) samples (now (reference .entry)) (now (contig .entry)) (loc .start .0) (loc .end .0) place number (now (own .entry)) (now (alts .entry)) pending (now (held .entry)) (now (fresh .entry)) at)
         (block : isBlock (laidRecord ready .alleles) ≡ true) (waiting : Option Record) (d₀ bytes : List ℕ) (records : ℕ)
         → Holds (now (s .entry)) (now (rows .entry)) samples (now (reference .entry)) (now (contig .entry)) (now (held .entry)) pending waiting
         → Progress d₀ bytes records (now (out .entry)) at count
         → StepTo (now (s .entry)) (now (rows .entry)) samples (now (reference .entry)) (now (contig .entry)) (now (held .exit)) (now (out .exit)) waiting (laidRecord ready) d₀ bytes records r) ⌝ }
 {
     let allele = merged_ref::ref_bytes(s, rows, reference, place);
-    let len = record_lines::merge_genotypes(s, rows, samples, own, first, allele, alts, fresh, 0);
+    let len = record_lines::merge_genotypes(
+        s,
+        rows,
+        samples,
+        own,
+        loc.start,
+        allele,
+        alts,
+        fresh,
+        0,
+    );
     coalescing::coalesce_homref_blocks(
         s,
         rows,
         reference,
         contig,
-        first,
-        last,
+        loc,
         place,
         &fresh[..len],
         pending,
@@ -100,8 +109,7 @@ fn lay_record<'a>(
     samples: usize,
     reference: &'a [u8],
     contig: &[u8],
-    first: GenomePosition,
-    last: GenomePosition,
+    loc: GenomeLoc,
     place: RefAt,
     number: usize,
     own: &[usize],
@@ -113,8 +121,8 @@ fn lay_record<'a>(
     at: usize,
     count: usize,
 ) -> Stepped
-    requires { ⌜ LayReady (now s) (now rows) samples (now reference) (now contig) (first .0) (last .0) place number (now own) (now alts) pending (now held) (now fresh) at ⌝ }
-    ensures { λ r. ⌜ ((ready : LayReady (now (s .entry)) (now (rows .entry)) samples (now (reference .entry)) (now (contig .entry)) (first .0) (last .0) place number (now (own .entry)) (now (alts .entry)) pending (now (held .entry)) (now (fresh .entry)) at)
+    requires { ⌜ LayReady (now s) (now rows) samples (now reference) (now contig) (loc .start .0) (loc .end .0) place number (now own) (now alts) pending (now held) (now fresh) at ⌝ }
+    ensures { λ r. ⌜ ((ready : LayReady (now (s .entry)) (now (rows .entry)) samples (now (reference .entry)) (now (contig .entry)) (loc .start .0) (loc .end .0) place number (now (own .entry)) (now (alts .entry)) pending (now (held .entry)) (now (fresh .entry)) at)
         (waiting : Option Record) (d₀ bytes : List ℕ) (records : ℕ)
         → Holds (now (s .entry)) (now (rows .entry)) samples (now (reference .entry)) (now (contig .entry)) (now (held .entry)) pending waiting
         → Progress d₀ bytes records (now (out .entry)) at count
@@ -127,8 +135,7 @@ fn lay_record<'a>(
             samples,
             reference,
             contig,
-            first,
-            last,
+            loc,
             place,
             number,
             own,
@@ -147,7 +154,7 @@ fn lay_record<'a>(
         samples,
         reference,
         contig,
-        first,
+        loc.start,
         place,
         own,
         alts,
@@ -160,20 +167,13 @@ fn lay_record<'a>(
 }
 
 // Whether an interval lies in the clip, where there is one.
-fn passes_clip(
-    clipped: bool,
-    clip: &[u8],
-    rows: &[usize],
-    contig: &[u8],
-    first: GenomePosition,
-    last: GenomePosition,
-) -> bool
-    ensures { λ r. ⌜ ((x : Input) → ClipGiven clipped (now (clip .entry)) (now (rows .entry)) x → r ≡ inClip (now (contig .entry)) (x .clip) (record { first = first .0; last = last .0 })) ⌝ }
+fn passes_clip(clipped: bool, clip: &[u8], rows: &[usize], contig: &[u8], loc: GenomeLoc) -> bool
+    ensures { λ r. ⌜ r ≡ inClip (now (contig .entry)) (onlyIf clipped (clipSpans (now (clip .entry)) (now (rows .entry)))) (intervalOf loc) ⌝ }
 {
     if !clipped {
         return true;
     }
-    intervals::in_clip(clip, rows, contig, GenomeLoc::new(first, last))
+    intervals::in_clip(clip, rows, contig, loc)
 }
 
 // What a turn of the walk leaves; or the row that refuses the interval's record.
@@ -195,8 +195,7 @@ fn walk_interval<'a>(
     chosen: &[usize],
     from: &[usize],
     bounds: &[usize],
-    first: GenomePosition,
-    last: GenomePosition,
+    loc: GenomeLoc,
     pending: Pending,
     held: &mut [u8],
     fresh: &mut [u8],
@@ -207,15 +206,15 @@ fn walk_interval<'a>(
     at: usize,
     count: usize,
 ) -> Turned
-    requires { ⌜ TurnReady (now s) (now rows) samples clipped (now clip) referenced (now reference) (now contig) (now chosen) (now from) (now bounds) (first .0) (last .0) pending (now held) (now fresh) (now found) (now owners) (now alts) at ⌝ }
-    ensures { λ r. ⌜ ((ready : TurnReady (now (s .entry)) (now (rows .entry)) samples clipped (now (clip .entry)) referenced (now (reference .entry)) (now (contig .entry)) (now (chosen .entry)) (now (from .entry)) (now (bounds .entry)) (first .0) (last .0) pending (now (held .entry)) (now (fresh .entry)) (now (found .entry)) (now (owners .entry)) (now (alts .entry)) at)
+    requires { ⌜ TurnReady (now s) (now rows) samples clipped (now clip) referenced (now reference) (now contig) (now chosen) (now from) (now bounds) (loc .start .0) (loc .end .0) pending (now held) (now fresh) (now found) (now owners) (now alts) at ⌝ }
+    ensures { λ r. ⌜ ((ready : TurnReady (now (s .entry)) (now (rows .entry)) samples clipped (now (clip .entry)) referenced (now (reference .entry)) (now (contig .entry)) (now (chosen .entry)) (now (from .entry)) (now (bounds .entry)) (loc .start .0) (loc .end .0) pending (now (held .entry)) (now (fresh .entry)) (now (found .entry)) (now (owners .entry)) (now (alts .entry)) at)
         (waiting : Option Record) (d₀ bytes : List ℕ) (records : ℕ)
         → Holds (now (s .entry)) (now (rows .entry)) samples (now (reference .entry)) (now (contig .entry)) (now (held .entry)) pending waiting
         → Progress d₀ bytes records (now (out .entry)) at count
-        → Turns (ready .runs .on .loaded .input) (chosenLetters (ready .runs .on .loaded)) (now (s .entry)) (now (rows .entry)) samples (now (reference .entry)) (now (contig .entry)) (now (held .exit)) (now (out .exit)) (first .0) (last .0) waiting d₀ bytes records r) ⌝ }
+        → Turns (ready .runs .on .loaded .input) (chosenLetters (ready .runs .on .loaded)) (now (s .entry)) (now (rows .entry)) samples (now (reference .entry)) (now (contig .entry)) (now (held .exit)) (now (out .exit)) (loc .start .0) (loc .end .0) waiting d₀ bytes records r) ⌝ }
 {
     let same = Stepped { pending, at, count };
-    if !passes_clip(clipped, clip, rows, contig, first, last) {
+    if !passes_clip(clipped, clip, rows, contig, loc) {
         return Turned::To(same);
     }
     let here = merged_records::merge_reference_confidence(
@@ -228,7 +227,7 @@ fn walk_interval<'a>(
         chosen,
         from,
         bounds,
-        first,
+        loc.start,
         found,
         owners,
         alts,
@@ -246,8 +245,7 @@ fn walk_interval<'a>(
                 samples,
                 reference,
                 contig,
-                first,
-                last,
+                loc,
                 place,
                 number,
                 &own,
@@ -303,7 +301,8 @@ pub fn walk_contig<'a>(
     while k + 1 < places.len() {
         let first = GenomePosition::new_1based(places[k]);
         let last = GenomePosition::new_1based(places[k + 1] - 1);
-        covering_sites::skip_ended(rows, chosen, bounds, samples, first, &mut from);
+        let loc = GenomeLoc::new(first, last);
+        covering_sites::skip_ended(rows, chosen, bounds, samples, loc.start, &mut from);
         let pending = state.pending;
         let turn = walk_interval(
             s,
@@ -317,8 +316,7 @@ pub fn walk_contig<'a>(
             chosen,
             &from,
             bounds,
-            first,
-            last,
+            loc,
             pending,
             held,
             fresh,

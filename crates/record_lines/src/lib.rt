@@ -11,38 +11,38 @@ ghost use Rattle.kv_write.specs.Optional.{optionOf};
 ghost use Rattle.sample_alleles.specs.Fields.{AltsAt};
 ghost use Rattle.record_lines.specs.Head.{HeadFits, endFrom, headOf};
 ghost use Rattle.record_lines.specs.Samples.{OwnPrintable, SamplePrintable, SamplesPrintable, SitePrintable, dataOwn, printedOwn, printedSamples, printedSite};
+use bio_ids::GenomeLoc;
 use bio_ids::GenomePosition;
 use kv_write::OptionalNumber;
 
 // END of a record: its last position, if that is past its first.
-fn end_from(first: GenomePosition, last: GenomePosition) -> OptionalNumber
-    requires { ⌜ last .0 ≤ maxNumber ⌝ }
-    ensures { λ r. ⌜ optionOf r ≡ endFrom (first .0) (last .0) ⌝ }
+fn end_from(loc: GenomeLoc) -> OptionalNumber
+    requires { ⌜ loc .end .0 ≤ maxNumber ⌝ }
+    ensures { λ r. ⌜ optionOf r ≡ endFrom (loc .start .0) (loc .end .0) ⌝ }
 {
-    let end = last.get();
-    if first.get() < end {
+    let end = loc.end.get();
+    if loc.start.get() < end {
         return OptionalNumber::Present(end as u32);
     }
     OptionalNumber::Missing
 }
 
-// Lays the lines before the samples'. A record that is no block is passed with its first position as the last, and has no END.
+// Lays the lines before the samples'. A record that is no block is passed with its position as start and as end, and has no END.
 pub fn put_record_head(
     out: &mut [u8],
     at: usize,
     contig: &[u8],
-    first: GenomePosition,
-    last: GenomePosition,
+    loc: GenomeLoc,
     reference: &[u8],
     alts: &[u8],
 ) -> usize
-    requires { ⌜ HeadFits (now contig) (first .0) (last .0) (now reference) (now alts) at ⌝ }
+    requires { ⌜ HeadFits (now contig) (loc .start .0) (loc .end .0) (now reference) (now alts) at ⌝ }
     ensures { λ r. ⌜ Laid (now (out .entry)) at
-        (headOf (now (contig .entry)) (first .0) (last .0) (now (reference .entry)) (now (alts .entry)))
+        (headOf (now (contig .entry)) (loc .start .0) (loc .end .0) (now (reference .entry)) (now (alts .entry)))
         (now (out .exit)) r ⌝ }
 {
-    let pos = first.get() as u32;
-    let end = end_from(first, last);
+    let pos = loc.start.get() as u32;
+    let end = end_from(loc);
     let behind_contig = kv_write::put_line(out, at, b"contig=", contig);
     let behind_pos = kv_write::put_number_line(out, behind_contig, b"pos=", pos);
     let behind_end = kv_write::put_optional_number_line(out, behind_pos, b"end=", end);

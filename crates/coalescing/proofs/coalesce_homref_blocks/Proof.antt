@@ -19,7 +19,7 @@ returns c =
     let args = c .before .before .before .before .before .before .before .before .before .before .before .args in
     let joins = sym (c .before .before .joins .ensures) ∙ c .before .if1 .taken in (
       λ samples waiting new d₀ bytes records h b p.
-          rw (c .set-end .ensures) (step-joined _ _ samples _ _ _ d₀ bytes records (args .first) (args .last) (args .place) _ new b _ waiting h joins _ _ _ p),
+          rw (c .set-end .ensures) (step-joined _ _ samples _ _ _ d₀ bytes records (args .loc) (args .place) _ new b _ waiting h joins _ _ _ p),
       held-joined _ _ _ _ _ _ (args .place) _ joins,
     )
 
@@ -48,7 +48,7 @@ returns-2 c =
     let held = c .before .before .before .before .put-bytes .ensures in (
       λ samples waiting new d₀ bytes records h b p.
           rw (c .before .cap .ensures, c .count-pending .ensures)
-          (step-apart _ _ samples _ _ _ d₀ bytes records (args .first) (args .last) (args .place) _ new b _ waiting h apart _ _ (c .before .before .before .before .before .before .before .before .before .before .before .before .before .before .before .before .before .before .before .before .before .pre .room) held
+          (step-apart _ _ samples _ _ _ d₀ bytes records (args .loc) (args .place) _ new b _ waiting h apart _ _ (c .before .before .before .before .before .before .before .before .before .before .before .before .before .before .before .before .before .before .before .before .before .pre .room) held
           _ _ _ _ _ p (c .before .before .before .before .before .before .before .before .put-pending .ensures)),
       held .laid ∙ held-own _ _ _ _ _ _ (args .place) _ apart,
     )

@@ -21,7 +21,7 @@ slice-aggregate-put-record-head c = search needs
 
 put-record-head-requires : tie.Need-put-record-head-requires
 put-record-head-requires c κs = let b = (c .before .before .before .before .pending .given) in
-    rw (c .before .before .ref-bytes .ensures) (block-head-fits _ _ _ _ _ _ _ _ _ _ (rw (b .1) at (c .before .before .before .before .before .before .before .before .before .before .before .before .pre)))
+    rw (c .before .before .ref-bytes .ensures) (block-head-fits _ _ _ _ _ _ _ _ _ (rw (b .1) at (c .before .before .before .before .before .before .before .before .before .before .before .before .pre)))
 
 part-requires : tie.Need-part-requires
 part-requires c κs = search needs
@@ -29,7 +29,7 @@ part-requires c κs = search needs
 put-bytes-requires : tie.Need-put-bytes-requires
 put-bytes-requires c κs = let b = (c .before .before .before .before .before .before .before .before .before .pending .given) in
     let head = rw (c .before .before .before .before .before .before .before .ref-bytes .ensures) at (c .before .before .before .before .put-record-head .ensures) in
-    rw ((c .before .part .ensures), sub-zero) (block-lines-fit _ _ _ _ _ _ _ _ _ _ (rw (b .1) at (c .before .before .before .before .before .before .before .before .before .before .before .before .before .before .before .before .before .pre)) head)
+    rw ((c .before .part .ensures), sub-zero) (block-lines-fit _ _ _ _ _ _ _ _ _ (rw (b .1) at (c .before .before .before .before .before .before .before .before .before .before .before .before .before .before .before .before .before .pre)) head)
 
 returns : tie.Need-returns
 unfolding pendingBytes
@@ -41,7 +41,7 @@ same-length c = search needs
 returns-2 : tie.Need-returns-2
 returns-2 c = let b = (c .before .before .before .before .before .before .before .before .before .before .before .before .pending .given) in
     let head = rw (c .before .before .before .before .before .before .before .before .before .before .ref-bytes .ensures) at (c .before .before .before .before .before .before .before .put-record-head .ensures) in
-    rw (b .1) (block-laid _ _ _ _ _ _ _ _ _ _ (rw (b .1) at (c .before .before .before .before .before .before .before .before .before .before .before .before .before .before .before .before .before .before .before .before .pre)) head (rw ((c .before .before .before .before .part .ensures), sub-zero) at (c .before .before .put-bytes .ensures)))
+    rw (b .1) (block-laid _ _ _ _ _ _ _ _ _ (rw (b .1) at (c .before .before .before .before .before .before .before .before .before .before .before .before .before .before .before .before .before .before .before .before .pre)) head (rw ((c .before .before .before .before .part .ensures), sub-zero) at (c .before .before .put-bytes .ensures)))
 
 pub put-pending-spec : {M : Type 1} → statement M
 put-pending-spec =

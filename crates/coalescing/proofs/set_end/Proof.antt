@@ -16,7 +16,7 @@ returns c = rw (c .enum-told .given .1)
 
 returns-2 : tie.Need-returns-2
 unfolding joinedTo
-returns-2 c = rw (c .before .pending .given .1)
+returns-2 c = rw (c .before .before .pending .given .1)
 
 pub set-end-spec : {M : Type 1} → statement M
 set-end-spec = tie.close (tie.spec enum-told enum-known-pending returns returns-2)

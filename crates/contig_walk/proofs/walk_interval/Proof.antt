@@ -1,8 +1,7 @@
 -- By the clip, then by what is found at the interval's first position.
 use borrow.Author.Needs.{needs}
 use borrow.Author.Tests.{not-false, not-true}
-use mathlib.Core.Path.{_∙_, sym}
-use Rattle.contig_walk.proofs.Turns.{front-within, lay-ready, own-asked, own-known, owners-exact, owners-front, turn-bare, turn-clipped, turn-laid, turn-none}
+use Rattle.contig_walk.proofs.Turns.{front-within, in-input-clip, lay-ready, own-asked, own-known, owners-exact, owners-front, turn-bare, turn-clipped, turn-laid, turn-none}
 use Rattle.merged_records.specs.Found.{RecordFound}
 use Rattle.contig_walk.proofs.walk_interval.Statement.{statement}
 use Rattle.contig_walk.proofs.walk_interval.Tie as tie
@@ -11,10 +10,14 @@ passes-clip-requires : tie.Need-passes-clip-requires
 passes-clip-requires c κs = search needs
 
 returns : tie.Need-returns
-returns c = λ ready waiting d₀ bytes records h p. turn-clipped ready waiting d₀ bytes records h (sym ((c .before .passes-clip .ensures) _ (ready .clip-given)) ∙ not-true _ (c .if1 .taken)) _ _ p
+returns c = λ ready waiting d₀ bytes records h p.
+    let outside = in-input-clip ready (c .before .passes-clip .ensures) (not-true _ (c .if1 .taken)) in
+    turn-clipped ready waiting d₀ bytes records h outside _ _ p
 
 merge-reference-confidence-requires : tie.Need-merge-reference-confidence-requires
-merge-reference-confidence-requires c κs = ((c .before .before .before .before .before .before .before .before .before .before .before .before .before .before .before .before .before .before .before .pre .runs), (c .before .before .before .before .before .before .before .before .before .before .before .before .before .before .before .before .before .before .before .pre .room .for-record), (c .before .before .before .before .before .before .before .before .before .before .before .before .before .before .before .before .before .before .before .pre .ended))
+merge-reference-confidence-requires c κs =
+    let start = c .before .before .before .before .before .before .before .before .before .before .before .before .before .before .before .before .before .before .before in
+    (start .pre .runs, start .pre .room .for-record, start .pre .ended)
 
 enum-told : tie.Need-enum-told
 enum-told c = search needs
@@ -28,32 +31,36 @@ enum-known-here-2 c = search needs
 slice-reshare-prefix-own-sites : tie.Need-slice-reshare-prefix-own-sites
 unfolding RecordFound
 slice-reshare-prefix-own-sites c =
-    let start = c .before .before .before .before .before .before .before .before .before .before .before .before .before .before .before .before .before .before .before .before .before .before .before .before .before .before .before .before .before in
-    let answer = c .before .before .before .before .before .before .before .before .before .merge-reference-confidence .ensures in
+    let at-merge = c .before .before .before .before .before .before .before .before .before in
+    let start = at-merge .before .before .before .before .before .before .before .before .before .before .before .before .before .before .before .before .before .before .before .before in
+    let answer = at-merge .merge-reference-confidence .ensures in
     let f = rw (c .before .here2 .given .1) at (answer .0 (start .pre .runs)) in
     front-within _ (f .all)
 
 slice-aggregate-own-sites : tie.Need-slice-aggregate-own-sites
 unfolding RecordFound
 slice-aggregate-own-sites c =
-    let start = c .before .before .before .before .before .before .before .before .before .before .before .before .before .before .before .before .before .before .before .before .before .before .before .before .before .before .before .before .before .before in
-    let answer = c .before .before .before .before .before .before .before .before .before .before .merge-reference-confidence .ensures in
+    let at-merge = c .before .before .before .before .before .before .before .before .before .before in
+    let start = at-merge .before .before .before .before .before .before .before .before .before .before .before .before .before .before .before .before .before .before .before .before in
+    let answer = at-merge .merge-reference-confidence .ensures in
     let f = rw (c .before .before .here2 .given .1) at (answer .0 (start .pre .runs)) in
     f .all
 
 slice-reshare-prefix-own-sites-2 : tie.Need-slice-reshare-prefix-own-sites-2
 unfolding RecordFound
 slice-reshare-prefix-own-sites-2 c =
-    let start = c .before .before .before .before .before .before .before .before .before .before .before .before .before .before .before .before .before .before .before .before .before .before .before .before .before .before .before .before .before .before in
-    let answer = c .before .before .before .before .before .before .before .before .before .before .merge-reference-confidence .ensures in
+    let at-merge = c .before .before .before .before .before .before .before .before .before .before in
+    let start = at-merge .before .before .before .before .before .before .before .before .before .before .before .before .before .before .before .before .before .before .before .before in
+    let answer = at-merge .merge-reference-confidence .ensures in
     let f = rw (c .before .before .here2 .given .1) at (answer .0 (start .pre .runs)) in
     owners-front (start .pre) _ _ _ _ _ _ f _ (answer .1 .0 (start .pre .runs)) (answer .1 .1 (start .pre .runs))
 
 slice-aggregate-own-sites-2 : tie.Need-slice-aggregate-own-sites-2
 unfolding RecordFound
 slice-aggregate-own-sites-2 c =
-    let start = c .before .before .before .before .before .before .before .before .before .before .before .before .before .before .before .before .before .before .before .before .before .before .before .before .before .before .before .before .before .before .before in
-    let answer = c .before .before .before .before .before .before .before .before .before .before .before .merge-reference-confidence .ensures in
+    let at-merge = c .before .before .before .before .before .before .before .before .before .before .before in
+    let start = at-merge .before .before .before .before .before .before .before .before .before .before .before .before .before .before .before .before .before .before .before .before in
+    let answer = at-merge .merge-reference-confidence .ensures in
     let f = rw (c .before .before .before .here2 .given .1) at (answer .0 (start .pre .runs)) in
     owners-exact (start .pre) _ _ _ _ _ _ f _ (answer .1 .0 (start .pre .runs)) (answer .1 .1 (start .pre .runs))
 
@@ -63,8 +70,9 @@ slice-aggregate-own-sites-3 c = search needs
 own-sites-requires : tie.Need-own-sites-requires
 unfolding RecordFound
 own-sites-requires c κs =
-    let start = c .before .before .before .before .before .before .before .before .before .before .before .before .before .before .before .before .before .before .before .before .before .before .before .before .before .before .before .before .before .before .before .before in
-    let answer = c .before .before .before .before .before .before .before .before .before .before .before .before .merge-reference-confidence .ensures in
+    let at-merge = c .before .before .before .before .before .before .before .before .before .before .before .before in
+    let start = at-merge .before .before .before .before .before .before .before .before .before .before .before .before .before .before .before .before .before .before .before .before in
+    let answer = at-merge .merge-reference-confidence .ensures in
     let f = rw (c .before .before .before .before .here2 .given .1) at (answer .0 (start .pre .runs)) in
     own-asked (start .pre) _ _ _ _ _ _ f _ (answer .1 .0 (start .pre .runs)) (answer .1 .1 (start .pre .runs))
 
@@ -77,10 +85,12 @@ slice-aggregate-lay-record c = search needs
 lay-record-requires : tie.Need-lay-record-requires
 unfolding RecordFound
 lay-record-requires c κs =
-    let start = c .before .before .before .before .before .before .before .before .before .before .before .before .before .before .before .before .before .before .before .before .before .before .before .before .before .before .before .before .before .before .before .before .before .before .before .before .before .before .before .before in
-    let answer = c .before .before .before .before .before .before .before .before .before .before .before .before .before .before .before .before .before .before .before .before .merge-reference-confidence .ensures in
+    let at-merge = c .before .before .before .before .before .before .before .before .before .before .before .before .before .before .before .before .before .before .before .before in
+    let start = at-merge .before .before .before .before .before .before .before .before .before .before .before .before .before .before .before .before .before .before .before .before in
+    let answer = at-merge .merge-reference-confidence .ensures in
     let f = rw (c .before .before .before .before .before .before .before .before .before .before .before .before .here2 .given .1) at (answer .0 (start .pre .runs)) in
-    let inside = sym (c .before .before .before .before .before .before .before .before .before .before .before .before .before .before .before .before .before .before .before .before .before .before .before .before .before .passes-clip .ensures _ (start .pre .clip-given)) ∙ not-false _ (c .before .before .before .before .before .before .before .before .before .before .before .before .before .before .before .before .before .before .before .before .before .before .before .before .if1 .left) in
+    let at-clip = at-merge .before .before .before .before in
+    let inside = in-input-clip (start .pre) (at-clip .before .passes-clip .ensures) (not-false _ (at-clip .if1 .left)) in
     lay-ready (start .pre) inside _ _ _ _ _ _ f _ (c .before .before .before .before .part .ensures) _
     (own-known (start .pre) _ _ _ _ _ _ f _ (answer .1 .0 (start .pre .runs)) (answer .1 .1 (start .pre .runs)) (c .before .before .before .before .before .before .before .own-sites .ensures))
 
@@ -95,7 +105,11 @@ same-length-3 c = c .before .before .before .before .before .before .before .bef
 
 returns-2 : tie.Need-returns-2
 unfolding RecordFound
-returns-2 c = λ ready waiting d₀ bytes records h p. turn-bare ready waiting d₀ bytes records h (sym ((c .before .before .before .before .before .before .before .before .before .before .before .before .before .passes-clip .ensures) _ (ready .clip-given)) ∙ not-false _ (c .before .before .before .before .before .before .before .before .before .before .before .before .if1 .left)) (rw (c .enum-told .given .1) at ((c .before .before .before .before .before .before .before .before .merge-reference-confidence .ensures .0) (ready .runs))) _ _ p
+returns-2 c = λ ready waiting d₀ bytes records h p.
+    let at-merge = c .before .before .before .before .before .before .before .before in
+    let at-clip = at-merge .before .before .before .before in
+    let inside = in-input-clip ready (at-clip .before .passes-clip .ensures) (not-false _ (at-clip .if1 .left)) in
+    turn-bare ready waiting d₀ bytes records h inside (rw (c .enum-told .given .1) at (at-merge .merge-reference-confidence .ensures .0 (ready .runs))) _ _ p
 
 same-length-4 : tie.Need-same-length-4
 same-length-4 c = c .before .before .before .before .before .before .before .before .before .merge-reference-confidence .kept .1 .1 .1 .1 .1 .1 .1 .1 .1 .1 .0
@@ -108,14 +122,18 @@ same-length-6 c = c .before .before .before .before .before .before .before .bef
 
 returns-3 : tie.Need-returns-3
 unfolding RecordFound
-returns-3 c = λ ready waiting d₀ bytes records h p. let f = rw (c .before .here .given .1) at ((c .before .before .before .before .before .before .before .before .before .merge-reference-confidence .ensures .0) (ready .runs)) in
-    turn-none ready waiting d₀ bytes records h (sym ((c .before .before .before .before .before .before .before .before .before .before .before .before .before .before .passes-clip .ensures) _ (ready .clip-given)) ∙ not-false _ (c .before .before .before .before .before .before .before .before .before .before .before .before .before .if1 .left)) _ (f .0) (f .1) _ (p .measured .laid)
+returns-3 c = λ ready waiting d₀ bytes records h p.
+    let at-merge = c .before .before .before .before .before .before .before .before .before in
+    let f = rw (c .before .here .given .1) at (at-merge .merge-reference-confidence .ensures .0 (ready .runs)) in
+    let at-clip = at-merge .before .before .before .before in
+    let inside = in-input-clip ready (at-clip .before .passes-clip .ensures) (not-false _ (at-clip .if1 .left)) in
+    turn-none ready waiting d₀ bytes records h inside _ (f .0) (f .1) _ (p .measured .laid)
 
 same-length-7 : tie.Need-same-length-7
-same-length-7 c = c .before .before .before .before .before .before .lay-record .kept .1 .1 .1 .1 .1 .1 .1 .1 .1 .1 .1 .1 .0
+same-length-7 c = c .before .before .before .before .before .before .lay-record .kept .1 .1 .1 .1 .1 .1 .1 .1 .1 .1 .1 .0
 
 same-length-8 : tie.Need-same-length-8
-same-length-8 c = c .before .before .before .before .before .before .lay-record .kept .1 .1 .1 .1 .1 .1 .1 .1 .1 .1 .1 .1 .1 .0
+same-length-8 c = c .before .before .before .before .before .before .lay-record .kept .1 .1 .1 .1 .1 .1 .1 .1 .1 .1 .1 .1 .0
 
 same-length-9 : tie.Need-same-length-9
 same-length-9 c = c .before .before .before .before .before .before .before .before .before .before .before .before .before .before .before .before .before .before .before .before .before .before .before .before .before .before .before .merge-reference-confidence .kept .1 .1 .1 .1 .1 .1 .1 .1 .1 .1 .0
@@ -127,17 +145,20 @@ same-length-11 : tie.Need-same-length-11
 same-length-11 c = c .before .before .before .before .before .before .before .before .before .before .before .before .before .before .before .before .before .before .before .before .before .before .before .before .before .before .before .merge-reference-confidence .kept .1 .1 .1 .1 .1 .1 .1 .1 .1 .1 .1 .1 .0
 
 same-length-12 : tie.Need-same-length-12
-same-length-12 c = c .before .before .before .before .before .before .lay-record .kept .1 .1 .1 .1 .1 .1 .1 .1 .1 .1 .1 .1 .1 .1 .0
+same-length-12 c = c .before .before .before .before .before .before .lay-record .kept .1 .1 .1 .1 .1 .1 .1 .1 .1 .1 .1 .1 .1 .0
 
 returns-4 : tie.Need-returns-4
 unfolding RecordFound
 returns-4 c = λ ready waiting d₀ bytes records h p.
-    let answer = c .before .before .before .before .before .before .before .before .before .before .before .before .before .before .before .before .before .before .before .before .before .before .before .before .before .before .before .merge-reference-confidence .ensures in
+    let at-merge = c .before .before .before .before .before .before .before .before .before .before .before .before .before .before .before .before .before .before .before .before .before .before .before .before .before .before .before in
+    let answer = at-merge .merge-reference-confidence .ensures in
     let f = rw (c .before .before .before .before .before .before .before .before .before .before .before .before .before .before .before .before .before .before .before .here2 .given .1) at (answer .0 (ready .runs)) in
-    let inside = sym (c .before .before .before .before .before .before .before .before .before .before .before .before .before .before .before .before .before .before .before .before .before .before .before .before .before .before .before .before .before .before .before .before .passes-clip .ensures _ (ready .clip-given)) ∙ not-false _ (c .before .before .before .before .before .before .before .before .before .before .before .before .before .before .before .before .before .before .before .before .before .before .before .before .before .before .before .before .before .before .before .if1 .left) in
-    let own = own-known ready _ _ _ _ _ _ f _ (answer .1 .0 (ready .runs)) (answer .1 .1 (ready .runs)) (c .before .before .before .before .before .before .before .before .before .before .before .before .before .before .own-sites .ensures) in
-    turn-laid ready waiting d₀ bytes records h inside _ _ _ _ _ _ f _ (c .before .before .before .before .before .before .before .before .before .before .before .part .ensures) _ own _ _ _
-    (c .before .before .before .before .before .before .lay-record .ensures (lay-ready ready inside _ _ _ _ _ _ f _ (c .before .before .before .before .before .before .before .before .before .before .before .part .ensures) _ own) waiting d₀ bytes records h p)
+    let at-clip = at-merge .before .before .before .before in
+    let inside = in-input-clip ready (at-clip .before .passes-clip .ensures) (not-false _ (at-clip .if1 .left)) in
+    let at-part = c .before .before .before .before .before .before .before .before .before .before .before in
+    let own = own-known ready _ _ _ _ _ _ f _ (answer .1 .0 (ready .runs)) (answer .1 .1 (ready .runs)) (at-part .before .before .before .own-sites .ensures) in
+    turn-laid ready waiting d₀ bytes records h inside _ _ _ _ _ _ f _ (at-part .part .ensures) _ own _ _ _
+    (c .before .before .before .before .before .before .lay-record .ensures (lay-ready ready inside _ _ _ _ _ _ f _ (at-part .part .ensures) _ own) waiting d₀ bytes records h p)
 
 pub walk-interval-spec : {M : Type 1} → statement M
 walk-interval-spec =

@@ -13,9 +13,9 @@ get-requires c κs = search needs
 get-requires-2 : tie.Need-get-requires-2
 get-requires-2 c κs = search needs
 
-cast-t6 : tie.Need-cast-t6
+cast-t5 : tie.Need-cast-t5
 unfolding maxNumber
-cast-t6 c = omega (arith, (c .before .before .get .ensures), (c .before .before .before .pre))
+cast-t5 c = omega (arith, (c .before .before .get .ensures), (c .before .before .before .pre))
 
 returns : tie.Need-returns
 unfolding onlyIf
@@ -26,4 +26,4 @@ unfolding onlyIf
 returns-2 c = rw (← (c .before .before .get .ensures), ← (c .before .get2 .ensures), le-ltb _ _ (c .if1 .left))
 
 pub end-from-spec : {M : Type 1} → statement M
-end-from-spec = tie.close (tie.spec get-requires get-requires-2 cast-t6 returns returns-2)
+end-from-spec = tie.close (tie.spec get-requires get-requires-2 cast-t5 returns returns-2)
