@@ -14,7 +14,7 @@ use native.Mathlib.Omega.{arith}
 use Rattle.definitions.specs.CalledGenotypes.{LeastPls, gqFromLeastPls, gqFromPl, leastPls, withNextPl}
 use Rattle.definitions.specs.Genotypes.{least}
 use Rattle.definitions.specs.Lists.{filterBy}
-use Rattle.laws.proofs.GqInOneReading.{gq-in-one-reading, one-step, second-above, step-again, step-first, step-higher, step-lower, three}
+use Rattle.laws.proofs.GqInOneReading.{gq-in-one-reading, one-step, second-above, step-again, step-higher, step-lower, three}
 use Rattle.laws.proofs.Members.{filter-few}
 use Rattle.genotyping.specs.OneReading.{Read, countHeld, equalPls, mostCount, withLaterPl}
 
