@@ -1,5 +1,5 @@
 -- `one-step`: the least PL, how often it occurs and the next above it, taken along with one more PL. `gq-in-one-reading`: the GQ of all.
-use Prim.Native.Nat.{_-_, _<_, _≤_, min, suc, ℕ}
+use Prim.Native.Nat.{_<_, _≤_, min, suc, ℕ}
 use borrow.Author.Tests.{eq-eqb, eqb-true, le-ltb, lt-ltb, ltb-true, ne-eqb}
 use lib.Dec.{eqb, ltb}
 use lib.ListN.{length, length-append}
