@@ -12,7 +12,7 @@ use Rattle.definitions.specs.AlleleSubset.{likelihoodSubset}
 use Rattle.definitions.specs.Alleles.{allelesOf, writtenAlleles}
 use Rattle.definitions.specs.Answers.{callProgram, combineProgram, printedAnswer}
 use Rattle.definitions.specs.Bytes.{joinedBy, sameBytes, text}
-use Rattle.definitions.specs.CalledGenotypes.{gqFromPl}
+use Rattle.definitions.specs.CalledGenotypes.{LeastPls, gqFromLeastPls, gqFromPl, leastPls, withNextPl}
 use Rattle.definitions.specs.CalledList.{calledData}
 use Rattle.definitions.specs.Checked.{Checked, _>>=_, accepted, refused}
 use Rattle.definitions.specs.ClipAndReference.{LetterChoice}
@@ -181,6 +181,25 @@ slips =
     ∷ (answer (one ++ withPl "0" "10" "10" "A" "<NON_REF>" "0,30" ++ bare "0" "010" "10" "A" "<NON_REF>") gives "refused=8\n")
     ∷ []
 
+-- GQ in one reading: the least PL, how often it occurs and the next above it, and these with one more PL
+abbrev writtenLeast : LeastPls → List ℕ
+writtenLeast t = decimals (t .leastPl ∷ t .count ∷ t .second ∷ [])
+
+abbrev pub oneReading : List Row
+oneReading =
+    (writtenLeast (leastPls (30 ∷ 0 ∷ 20 ∷ [])) gives "0,1,20")
+    ∷ (writtenLeast (leastPls (0 ∷ 0 ∷ 5 ∷ [])) gives "0,2,5")
+    ∷ (writtenLeast (withNextPl (leastPls []) 7) gives "7,1,0")
+    ∷ (writtenLeast (withNextPl (leastPls (0 ∷ [])) 7) gives "0,1,7")
+    ∷ (writtenLeast (withNextPl (leastPls (30 ∷ 20 ∷ [])) 20) gives "20,2,30")
+    ∷ (writtenLeast (withNextPl (leastPls (20 ∷ 20 ∷ 30 ∷ [])) 10) gives "10,1,20")
+    ∷ (writtenLeast (withNextPl (leastPls (20 ∷ 40 ∷ [])) 30) gives "20,1,30")
+    ∷ (decimal (gqFromLeastPls (leastPls [])) gives "0")
+    ∷ (decimal (gqFromLeastPls (leastPls (7 ∷ []))) gives "0")
+    ∷ (decimal (gqFromLeastPls (leastPls (0 ∷ 0 ∷ 5 ∷ []))) gives "0")
+    ∷ (decimal (gqFromLeastPls (leastPls (0 ∷ 150 ∷ 200 ∷ []))) gives "99")
+    ∷ []
+
 -- a row's test: what is found is what is wanted
 abbrev pub right : Row → Bool
 right r = sameBytes (r .found) (text (r .wanted))
@@ -196,6 +215,10 @@ refusals-right = tt
 pub slips-right : T (allOf right slips)
 unfolding evaluated
 slips-right = tt
+
+pub oneReading-right : T (allOf right oneReading)
+unfolding evaluated
+oneReading-right = tt
 
 -- ---- the printed list
 

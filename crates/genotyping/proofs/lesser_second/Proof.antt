@@ -1,0 +1,17 @@
+-- By whether there is a second.
+use borrow.Author.Needs.{needs}
+use borrow.Author.Tests.{eq-eqb, ne-eqb}
+use Rattle.genotyping.proofs.lesser_second.Statement.{statement}
+use Rattle.genotyping.proofs.lesser_second.Tie as tie
+
+returns : tie.Need-returns
+returns c = rw (eq-eqb _ 0 (c .if1 .taken))
+
+lesser-requires : tie.Need-lesser-requires
+lesser-requires c κs = search needs
+
+returns-2 : tie.Need-returns-2
+returns-2 c = rw (ne-eqb _ 0 (c .before .if1 .left)) (c .lesser .ensures)
+
+pub lesser-second-spec : {M : Type 1} → statement M
+lesser-second-spec = tie.close (tie.spec returns lesser-requires returns-2)
