@@ -22,15 +22,16 @@ use Rattle.laws.proofs.Groups.{groups-cons}
 use Rattle.laws.proofs.Tests.{after-bind}
 use Rattle.clip_and_reference.proofs.Groups.{read-end, read-faulty, read-group}
 use Rattle.clip_and_reference.proofs.ThreeLines.{letters-itself}
-use Rattle.clip_and_reference.specs.Groups.{GroupFaulty, GroupTo, PlacedSegment, basesStart, groupsRead, inFront, placedFrom, readBefore, segmentsPlaced, segmentsRead}
+use Rattle.clip_and_reference.specs.Groups.{GroupFaulty, GroupTo, PlacedSegment, ValuePart, basesStart, groupsRead, inFront, placedFrom, readBefore, segmentsPlaced, segmentsRead}
 
 -- ---- group by group
 
 module _ (s : List ℕ) where
-  pub placed-group : {at : ℕ} {g : ReferenceSegment} {next : ℕ} → GroupTo s at segmentOf g next
-      → segmentsPlaced s at ≡ record { segment = g; basesAt = basesStart s at } ∷ segmentsPlaced s next
-  unfolding segmentsPlaced placedFrom
-  placed-group to = rw (read-group segmentOf s to, ← to .ends)
+  pub placed-group : {at : ℕ} {g : ReferenceSegment} {next a e : ℕ} → GroupTo s at segmentOf g next
+      → ValuePart s (lineStart s at 2) (keyOf "bases") a e
+      → segmentsPlaced s at ≡ record { segment = g; basesAt = a } ∷ segmentsPlaced s next
+  unfolding segmentsPlaced placedFrom basesStart
+  placed-group to part = rw (read-group segmentOf s to, ← to .ends, part .begins)
 
   pub placed-faulty : (at : ℕ) → GroupFaulty s at segmentOf → segmentsPlaced s at ≡ []
   unfolding segmentsPlaced placedFrom
