@@ -1,9 +1,9 @@
 -- Where the bases of reference groups stand: group by group as the text is read, and that they do stand there.
-use Prim.Native.Nat.{_+_, _≤_, suc, ℕ}
+use Prim.Native.Nat.{_*_, _+_, _<_, _≤_, suc, zero, ℕ}
 use lib.ListN.{drop, getD, length, length-map, take}
 use lib.Seq.{getD-take}
 use mathlib.Core.List.{List, [], _∷_, map}
-use mathlib.Core.Option.{bind, none}
+use mathlib.Core.Option.{bind, none, some}
 use mathlib.Core.Path.{_∙_, _≡_, ap, refl, sym}
 use native.Mathlib.Omega.{arith}
 use Rattle.definitions.specs.Alleles.{lettersOf}
@@ -19,9 +19,8 @@ use Rattle.kv_text.specs.Lines.{lineEnd, lineStart}
 use Rattle.laws.proofs.Checked.{accepted-same, after-required, after-then, or-refused-back}
 use Rattle.laws.proofs.Every.{Every, also, nothing}
 use Rattle.laws.proofs.Groups.{groups-cons}
-use Rattle.laws.proofs.Tests.{after-bind}
+use Rattle.laws.proofs.Tests.{after-bind, after-only-if}
 use Rattle.clip_and_reference.proofs.Groups.{read-end, read-faulty, read-group}
-use Rattle.clip_and_reference.proofs.ThreeLines.{letters-itself}
 use Rattle.clip_and_reference.specs.Groups.{GroupFaulty, GroupTo, PlacedSegment, ValuePart, basesStart, groupsRead, inFront, placedFrom, readBefore, segmentsPlaced, segmentsRead}
 
 -- ---- group by group
@@ -54,12 +53,32 @@ module _ (s : List ℕ) where
   pub placed-count : (at : ℕ) → length (segmentsPlaced s at) ≡ length (segmentsRead s at)
   placed-count at = sym (length-map (segmentsPlaced s at) (λ p. p .segment)) ∙ ap length (placed-segments at)
 
+  -- the bases of the group with this number, from 0, begin in the third line of its three
+  bases-from : (gs : List ReferenceSegment) (at k : ℕ) (d : PlacedSegment) → k < length gs
+      → getD (placedFrom s at gs) k d .basesAt ≡ basesStart s (lineStart s at (3 * k))
+  unfolding placedFrom lineStart
+  bases-from [] at k d h = absurd (omega arith)
+  bases-from (g ∷ gs) at zero d h = refl
+  bases-from (g ∷ gs) at (suc k) d h =
+      let three : 3 * suc k ≡ suc (suc (suc (3 * k))) = omega arith in
+      rw three (bases-from gs (lineStart s at 3) k d (omega arith))
+
+  pub bases-at : (k : ℕ) (d : PlacedSegment) → k < length (segmentsRead s 0)
+      → getD (segmentsPlaced s 0) k d .basesAt ≡ basesStart s (lineStart s 0 (3 * k))
+  unfolding segmentsPlaced
+  bases-at k d h = bases-from (segmentsRead s 0) 0 k d h
+
 -- ---- the bases stand there
 
 -- the bases of a placed segment are a part of the text from that place on
 pub record BasesStand (s : List ℕ) (p : PlacedSegment) : Type 0 where
   pub basesEnd : ℕ
   pub bases : p .segment .bases ≡ between s (p .basesAt) basesEnd
+
+-- letters are read as they stand
+letters-themselves : (w v : List ℕ) → lettersOf maxNumber w ≡ some v → w ≡ v
+unfolding lettersOf
+letters-themselves w v e = after-only-if _ _ e λ t p. p
 
 module _ (s : List ℕ) (at : ℕ) (g : ReferenceSegment) where
   -- a group that reads has its bases in the third line, and the lines behind it begin at the fourth
@@ -73,7 +92,7 @@ module _ (s : List ℕ) (at : ℕ) (g : ReferenceSegment) where
       after-bind _ _ (or-refused-back 1 _ e) λ value v w. after-bind _ _ v λ line there key.
       let stands = line-stands s 2 at (sym (getD-take 3 (linesOf (drop at s)) 2 none (omega arith)) ∙ there) in
       let cut = behind-key s (keyOf "bases") (lineStart s at 2) (lineEnd s (lineStart s at 2)) (rw (stands .is) at key) in
-      record { bases = sym same ∙ sym (letters-itself _ _ w) ∙ cut; rest = stands .rest }
+      record { bases = sym same ∙ sym (letters-themselves _ _ w) ∙ cut; rest = stands .rest }
 
   group-stands : segmentOf (take 3 (linesOf (drop at s))) ≡ accepted g → GroupStands
   unfolding segmentOf

@@ -6,7 +6,7 @@ use lib.Dec.{leb}
 use lib.ListN.{drop, length, take}
 use mathlib.Core.Bool.{_&&_, and-false, false}
 use mathlib.Core.List.{List}
-use mathlib.Core.Option.{Option, some}
+use mathlib.Core.Option.{Option}
 use mathlib.Core.Path.{_≡_, refl}
 use native.Mathlib.Omega.{arith}
 use Rattle.definitions.specs.Alleles.{lettersOf}
@@ -16,39 +16,22 @@ use Rattle.definitions.specs.Lines.{Line, keyOf, lineAt, linesOf}
 use Rattle.definitions.specs.Numbers.{maxNumber, name, number}
 use Rattle.kv_text.proofs.Groups.{behind-next, behind-start, line-read, line-unread}
 use Rattle.kv_text.proofs.Lines.{line-ends, line-within}
-use Rattle.kv_text.proofs.Places.{value-start}
 use Rattle.kv_text.specs.Fields.{between}
-use Rattle.kv_text.specs.Lines.{Behind, LineReads, lineStart, readTo, unread}
+use Rattle.kv_text.specs.Lines.{Behind, LineReads, ValueStands, lineStart, readTo, unread}
 use Rattle.laws.proofs.Checked.{not-required, required, then, then-refused}
-use Rattle.laws.proofs.Tests.{after-only-if, both}
+use Rattle.laws.proofs.Tests.{both}
 use Rattle.clip_and_reference.specs.Groups.{GroupFaulty, GroupTo, ValuePart}
 
 -- ---- the value of a line, as a part of the text
 
--- a name, and letters, are read as they stand
-name-itself : (w v : List ℕ) → name w ≡ some v → w ≡ v
-unfolding name
-name-itself w v e = after-only-if _ _ e λ t p. p
-
-pub letters-itself : (w v : List ℕ) → lettersOf maxNumber w ≡ some v → w ≡ v
-unfolding lettersOf
-letters-itself w v e = after-only-if _ _ e λ t p. p
-
-module _ (s : List ℕ) (at : ℕ) (key : List ℕ) (a e : ℕ) where
-  part-read : (read : List ℕ → Option (List ℕ)) → ((w v : List ℕ) → read w ≡ some v → w ≡ v)
-      → LineReads s at key read (readTo (between s a e) e) → a ≤ e → ValuePart s at key a e
-  part-read read itself l h = record {
-    begins = value-start s at key read a e itself l h;
-    ends = line-ends s at key read _ e l;
-    forward = h;
-    within = omega (arith, line-within s at key read _ e l);
-  }
-
-  pub name-part : LineReads s at key name (readTo (between s a e) e) → a ≤ e → ValuePart s at key a e
-  name-part = part-read name name-itself
-
-  pub letters-part : LineReads s at key (lettersOf maxNumber) (readTo (between s a e) e) → a ≤ e → ValuePart s at key a e
-  letters-part = part-read (lettersOf maxNumber) letters-itself
+pub part-read : {A : Type 0} (s : List ℕ) (at : ℕ) (key : List ℕ) (read : List ℕ → Option A) (v : A) (a e : ℕ)
+    → LineReads s at key read (readTo v e) → ValueStands at key a e → ValuePart s at key a e
+part-read s at key read v a e l stands = record {
+  begins = stands .begins;
+  ends = line-ends s at key read v e l;
+  forward = stands .forward;
+  within = omega (arith, line-within s at key read v e l);
+}
 
 -- ---- the two kinds of groups
 

@@ -2,22 +2,23 @@
 use Prim.Native.Nat.{_*_, _+_, _<_, _≤_, ℕ}
 use borrow.Author.Tests.{le-leb, leb-true}
 use lib.Dec.{leb}
-use lib.ListN.{getD, length, length-append, length-map, length-set, set}
+use lib.ListN.{List·getD-append, getD, length, length-append, length-map, length-set, set}
 use lib.Seq.{getD-set-other, getD-set-same, length-sets, sets}
 use mathlib.Core.Bool.{Bool, cond, false, true}
 use mathlib.Core.List.{List, [], _++_, _∷_, append-assoc, map, map-append, map-map}
 use mathlib.Core.Path.{_∙_, _≡_, ap, refl, sym}
+use native.Mathlib.Nat.{zero-add}
 use native.Mathlib.Omega.{arith}
 use Rattle.clip_and_reference.proofs.Groups.{read-group}
-use Rattle.clip_and_reference.proofs.Places.{placed-count, placed-group, placed-segments}
-use Rattle.clip_and_reference.specs.Groups.{GroupTo, PlacedSegment, ValuePart, segmentsPlaced, segmentsRead, spansRead}
+use Rattle.clip_and_reference.proofs.Places.{bases-at, placed-count, placed-group, placed-segments}
+use Rattle.clip_and_reference.specs.Groups.{GroupTo, PlacedSegment, ValuePart, basesStart, segmentsPlaced, segmentsRead, spansRead}
 use Rattle.definitions.specs.ClipAndReference.{segmentOf, spanOf}
 use Rattle.definitions.specs.Lines.{keyOf}
 use Rattle.definitions.specs.Lists.{numbersFrom}
 use Rattle.kv_text.specs.Fields.{between}
 use Rattle.kv_text.specs.Lines.{lineStart}
 use Rattle.laws.proofs.Members.{length-numbers}
-use Rattle.tables.proofs.Stored.{get-before, get-behind, get-here, map-same, one-more}
+use Rattle.tables.proofs.Stored.{get-before, get-behind, get-here, map-numbers, map-same, one-more}
 use Rattle.tables.specs.Tables.{segmentAt, segmentColumn, segmentCount, segmentsNext, spanAt, spanColumn}
 use Rattle.indexed_groups.specs.Indexed.{GroupsIndexed, GroupsStored, OnlyBetween, SegmentsGiven, SegmentsIndexed, SegmentsOnly, SegmentsStored, SpansGiven, SpansIndexed, SpansOnly, SpansStored, placedAt, rowsFor}
 
@@ -207,6 +208,20 @@ segments-split reference rows x =
     sym (placed-segments reference 0) ∙ ap (map (λ (p : PlacedSegment). p .segment)) (x .split)
     ∙ map-append (λ (p : PlacedSegment). p .segment) (map (placedAt reference rows) (numbersFrom 0 (segmentCount rows))) _
     ∙ rw (row-segments, placed-segments reference (segmentsNext rows))
+
+-- for readers: column 3 of a row is where the bases of the group with its number begin
+pub bases-column : (reference rows : List ℕ) → SegmentsIndexed reference rows → (k : ℕ) → k < segmentCount rows
+    → segmentColumn 3 rows k ≡ basesStart reference (lineStart reference 0 (3 * k))
+unfolding placedAt
+bases-column reference rows x k h =
+    let count = segmentCount rows in
+    let d = placedAt reference rows 0 in
+    let many = length-map (numbersFrom 0 count) (placedAt reference rows) ∙ length-numbers 0 count in
+    let below : k < length (segmentsRead reference 0) = omega (arith, all-long (segmentsPlaced reference) x, placed-count reference 0) in
+    let here : getD (segmentsPlaced reference 0) k d ≡ placedAt reference rows k =
+    ap (λ (l : List PlacedSegment). getD l k d) (x .split) ∙ List·getD-append (map (placedAt reference rows) (numbersFrom 0 count)) _ d k (omega arith)
+    ∙ map-numbers (placedAt reference rows) d 0 count k h ∙ rw (zero-add k) in
+    ap (λ (p : PlacedSegment). p .basesAt) (sym here) ∙ bases-at reference k d below
 
 -- rows for spans leave the segments indexed
 pub segments-still : (reference rows after : List ℕ) → SpansOnly rows after → SegmentsIndexed reference rows → SegmentsIndexed reference after

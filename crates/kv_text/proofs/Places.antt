@@ -1,19 +1,17 @@
--- Where lines and their values stand in a text, by the definitions alone and by what a reader of a line says.
+-- Where the lines of a text stand, and how long a part of it is.
 use Prim.Native.Nat.{_+_, _-_, _<_, _≤_, suc, zero, ℕ}
 use lib.ListN.{drop, getD, length, length-drop, length-take}
-use mathlib.Core.List.{List, _∷_}
-use mathlib.Core.Option.{Option, bind, none, some}
-use mathlib.Core.Path.{_∙_, _≡_, ap, refl, sym}
+use mathlib.Core.List.{List}
+use mathlib.Core.Option.{none, some}
+use mathlib.Core.Path.{_∙_, _≡_, refl, sym}
 use native.Mathlib.Decide.{decLt}
 use native.Mathlib.Omega.{arith}
-use Rattle.definitions.specs.Bytes.{lineFeed, stripPrefix}
-use Rattle.definitions.specs.Lines.{linesOf, valueOf}
-use Rattle.laws.proofs.Bytes.{strip-prefix-back}
-use Rattle.laws.proofs.Tests.{after-bind, not-none, some-same}
-use Rattle.kv_text.proofs.Fields.{field-forward}
+use Rattle.definitions.specs.Bytes.{lineFeed}
+use Rattle.definitions.specs.Lines.{linesOf}
+use Rattle.laws.proofs.Tests.{not-none, some-same}
 use Rattle.kv_text.proofs.Lines.{no-line, the-lines}
 use Rattle.kv_text.specs.Fields.{between}
-use Rattle.kv_text.specs.Lines.{LineReads, lineEnd, lineStart, lineValue, readTo}
+use Rattle.kv_text.specs.Lines.{lineEnd, lineStart}
 
 -- ---- the line with an index, from an offset on
 
@@ -41,21 +39,6 @@ module _ (s : List ℕ) where
           record { is = w .is; ended = w .ended; rest = rw cut (w .rest) }
       go (no h) later = not-none (sym (no-line s at (lineEnd s at) refl (omega arith) (suc k)) ∙ e)
 
--- ---- the value of a line
-
 -- how long a part of a text is
 pub part-long : (s : List ℕ) (a e : ℕ) → a ≤ e → e ≤ length s → a + length (between s a e) ≡ e
 part-long s a e h l = omega (arith, length-take (e - a) (drop a s), length-drop a s)
-
--- A value that is read as it stands, from a to just before its line's LF, begins behind the key.
-pub value-start : (s : List ℕ) (at : ℕ) (key : List ℕ) (read : List ℕ → Option (List ℕ)) (a e : ℕ)
-    → ((w v : List ℕ) → read w ≡ some v → w ≡ v)
-    → LineReads s at key read (readTo (between s a e) e) → a ≤ e → a ≡ at + length key
-unfolding LineReads lineValue valueOf bind lineEnd lineFeed
-value-start s at key read a e itself l h =
-    let value = rw (the-lines s at e (l .ends) (l .within)) at (l .value) in
-    after-bind (stripPrefix key (between s at e)) read value λ w p q.
-    let (cut, fits) = strip-prefix-back key (between s at e) w p in
-    let kept : length key + length (between s a e) ≡ length (between s at e) =
-    omega (arith, fits, ap length (sym (itself w (between s a e) q) ∙ cut), length-drop (length key) (between s at e)) in
-    omega (arith, part-long s a e h (omega (arith, l .within)), part-long s at e (l .forward) (omega (arith, l .within)))

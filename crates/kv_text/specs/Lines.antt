@@ -62,14 +62,18 @@ abbrev pub valueFound : List ℕ → ValueAt → LineFound (List ℕ)
 valueFound s (value.At a e) = readTo (between s a e) e
 valueFound s value.Absent = unread
 
--- the value stands before its LF
-abbrev pub Ordered : ValueAt → Type 0
-Ordered (value.At a e) = a ≤ e
-Ordered value.Absent = Unit {0}
+-- a value from a on, up to an LF at e, begins behind the key of the line at an offset
+pub record ValueStands (at : ℕ) (key : List ℕ) (a e : ℕ) : Type 0 where
+  pub begins : a ≡ at + length key
+  pub forward : a ≤ e
+
+abbrev pub Placed : ℕ → List ℕ → ValueAt → Type 0
+Placed at key (value.At a e) = ValueStands at key a e
+Placed at key value.Absent = Unit {0}
 
 -- the value of the line at an offset, with this key
 abbrev pub ValueRead : List ℕ → ℕ → List ℕ → ValueAt → Type 0
-ValueRead s at key v = LineReads s at key some (valueFound s v) × Ordered v
+ValueRead s at key v = LineReads s at key some (valueFound s v) × Placed at key v
 
 -- where a value stands that begins there, with its line's LF just before `next`
 abbrev pub valueBefore : ValueStart → ℕ → ValueAt

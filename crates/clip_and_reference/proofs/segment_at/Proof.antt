@@ -5,7 +5,7 @@ use lib.ListN.{length}
 use mathlib.Core.List.{List}
 use mathlib.Core.Path.{_≡_}
 use native.Mathlib.Omega.{arith}
-use Rattle.clip_and_reference.proofs.ThreeLines.{first-unread, group-read, letters-part, name-part, number-zero, out-of-order, referenceGroup, second-unread, third-start, third-unread, threeLines}
+use Rattle.clip_and_reference.proofs.ThreeLines.{first-unread, group-read, number-zero, out-of-order, part-read, referenceGroup, second-unread, third-start, third-unread, threeLines}
 use Rattle.clip_and_reference.specs.Groups.{SegmentRead}
 use Rattle.definitions.specs.Alleles.{lettersOf}
 use Rattle.definitions.specs.Bytes.{text}
@@ -110,14 +110,14 @@ sub-if2 : tie.Need-sub-if2
 sub-if2 c = let n = rw (c .before .before .letters .given .1) at (c .before .before .before .before .letters-line .ensures) in omega (arith, n .1)
 
 add-if2 : tie.Need-add-if2
-add-if2 c = let n = rw (c .before .before .letters .given .1) at (c .before .before .before .before .letters-line .ensures) in omega (arith, few _ _ _ _ _ (n .0) (n .1))
+add-if2 c = let n = rw (c .before .before .letters .given .1) at (c .before .before .before .before .letters-line .ensures) in omega (arith, few _ _ _ _ _ (n .0) (n .1 .forward))
 
 returns-5 : tie.Need-returns-5
 unfolding keyOf text SegmentRead segmentOf threeLines
 returns-5 c = let l = rw (c .before .before .before .before .before .before .before .before .before .before .before .before .before .name .given .1) at (c .before .before .before .before .before .before .before .before .before .before .before .before .before .before .before .name-line .ensures) in
     let m = rw (c .before .before .before .before .before .before .before .before .from .given .1) at (c .before .before .before .before .before .before .before .before .before .before .number-line .ensures) in
     let n = rw (c .before .before .before .letters .given .1) at (c .before .before .before .before .before .letters-line .ensures) in
-    out-of-order referenceGroup _ _ _ _ (l .0) _ _ m _ _ (n .0) (past-the-end _ _ _ _ _ (n .0) (n .1) _ (omega (arith, c .if2 .taken)))
+    out-of-order referenceGroup _ _ _ _ (l .0) _ _ m _ _ (n .0) (past-the-end _ _ _ _ _ (n .0) (n .1 .forward) _ (omega (arith, c .if2 .taken)))
 
 add-next : tie.Need-add-next
 add-next c =
@@ -141,10 +141,10 @@ returns-6 c =
     let m = rw (at-from .from .given .1) at (at-from .before .before .number-line .ensures) in
     let n = rw (at-letters .letters .given .1) at (at-letters .before .before .letters-line .ensures) in
     let read = group-read referenceGroup _ _ _ _ (l .0) _ _ m _ _ (n .0) (omega (arith, at-ifs .before .if1 .left))
-    (not-past _ _ _ _ _ (n .0) (n .1) _ (omega (arith, at-ifs .if2 .left))) in (
+    (not-past _ _ _ _ _ (n .0) (n .1 .forward) _ (omega (arith, at-ifs .if2 .left))) in (
       rw (c .new-1based .ensures) read,
-      name-part _ _ _ _ _ (l .0) (l .1),
-      rw (← third-start referenceGroup _ _ _ _ (l .0) _ _ m) (letters-part _ _ _ _ _ (n .0) (n .1)),
+      part-read _ _ _ name _ _ _ (l .0) (l .1),
+      rw (← third-start referenceGroup _ _ _ _ (l .0) _ _ m) (part-read _ _ _ (lettersOf maxNumber) _ _ _ (n .0) (n .1)),
     )
 
 pub segment-at-spec : {M : Type 1} → statement M
