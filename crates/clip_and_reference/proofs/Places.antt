@@ -1,9 +1,9 @@
 -- Where the bases of reference groups stand: group by group as the text is read, and that they do stand there.
-use Prim.Native.Nat.{_*_, _+_, _<_, _≤_, suc, zero, ℕ}
+use Prim.Native.Nat.{_*_, _<_, _≤_, suc, zero, ℕ}
 use lib.ListN.{drop, getD, length, length-map, take}
 use lib.Seq.{getD-take}
 use mathlib.Core.List.{List, [], _∷_, map}
-use mathlib.Core.Option.{bind, none, some}
+use mathlib.Core.Option.{none, some}
 use mathlib.Core.Path.{_∙_, _≡_, ap, refl, sym}
 use native.Mathlib.Omega.{arith}
 use Rattle.definitions.specs.Alleles.{lettersOf}

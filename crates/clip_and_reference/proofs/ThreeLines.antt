@@ -16,7 +16,6 @@ use Rattle.definitions.specs.Lines.{Line, keyOf, lineAt, linesOf}
 use Rattle.definitions.specs.Numbers.{maxNumber, name, number}
 use Rattle.kv_text.proofs.Groups.{behind-next, behind-start, line-read, line-unread}
 use Rattle.kv_text.proofs.Lines.{line-ends, line-within}
-use Rattle.kv_text.specs.Fields.{between}
 use Rattle.kv_text.specs.Lines.{Behind, LineReads, ValueStands, lineStart, readTo, unread}
 use Rattle.laws.proofs.Checked.{not-required, required, then, then-refused}
 use Rattle.laws.proofs.Tests.{both}

@@ -9,7 +9,7 @@ use mathlib.Core.Path.{_∙_, _≡_, ap, refl, sym}
 use native.Mathlib.Nat.{sub-zero}
 use native.Mathlib.Omega.{arith}
 use Rattle.clip_and_reference.proofs.Places.{BasesStand, bases-stand, placed-end, placed-faulty, placed-group, placed-segments}
-use Rattle.clip_and_reference.specs.Groups.{GroupFaulty, GroupTo, PlacedSegment, ValuePart, segmentsPlaced, segmentsRead}
+use Rattle.clip_and_reference.specs.Groups.{GroupFaulty, GroupTo, PlacedSegment, ValuePart, segmentsPlaced}
 use Rattle.definitions.specs.Bytes.{sameBytes}
 use Rattle.definitions.specs.ClipAndReference.{ReferenceSegment, segmentHolds, segmentOf}
 use Rattle.definitions.specs.Lines.{keyOf}
