@@ -1,2 +1,3 @@
 pub mod Groups
 pub mod ThreeLines
+pub mod Places

@@ -3,7 +3,7 @@ use Prim.Native.Nat.{_+_, _-_, _<_, _≤_, ℕ}
 use Prim.Native.String.{String}
 use borrow.Author.Tests.{le-leb, lt-leb}
 use lib.Dec.{leb}
-use lib.ListN.{drop, length, length-drop, length-take, take}
+use lib.ListN.{drop, length, take}
 use mathlib.Core.Bool.{_&&_, and-false, false}
 use mathlib.Core.List.{List}
 use mathlib.Core.Option.{Option}
@@ -15,19 +15,22 @@ use Rattle.definitions.specs.ClipAndReference.{ReferenceSegment, Span}
 use Rattle.definitions.specs.Lines.{Line, keyOf, lineAt, linesOf}
 use Rattle.definitions.specs.Numbers.{maxNumber, name, number}
 use Rattle.kv_text.proofs.Groups.{behind-next, behind-start, line-read, line-unread}
-use Rattle.kv_text.specs.Fields.{between}
-use Rattle.kv_text.specs.Lines.{Behind, LineReads, readTo, unread}
+use Rattle.kv_text.proofs.Lines.{line-ends, line-within}
+use Rattle.kv_text.specs.Lines.{Behind, LineReads, ValueStands, lineStart, readTo, unread}
 use Rattle.laws.proofs.Checked.{not-required, required, then, then-refused}
 use Rattle.laws.proofs.Tests.{both}
-use Rattle.clip_and_reference.specs.Groups.{GroupFaulty, GroupTo, PartOf}
+use Rattle.clip_and_reference.specs.Groups.{GroupFaulty, GroupTo, ValuePart}
 
 -- ---- the value of a line, as a part of the text
 
-pub part-of : {s : List ℕ} {a e : ℕ} → a ≤ e → e < length s → PartOf s a e
-part-of h l = record { forward = h; within = omega arith }
-
-pub part-length : (s : List ℕ) (a e : ℕ) → PartOf s a e → length (between s a e) ≡ e - a
-part-length s a e p = simp (length-take, length-drop) (omega (arith, p .forward, p .within))
+pub part-read : {A : Type 0} (s : List ℕ) (at : ℕ) (key : List ℕ) (read : List ℕ → Option A) (v : A) (a e : ℕ)
+    → LineReads s at key read (readTo v e) → ValueStands at key a e → ValuePart s at key a e
+part-read s at key read v a e l stands = record {
+  begins = stands .begins;
+  ends = line-ends s at key read v e l;
+  forward = stands .forward;
+  within = omega (arith, line-within s at key read v e l);
+}
 
 -- ---- the two kinds of groups
 
@@ -94,6 +97,11 @@ module _ {A B : Type 0} (k : Kind A B) (s : List ℕ) (at : ℕ) where
       two : Behind s at 2 (e₂ + 1)
       two = behind-next one (k .second) number n e₂ l₂
 
+      -- the third line begins there
+      pub third-start : e₂ + 1 ≡ lineStart s at 2
+      unfolding LineReads lineStart
+      third-start = rw (← l₁ .ends, ← l₂ .ends)
+
       second-read : lineAt group 1 (k .second) number ≡ accepted n
       second-read = line-read one (k .second) number 3 (omega arith) n e₂ l₂
 
@@ -120,12 +128,13 @@ module _ {A B : Type 0} (k : Kind A B) (s : List ℕ) (at : ℕ) where
         out-of-order h = test-failed (rw (lt-leb (k .lower n b) (k .upper n b) h, and-false))
 
         pub group-read : 1 ≤ n → k .lower n b ≤ k .upper n b → GroupTo s at (threeLines k) (k .make contig n b) (e₃ + 1)
-        unfolding threeLines LineReads
+        unfolding threeLines LineReads lineStart
         group-read h o =
             let t = both (le-leb 1 n h) (le-leb (k .lower n b) (k .upper n b) o) in
             record {
               value = then _ _ first-read (then _ _ second-read (then _ _ third-read (required _ _ _ t refl)));
               rest = three .lines;
+              ends = rw (← l₁ .ends, ← l₂ .ends, ← l₃ .ends);
               forward = omega (arith, l₁ .forward, l₂ .forward, l₃ .forward);
               within = omega (arith, l₃ .within);
             }

@@ -1,13 +1,14 @@
 -- What reading the group of three lines at an offset of clip.kv or reference.kv finds.
-use Prim.Native.Nat.{_<_, _≤_, ℕ}
+use Prim.Native.Nat.{_+_, _<_, _≤_, ℕ}
 use lib.ListN.{drop, length, take}
 use mathlib.Core.List.{List, [], _∷_}
 use mathlib.Core.Path.{_≡_}
 use Rattle.definitions.specs.Checked.{Checked, accepted, readEach, refused}
 use Rattle.definitions.specs.ClipAndReference.{ReferenceSegment, Span, segmentOf, spanOf}
-use Rattle.definitions.specs.Lines.{Line, linesOf}
+use Rattle.definitions.specs.Lines.{Line, keyOf, linesOf}
 use Rattle.definitions.specs.Lists.{groupsOf}
 use Rattle.kv_text.specs.Fields.{between}
+use Rattle.kv_text.specs.Lines.{lineEnd, lineStart}
 use Rattle.clip_and_reference.specs.declared.SegmentAt.{SegmentAt}
 use Rattle.clip_and_reference.specs.declared.SegmentAt.the-variants as segment
 use Rattle.clip_and_reference.specs.declared.SpanAt.{SpanAt}
@@ -17,10 +18,11 @@ use Rattle.clip_and_reference.specs.declared.SpanAt.the-variants as span
 abbrev pub GroupFaulty : {A : Type 0} → List ℕ → ℕ → (List Line → Checked A) → Type 0
 GroupFaulty s at read = (n : ℕ) × (read (take 3 (linesOf (drop at s))) ≡ refused n)
 
--- they read as this, and the lines behind them are those from `next` on
+-- they read as this, and the lines behind them are those from `next` on, where the fourth line begins
 pub record GroupTo {A : Type 0} (s : List ℕ) (at : ℕ) (read : List Line → Checked A) (a : A) (next : ℕ) : Type 0 where
   pub value : read (take 3 (linesOf (drop at s))) ≡ accepted a
   pub rest : drop 3 (linesOf (drop at s)) ≡ linesOf (drop next s)
+  pub ends : next ≡ lineStart s at 3
   pub forward : at < next
   pub within : next ≤ length s
 
@@ -60,10 +62,32 @@ SpansFrom = GroupsFrom spanOf
 abbrev pub SegmentsFrom : List ℕ → ℕ → List ReferenceSegment → Type 0
 SegmentsFrom = GroupsFrom segmentOf
 
+-- ---- where the bases of segments stand
+
+-- where the bases of the reference group at an offset begin: in its third line, behind the key
+unfoldable pub basesStart : List ℕ → ℕ → ℕ
+basesStart s at = lineStart s at 2 + length (keyOf "bases")
+
+-- a segment, and where its bases begin in the reference text
+pub record PlacedSegment : Type 0 where
+  pub segment : ReferenceSegment
+  pub basesAt : ℕ
+
+-- the segments of groups that stand one behind the other from an offset on, three lines each
+unfoldable pub placedFrom : List ℕ → ℕ → List ReferenceSegment → List PlacedSegment
+placedFrom s at [] = []
+placedFrom s at (g ∷ gs) = record { segment = g; basesAt = basesStart s at } ∷ placedFrom s (lineStart s at 3) gs
+
+-- those of the groups from an offset on, up to the first faulty one
+unfoldable pub segmentsPlaced : List ℕ → ℕ → List PlacedSegment
+segmentsPlaced s at = placedFrom s at (segmentsRead s at)
+
 -- ---- one group
 
--- a part of a text
-pub record PartOf (s : List ℕ) (a e : ℕ) : Type 0 where
+-- the part of a text that is the value in the line at an offset: from behind the key to the line's end
+pub record ValuePart (s : List ℕ) (at : ℕ) (key : List ℕ) (a e : ℕ) : Type 0 where
+  pub begins : a ≡ at + length key
+  pub ends : e ≡ lineEnd s at
   pub forward : a ≤ e
   pub within : e ≤ length s
 
@@ -72,10 +96,10 @@ unfoldable pub SpanRead : List ℕ → ℕ → SpanAt → Type 0
 SpanRead s at span.Faulty = GroupFaulty s at spanOf
 SpanRead s at (span.Span contigAt contigEnd loc next) =
     GroupTo s at spanOf (record { contig = between s contigAt contigEnd; start = loc .start .0; end = loc .end .0 }) next
-    × PartOf s contigAt contigEnd
+    × ValuePart s at (keyOf "contig") contigAt contigEnd
 
 unfoldable pub SegmentRead : List ℕ → ℕ → SegmentAt → Type 0
 SegmentRead s at segment.Faulty = GroupFaulty s at segmentOf
 SegmentRead s at (segment.Segment contigAt contigEnd first basesAt basesEnd next) =
     GroupTo s at segmentOf (record { contig = between s contigAt contigEnd; first = first .0; bases = between s basesAt basesEnd }) next
-    × PartOf s contigAt contigEnd × PartOf s basesAt basesEnd
+    × ValuePart s at (keyOf "contig") contigAt contigEnd × ValuePart s (lineStart s at 2) (keyOf "bases") basesAt basesEnd

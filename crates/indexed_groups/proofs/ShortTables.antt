@@ -4,20 +4,18 @@ use lib.ListN.{length}
 use mathlib.Core.List.{List}
 use mathlib.Core.Path.{refl}
 use native.Mathlib.Omega.{arith}
-use Rattle.definitions.specs.Checked.{Checked}
-use Rattle.definitions.specs.Lines.{Line}
 use Rattle.definitions.specs.Lists.{numbersFrom}
 use Rattle.tables.proofs.Parts.{getD-past}
 use Rattle.tables.specs.Tables.{countsAt}
 use Rattle.indexed_groups.specs.Indexed.{GroupsIndexed, SegmentsIndexed, SpansIndexed}
 
-none-indexed : {A : Type 0} (read : List Line → Checked A) (s : List ℕ) (rowAt : ℕ → A) → GroupsIndexed read s rowAt 0 0
+none-indexed : {A : Type 0} (groups : ℕ → List A) (rowAt : ℕ → A) → GroupsIndexed groups rowAt 0 0
 unfolding numbersFrom
-none-indexed read s rowAt = record { few = omega arith; split = refl }
+none-indexed groups rowAt = record { few = omega arith; split = refl }
 
 module _ (s rows : List ℕ) (short : length rows ≤ countsAt) where
   pub no-segment-rows : SegmentsIndexed s rows
-  no-segment-rows = rw (getD-past rows 99328 (omega arith), getD-past rows 99330 (omega arith)) (none-indexed _ s _)
+  no-segment-rows = rw (getD-past rows 99328 (omega arith), getD-past rows 99330 (omega arith)) (none-indexed _ _)
 
   pub no-span-rows : SpansIndexed s rows
-  no-span-rows = rw (getD-past rows 99329 (omega arith), getD-past rows 99331 (omega arith)) (none-indexed _ s _)
+  no-span-rows = rw (getD-past rows 99329 (omega arith), getD-past rows 99331 (omega arith)) (none-indexed _ _)

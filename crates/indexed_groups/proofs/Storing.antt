@@ -2,38 +2,39 @@
 use Prim.Native.Nat.{_*_, _+_, _<_, _≤_, ℕ}
 use borrow.Author.Tests.{le-leb, leb-true}
 use lib.Dec.{leb}
-use lib.ListN.{getD, length, length-append, length-map, length-set, set}
+use lib.ListN.{List·getD-append, getD, length, length-append, length-map, length-set, set}
 use lib.Seq.{getD-set-other, getD-set-same, length-sets, sets}
 use mathlib.Core.Bool.{Bool, cond, false, true}
-use mathlib.Core.List.{List, [], _++_, _∷_, append-assoc, map}
+use mathlib.Core.List.{List, [], _++_, _∷_, append-assoc, map, map-append, map-map}
 use mathlib.Core.Path.{_∙_, _≡_, ap, refl, sym}
+use native.Mathlib.Nat.{zero-add}
 use native.Mathlib.Omega.{arith}
-use Rattle.clip_and_reference.proofs.Groups.{read-faulty, read-group}
-use Rattle.clip_and_reference.specs.Groups.{GroupFaulty, GroupTo, groupsRead}
-use Rattle.definitions.specs.Checked.{Checked}
+use Rattle.clip_and_reference.proofs.Groups.{read-group}
+use Rattle.clip_and_reference.proofs.Places.{bases-at, placed-count, placed-group, placed-segments}
+use Rattle.clip_and_reference.specs.Groups.{GroupTo, PlacedSegment, ValuePart, basesStart, segmentsPlaced, segmentsRead, spansRead}
 use Rattle.definitions.specs.ClipAndReference.{segmentOf, spanOf}
-use Rattle.definitions.specs.Lines.{Line}
+use Rattle.definitions.specs.Lines.{keyOf}
 use Rattle.definitions.specs.Lists.{numbersFrom}
 use Rattle.kv_text.specs.Fields.{between}
+use Rattle.kv_text.specs.Lines.{lineStart}
 use Rattle.laws.proofs.Members.{length-numbers}
-use Rattle.tables.proofs.Stored.{get-before, get-behind, get-here, map-same, one-more}
-use Rattle.clip_and_reference.specs.Groups.{segmentsRead, spansRead}
-use Rattle.tables.specs.Tables.{segmentAt, segmentColumn, spanAt, spanColumn}
-use Rattle.indexed_groups.specs.Indexed.{GroupsIndexed, GroupsStored, OnlyBetween, SegmentsGiven, SegmentsIndexed, SegmentsOnly, SegmentsStored, SpansGiven, SpansIndexed, SpansOnly, SpansStored, rowsFor}
+use Rattle.tables.proofs.Stored.{get-before, get-behind, get-here, map-numbers, map-same, one-more}
+use Rattle.tables.specs.Tables.{segmentAt, segmentColumn, segmentCount, segmentsNext, spanAt, spanColumn}
+use Rattle.indexed_groups.specs.Indexed.{GroupsIndexed, GroupsStored, OnlyBetween, SegmentsGiven, SegmentsIndexed, SegmentsOnly, SegmentsStored, SpansGiven, SpansIndexed, SpansOnly, SpansStored, placedAt, rowsFor}
 
 -- ---- rows
 
 -- groups have the same rows in a table whose rows are the same
-pub indexed-same : {A : Type 0} {read : List Line → Checked A} {s : List ℕ} {f g : ℕ → A} {count next : ℕ}
-    → ((i : ℕ) → i < count → f i ≡ g i) → GroupsIndexed read s f count next → GroupsIndexed read s g count next
-indexed-same {read = read} {s = s} {f = f} {g = g} {count = count} {next = next} same x = record {
+pub indexed-same : {A : Type 0} {groups : ℕ → List A} {f g : ℕ → A} {count next : ℕ}
+    → ((i : ℕ) → i < count → f i ≡ g i) → GroupsIndexed groups f count next → GroupsIndexed groups g count next
+indexed-same {groups = groups} {f = f} {g = g} {count = count} {next = next} same x = record {
   few = x .few;
-  split = x .split ∙ ap (λ (l : List _). l ++ groupsRead read s next) (map-same f g 0 count (λ i h. same i (omega arith)));
+  split = x .split ∙ ap (λ (l : List _). l ++ groups next) (map-same f g 0 count (λ i h. same i (omega arith)));
 }
 
-module _ {A : Type 0} (read : List Line → Checked A) (s : List ℕ) (rowAt : List ℕ → ℕ → A) (from : ℕ) where
+module _ {A : Type 0} (groups : ℕ → List A) (rowAt : List ℕ → ℕ → A) (from : ℕ) where
   abbrev Storing : ℕ → List ℕ → List ℕ → ℕ → ℕ → Type 0
-  Storing to = GroupsStored read s rowAt from to
+  Storing to = GroupsStored groups rowAt from to
 
   pub none-stored : (to : ℕ) (rows : List ℕ) → Storing to rows rows 0 0
   unfolding numbersFrom
@@ -44,7 +45,7 @@ module _ {A : Type 0} (read : List Line → Checked A) (s : List ℕ) (rowAt : L
 
   -- one group more
   pub stored-more : {to to′ : ℕ} {rows₀ rows after : List ℕ} {count at next : ℕ} {g : A} → from ≤ to → to ≤ to′
-      → Storing to rows₀ rows count at → count < 1024 → GroupTo s at read g next
+      → Storing to rows₀ rows count at → count < 1024 → groups at ≡ g ∷ groups next
       → OnlyBetween to to′ rows after → ((i : ℕ) → i < count → rowAt rows i ≡ rowAt after i) → rowAt after count ≡ g
       → Storing to′ rows₀ after (count + 1) next
   stored-more {rows = rows} {after = after} {count = count} {next = next} {g = g} low high inv few group only same here = record {
@@ -53,35 +54,40 @@ module _ {A : Type 0} (read : List Line → Checked A) (s : List ℕ) (rowAt : L
       before = λ j h. only .before j (omega arith) ∙ inv .only .before j h;
       behind = λ j h. only .behind j h ∙ inv .only .behind j (omega arith);
     };
-    indexed = record { few = omega arith; split = inv .indexed .split ∙ rw (read-group read s group) joined };
+    indexed = record { few = omega arith; split = inv .indexed .split ∙ rw group joined };
   }
     where
-      joined : map (rowAt rows) (numbersFrom 0 count) ++ (g ∷ groupsRead read s next)
-          ≡ map (rowAt after) (numbersFrom 0 (count + 1)) ++ groupsRead read s next
+      joined : map (rowAt rows) (numbersFrom 0 count) ++ (g ∷ groups next)
+          ≡ map (rowAt after) (numbersFrom 0 (count + 1)) ++ groups next
       joined =
           rw (map-same (rowAt rows) (rowAt after) 0 count (λ i h. same i (omega arith)), one-more (rowAt after) count, here)
-          (sym (append-assoc (map (rowAt after) (numbersFrom 0 count)) (g ∷ []) (groupsRead read s next)))
+          (sym (append-assoc (map (rowAt after) (numbersFrom 0 count)) (g ∷ []) (groups next)))
 
 -- how many groups have rows behind the loop
-module _ {A : Type 0} (read : List Line → Checked A) (s : List ℕ) {rowAt : ℕ → A} {count at : ℕ} (x : GroupsIndexed read s rowAt count at) where
-  all-long : length (groupsRead read s 0) ≡ count + length (groupsRead read s at)
+module _ {A : Type 0} (groups : ℕ → List A) {rowAt : ℕ → A} {count at : ℕ} (x : GroupsIndexed groups rowAt count at) where
+  all-long : length (groups 0) ≡ count + length (groups at)
   all-long =
-      ap length (x .split) ∙ length-append (map rowAt (numbersFrom 0 count)) (groupsRead read s at)
-      ∙ ap (λ (n : ℕ). n + length (groupsRead read s at)) (length-map (numbersFrom 0 count) rowAt ∙ length-numbers 0 count)
+      ap length (x .split) ∙ length-append (map rowAt (numbersFrom 0 count)) (groups at)
+      ∙ ap (λ (n : ℕ). n + length (groups at)) (length-map (numbersFrom 0 count) rowAt ∙ length-numbers 0 count)
 
-  pub counted-all : GroupFaulty s at read → count ≡ rowsFor (groupsRead read s 0)
+  pub counted-all : groups at ≡ [] → count ≡ rowsFor (groups 0)
   unfolding rowsFor
   counted-all f =
-      let e : length (groupsRead read s 0) ≡ count = omega (arith, all-long, ap length (read-faulty read s at f)) in
+      let e : length (groups 0) ≡ count = omega (arith, all-long, ap length f) in
       rw (e, le-leb count 1024 (x .few))
 
-  pub counted-most : 1024 ≤ count → count ≡ rowsFor (groupsRead read s 0)
+  pub counted-most : 1024 ≤ count → count ≡ rowsFor (groups 0)
   unfolding rowsFor
-  counted-most h = go (leb (length (groupsRead read s 0)) 1024) refl
+  counted-most h = go (leb (length (groups 0)) 1024) refl
     where
-      go : (b : Bool) → leb (length (groupsRead read s 0)) 1024 ≡ b → count ≡ cond b (length (groupsRead read s 0)) 1024
-      go true e = omega (arith, all-long, leb-true (length (groupsRead read s 0)) 1024 e, x .few)
+      go : (b : Bool) → leb (length (groups 0)) 1024 ≡ b → count ≡ cond b (length (groups 0)) 1024
+      go true e = omega (arith, all-long, leb-true (length (groups 0)) 1024 e, x .few)
       go false e = omega (arith, x .few)
+
+-- as many for the placed segments as for the segments
+pub rows-for-segments : (reference : List ℕ) → rowsFor (segmentsPlaced reference 0) ≡ rowsFor (segmentsRead reference 0)
+unfolding rowsFor
+rows-for-segments reference = rw (placed-count reference 0)
 
 -- ---- a row stored
 
@@ -110,10 +116,11 @@ module _ (reference rows : List ℕ) (count contigAt contigEnd first basesAt bas
 
   pub segment-stored : {rows₀ : List ℕ} {at next : ℕ} → SegmentsStored reference rows₀ rows count at
       → GroupTo reference at segmentOf (record { contig = between reference contigAt contigEnd; first = first; bases = between reference basesAt basesEnd }) next
+      → ValuePart reference (lineStart reference at 2) (keyOf "bases") basesAt basesEnd
       → SegmentsStored reference rows₀ after₅ (count + 1) next
-  unfolding segmentAt
-  segment-stored inv to =
-      stored-more segmentOf reference (segmentAt reference) 90112 (omega arith) (omega arith) inv few to
+  unfolding placedAt segmentAt
+  segment-stored inv to part =
+      stored-more (segmentsPlaced reference) (placedAt reference) 90112 (omega arith) (omega arith) inv few (placed-group reference to part)
       (only-row rows row₅ (90112 + count * 5) (omega arith) (90112 + count * 5) (90112 + (count + 1) * 5) (omega arith) (omega arith))
       (λ i h. rw (
         segment-before 0 i (omega arith) h,
@@ -150,7 +157,7 @@ module _ (clip rows : List ℕ) (count contigAt contigEnd start end : ℕ) (few 
       → SpansStored clip rows₀ after₄ (count + 1) next
   unfolding spanAt
   span-stored inv to =
-      stored-more spanOf clip (spanAt clip) 95232 (omega arith) (omega arith) inv few to
+      stored-more (spansRead clip) (spanAt clip) 95232 (omega arith) (omega arith) inv few (read-group spanOf clip to)
       (only-row rows row₄ (95232 + count * 4) (omega arith) (95232 + count * 4) (95232 + (count + 1) * 4) (omega arith) (omega arith))
       (λ i h. rw (
         span-before 0 i (omega arith) h,
@@ -170,8 +177,8 @@ module _ (clip rows : List ℕ) (count contigAt contigEnd start end : ℕ) (few 
 module _ (rows after : List ℕ) where
   -- segments see no number from the spans' on but their own two
   pub same-segments : (reference : List ℕ) (count : ℕ) → count ≤ 1024 → ((j : ℕ) → j < 95232 → getD after j 0 ≡ getD rows j 0)
-      → (i : ℕ) → i < count → segmentAt reference rows i ≡ segmentAt reference after i
-  unfolding segmentAt segmentColumn
+      → (i : ℕ) → i < count → placedAt reference rows i ≡ placedAt reference after i
+  unfolding placedAt segmentAt segmentColumn
   same-segments reference count few same i h = rw (
     same (90112 + i * 5 + 0) (omega arith),
     same (90112 + i * 5 + 1) (omega arith),
@@ -190,6 +197,31 @@ module _ (rows after : List ℕ) where
     same (95232 + i * 4 + 2) (omega arith) (omega arith),
     same (95232 + i * 4 + 3) (omega arith) (omega arith),
   )
+
+-- of indexed segments: the segments that are read are those of the rows, and behind them those from the stored offset on
+pub segments-split : (reference rows : List ℕ) → SegmentsIndexed reference rows
+    → segmentsRead reference 0
+    ≡ map (segmentAt reference rows) (numbersFrom 0 (segmentCount rows)) ++ segmentsRead reference (segmentsNext rows)
+unfolding placedAt
+segments-split reference rows x =
+    let row-segments = map-map (λ (p : PlacedSegment). p .segment) (placedAt reference rows) (numbersFrom 0 (segmentCount rows)) in
+    sym (placed-segments reference 0) ∙ ap (map (λ (p : PlacedSegment). p .segment)) (x .split)
+    ∙ map-append (λ (p : PlacedSegment). p .segment) (map (placedAt reference rows) (numbersFrom 0 (segmentCount rows))) _
+    ∙ rw (row-segments, placed-segments reference (segmentsNext rows))
+
+-- for readers: column 3 of a row is where the bases of the group with its number begin
+pub bases-column : (reference rows : List ℕ) → SegmentsIndexed reference rows → (k : ℕ) → k < segmentCount rows
+    → segmentColumn 3 rows k ≡ basesStart reference (lineStart reference 0 (3 * k))
+unfolding placedAt
+bases-column reference rows x k h =
+    let count = segmentCount rows in
+    let d = placedAt reference rows 0 in
+    let many = length-map (numbersFrom 0 count) (placedAt reference rows) ∙ length-numbers 0 count in
+    let below : k < length (segmentsRead reference 0) = omega (arith, all-long (segmentsPlaced reference) x, placed-count reference 0) in
+    let here : getD (segmentsPlaced reference 0) k d ≡ placedAt reference rows k =
+    ap (λ (l : List PlacedSegment). getD l k d) (x .split) ∙ List·getD-append (map (placedAt reference rows) (numbersFrom 0 count)) _ d k (omega arith)
+    ∙ map-numbers (placedAt reference rows) d 0 count k h ∙ rw (zero-add k) in
+    ap (λ (p : PlacedSegment). p .basesAt) (sym here) ∙ bases-at reference k d below
 
 -- rows for spans leave the segments indexed
 pub segments-still : (reference rows after : List ℕ) → SpansOnly rows after → SegmentsIndexed reference rows → SegmentsIndexed reference after
@@ -217,7 +249,7 @@ module _ (rows : List ℕ) (p q a b : ℕ) (apart : p < q) (room : q < length ro
   same-long = length-set (set rows p a) q b ∙ length-set rows p a
 
 module _ {rows₀ rows : List ℕ} {count next : ℕ} (room : 99332 ≤ length rows) where
-  module _ {reference : List ℕ} (x : SegmentsStored reference rows₀ rows count next) where
+  module _ (reference : List ℕ) (x : SegmentsStored reference rows₀ rows count next) where
     segments-other : (j : ℕ) → (j ≡ 99328 → ⊥) → (j ≡ 99330 → ⊥) → getD (set (set rows 99328 count) 99330 next) j 0 ≡ getD rows j 0
     segments-other = other rows 99328 99330 count next (omega arith) (omega arith)
 
@@ -256,7 +288,7 @@ module _ {rows₀ rows : List ℕ} {count next : ℕ} (room : 99332 ≤ length r
       counted = λ _. segments-count ∙ all;
     }
 
-  module _ {clip : List ℕ} (x : SpansStored clip rows₀ rows count next) where
+  module _ (clip : List ℕ) (x : SpansStored clip rows₀ rows count next) where
     spans-other : (j : ℕ) → (j ≡ 99329 → ⊥) → (j ≡ 99331 → ⊥) → getD (set (set rows 99329 count) 99331 next) j 0 ≡ getD rows j 0
     spans-other = other rows 99329 99331 count next (omega arith) (omega arith)
 

@@ -5,27 +5,30 @@ use lib.ListN.{getD, length}
 use mathlib.Core.Bool.{cond}
 use mathlib.Core.List.{List, _++_, map}
 use mathlib.Core.Path.{_≡_}
-use Rattle.clip_and_reference.specs.Groups.{groupsRead, segmentsRead, spansRead}
-use Rattle.definitions.specs.Checked.{Checked}
-use Rattle.definitions.specs.ClipAndReference.{segmentOf, spanOf}
-use Rattle.definitions.specs.Lines.{Line}
+use Rattle.clip_and_reference.specs.Groups.{PlacedSegment, segmentsPlaced, segmentsRead, spansRead}
 use Rattle.definitions.specs.Lists.{numbersFrom}
-use Rattle.tables.specs.Tables.{countsAt, segmentAt, segmentCount, segmentsAt, segmentsNext, spanAt, spanCount, spansAt, spansNext, tableLength}
+use Rattle.tables.specs.Tables.{countsAt, segmentAt, segmentColumn, segmentCount, segmentsAt, segmentsNext, spanAt, spanCount, spansAt, spansNext, tableLength}
 
--- the groups of a text, up to the first faulty one, are those of so many rows, 1,024 at most, and behind them those from `next` on
-pub record GroupsIndexed {A : Type 0} (read : List Line → Checked A) (s : List ℕ) (rowAt : ℕ → A) (count next : ℕ) : Type 0 where
+-- Of the groups of a text from each offset on: those from 0 on are those of so many rows, 1,024 at most, and behind them those from
+-- `next` on.
+pub record GroupsIndexed {A : Type 0} (groups : ℕ → List A) (rowAt : ℕ → A) (count next : ℕ) : Type 0 where
   pub few : count ≤ 1024
-  pub split : groupsRead read s 0 ≡ map rowAt (numbersFrom 0 count) ++ groupsRead read s next
+  pub split : groups 0 ≡ map rowAt (numbersFrom 0 count) ++ groups next
 
 -- how many of these groups get rows: all, but 1,024 at most
 unfoldable pub rowsFor : {A : Type 0} → List A → ℕ
 rowsFor groups = cond (leb (length groups) 1024) (length groups) 1024
 
+-- the segment that a row stands for, and where the row says that its bases begin
+unfoldable pub placedAt : List ℕ → List ℕ → ℕ → PlacedSegment
+placedAt reference rows segment = record { segment = segmentAt reference rows segment; basesAt = segmentColumn 3 rows segment }
+
+-- the rows have the segments, and say where their bases begin
 abbrev pub SegmentsIndexed : List ℕ → List ℕ → Type 0
-SegmentsIndexed reference rows = GroupsIndexed segmentOf reference (segmentAt reference rows) (segmentCount rows) (segmentsNext rows)
+SegmentsIndexed reference rows = GroupsIndexed (segmentsPlaced reference) (placedAt reference rows) (segmentCount rows) (segmentsNext rows)
 
 abbrev pub SpansIndexed : List ℕ → List ℕ → Type 0
-SpansIndexed clip rows = GroupsIndexed spanOf clip (spanAt clip rows) (spanCount rows) (spansNext rows)
+SpansIndexed clip rows = GroupsIndexed (spansRead clip) (spanAt clip rows) (spanCount rows) (spansNext rows)
 
 -- only the numbers from one place to before another are changed
 pub record OnlyBetween (from to : ℕ) (rows after : List ℕ) : Type 0 where
@@ -68,14 +71,14 @@ pub record SpansGiven (clip rows after : List ℕ) : Type 0 where
   pub counted : tableLength ≤ length rows → spanCount after ≡ rowsFor (spansRead clip 0)
 
 -- the rows of so many groups are stored, and nothing else is changed
-pub record GroupsStored {A : Type 0} (read : List Line → Checked A) (s : List ℕ) (rowAt : List ℕ → ℕ → A) (from to : ℕ)
-    (rows after : List ℕ) (count next : ℕ) : Type 0 where
+pub record GroupsStored {A : Type 0} (groups : ℕ → List A) (rowAt : List ℕ → ℕ → A) (from to : ℕ) (rows after : List ℕ) (count next : ℕ)
+    : Type 0 where
   pub only : OnlyBetween from to rows after
-  pub indexed : GroupsIndexed read s (rowAt after) count next
+  pub indexed : GroupsIndexed groups (rowAt after) count next
 
 abbrev pub SegmentsStored : List ℕ → List ℕ → List ℕ → ℕ → ℕ → Type 0
 SegmentsStored reference rows after count =
-    GroupsStored segmentOf reference (segmentAt reference) segmentsAt (segmentsAt + count * 5) rows after count
+    GroupsStored (segmentsPlaced reference) (placedAt reference) segmentsAt (segmentsAt + count * 5) rows after count
 
 abbrev pub SpansStored : List ℕ → List ℕ → List ℕ → ℕ → ℕ → Type 0
-SpansStored clip rows after count = GroupsStored spanOf clip (spanAt clip) spansAt (spansAt + count * 4) rows after count
+SpansStored clip rows after count = GroupsStored (spansRead clip) (spanAt clip) spansAt (spansAt + count * 4) rows after count

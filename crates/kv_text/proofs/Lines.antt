@@ -1,5 +1,5 @@
 -- The line at an offset: where it ends, its key and its value. And a value that is read further.
-use Prim.Native.Nat.{_+_, _-_, _<_, _≤_, ℕ}
+use Prim.Native.Nat.{_+_, _-_, _<_, _≤_, suc, zero, ℕ}
 use lib.ListN.{drop, getD, length, length-take}
 use lib.Seq.{drop-drop}
 use mathlib.Core.Bool.{false, true}
@@ -10,7 +10,7 @@ use native.Mathlib.Decide.{decLt}
 use native.Mathlib.Numerals.{add-one}
 use native.Mathlib.Omega.{arith}
 use Rattle.definitions.specs.Bytes.{comma, fieldsOf, lineFeed, sameBytes, stripPrefix, text}
-use Rattle.definitions.specs.Lines.{linesOf, valueOf}
+use Rattle.definitions.specs.Lines.{Line, linesOf, valueOf}
 use Rattle.definitions.specs.Lists.{allOf, isThere, onlyIf, splitWhere}
 use Rattle.definitions.specs.Numbers.{noLeadingZero, number, orMissing}
 use Rattle.laws.proofs.Bytes.{strip-prefix-back}
@@ -18,7 +18,11 @@ use Rattle.laws.proofs.Lines.{lines-at, lines-end, lines-unended-at}
 use Rattle.laws.proofs.Tests.{is-there, not-none, not-there, some-same}
 use Rattle.kv_text.proofs.Fields.{drop-take, field-ended, field-forward, field-has-none, field-within}
 use Rattle.kv_text.specs.Fields.{between, fieldLength, firstNumbers}
-use Rattle.kv_text.specs.Lines.{LineReads, lineNumbers, lineValue, readTo, unread}
+use Rattle.kv_text.specs.Lines.{LineReads, lineEnd, lineNumbers, lineValue, readTo, unread}
+
+none-alone : (k : ℕ) → getD {A = Line} (none ∷ []) k none ≡ none
+none-alone zero = refl
+none-alone (suc k) = refl
 
 -- ---- the line at an offset, which ends at e
 
@@ -30,11 +34,12 @@ module _ (s : List ℕ) (at e : ℕ) (ends : e ≡ at + fieldLength 10 (drop at 
       let whole : e ≤ length s = field-within 10 s at e ends (omega arith) in
       lines-unended-at s at (e - at) (omega arith) (omega arith) (field-has-none 10 s at e ends)
 
-  no-line : length s ≤ e → getD (linesOf (drop at s)) 0 none ≡ none
-  no-line h = go (decLt at (length s))
+  -- so no line is there, at any index
+  pub no-line : length s ≤ e → (k : ℕ) → getD (linesOf (drop at s)) k none ≡ none
+  no-line h k = go (decLt at (length s))
     where
-      go : Dec (at < length s) → getD (linesOf (drop at s)) 0 none ≡ none
-      go (yes l) = rw (unended l h)
+      go : Dec (at < length s) → getD (linesOf (drop at s)) k none ≡ none
+      go (yes l) = rw (unended l h) (none-alone k)
       go (no l) = rw (lines-end s at (omega arith))
 
   pub the-lines : e < length s → linesOf (drop at s) ≡ some (between s at e) ∷ linesOf (drop (e + 1) s)
@@ -43,10 +48,16 @@ module _ (s : List ℕ) (at e : ℕ) (ends : e ≡ at + fieldLength 10 (drop at 
       let fits : at + (e - at) ≡ e = omega (arith, field-forward 10 s at e ends) in
       lines-at s at (e - at) (omega arith) (field-has-none 10 s at e ends) (rw fits (field-ended 10 s at e ends h)) ∙ rw (fits, add-one e)
 
+-- what follows a key in a part of a text is the part behind it
+pub behind-key : (s key : List ℕ) (at e : ℕ) {w : List ℕ} → stripPrefix key (between s at e) ≡ some w → w ≡ between s (at + length key) e
+behind-key s key at e p =
+    let m : e - at - length key ≡ e - (at + length key) = omega arith in
+    strip-prefix-back key (between s at e) _ p .0 ∙ drop-take (length key) (e - at) (drop at s) ∙ rw (drop-drop, m)
+
 module _ (s : List ℕ) (at : ℕ) (key : List ℕ) (e : ℕ) (ends : e ≡ at + fieldLength 10 (drop at s)) where
   pub line-absent : length s ≤ e → LineReads s at key some unread
   unfolding LineReads lineValue valueOf bind
-  line-absent h = rw (no-line s at e ends h)
+  line-absent h = rw (no-line s at e ends h 0)
 
   pub line-other-key : e < length s → isThere (stripPrefix key (between s at e)) ≡ false → LineReads s at key some unread
   unfolding LineReads lineValue valueOf bind
@@ -60,14 +71,12 @@ module _ (s : List ℕ) (at : ℕ) (key : List ℕ) (e : ℕ) (ends : e ≡ at +
 
   pub line-with-key : e < length s → isThere (stripPrefix key (between s at e)) ≡ true
       → LineReads s at key some (readTo (between s (at + length key) e) e)
-  unfolding LineReads lineValue valueOf bind lineFeed
+  unfolding LineReads lineValue valueOf bind lineFeed lineEnd
   line-with-key h f =
       let w = is-there (stripPrefix key (between s at e)) f in
-      let p = strip-prefix-back key (between s at e) (w .0) (w .1) in
-      let m : e - at - length key ≡ e - (at + length key) = omega arith in
-      let g : w .0 ≡ between s (at + length key) e = p .0 ∙ drop-take (length key) (e - at) (drop at s) ∙ rw (drop-drop, m) in
       record {
-        value = rw (the-lines s at e ends h) (rw (w .1) (ap {B = Option (List ℕ)} some g));
+        value = rw (the-lines s at e ends h) (rw (w .1) (ap {B = Option (List ℕ)} some (behind-key s key at e (w .1))));
+        ends = ends;
         forward = field-forward 10 s at e ends;
         within = h;
         feed = field-ended 10 s at e ends h;
@@ -99,6 +108,7 @@ module _ {A : Type 0} (s : List ℕ) (at : ℕ) (key : List ℕ) (read : List �
   unfolding LineReads lineValue
   read-right v e a l r = record {
     value = on-value (valueOf key (getD (linesOf (drop at s)) 0 none)) (l .value) ∙ r;
+    ends = l .ends;
     forward = l .forward;
     within = l .within;
     feed = l .feed;
@@ -109,6 +119,11 @@ pub line-within : {A : Type 0} (s : List ℕ) (at : ℕ) (key : List ℕ) (read 
     → LineReads s at key read (readTo a e) → e < length s
 unfolding LineReads
 line-within s at key read a e l = l .within
+
+pub line-ends : {A : Type 0} (s : List ℕ) (at : ℕ) (key : List ℕ) (read : List ℕ → Option A) (a : A) (e : ℕ)
+    → LineReads s at key read (readTo a e) → e ≡ lineEnd s at
+unfolding LineReads
+line-ends s at key read a e l = l .ends
 
 -- ---- the numbers of a list, as far as they go
 

@@ -1,5 +1,5 @@
 -- What reading the line at an offset of a text finds.
-use Prim.Native.Nat.{_+_, _-_, _<_, _≤_, ℕ}
+use Prim.Native.Nat.{_+_, _-_, _<_, _≤_, suc, zero, ℕ}
 use lib.ListN.{drop, getD, length}
 use lib.Seq.{sets}
 use mathlib.Core.List.{List, []}
@@ -8,7 +8,7 @@ use mathlib.Core.Path.{_≡_}
 use Rattle.definitions.specs.Bytes.{comma, fieldsOf, lineFeed}
 use Rattle.definitions.specs.Lines.{linesOf, valueOf}
 use Rattle.definitions.specs.Numbers.{numberList}
-use Rattle.kv_text.specs.Fields.{between, firstNumbers}
+use Rattle.kv_text.specs.Fields.{between, fieldLength, firstNumbers}
 use Rattle.kv_text.specs.declared.ListAt.{ListAt}
 use Rattle.kv_text.specs.declared.ListAt.the-variants as list
 use Rattle.kv_text.specs.declared.NumberAt.{NumberAt}
@@ -26,13 +26,23 @@ pub data LineFound (A : Type 0) : Type 0 where
   unread : LineFound A
   readTo : A → ℕ → LineFound A
 
+-- where the line at an offset ends: at the first LF there or after, or where the text ends
+unfoldable pub lineEnd : List ℕ → ℕ → ℕ
+lineEnd s at = at + fieldLength lineFeed (drop at s)
+
+-- where the line begins that stands so many lines behind the one at an offset
+unfoldable pub lineStart : List ℕ → ℕ → ℕ → ℕ
+lineStart s at zero = at
+lineStart s at (suc k) = lineStart s (lineEnd s at + 1) k
+
 -- the first line of a text from an offset on, if it has this key and a value that reads
 unfoldable pub lineValue : {A : Type 0} → List ℕ → ℕ → List ℕ → (List ℕ → Option A) → Option A
 lineValue s at key read = bind (valueOf key (getD (linesOf (drop at s)) 0 none)) read
 
--- the line at the offset reads as this, its LF stands at e, and the lines behind it are those from e + 1 on
+-- the line at the offset reads as this, it ends at e with its LF, and the lines behind it are those from e + 1 on
 pub record LineTo {A : Type 0} (s : List ℕ) (at : ℕ) (key : List ℕ) (read : List ℕ → Option A) (a : A) (e : ℕ) : Type 0 where
   pub value : lineValue s at key read ≡ some a
+  pub ends : e ≡ lineEnd s at
   pub forward : at ≤ e
   pub within : e < length s
   pub feed : getD s e 0 ≡ lineFeed
@@ -52,14 +62,18 @@ abbrev pub valueFound : List ℕ → ValueAt → LineFound (List ℕ)
 valueFound s (value.At a e) = readTo (between s a e) e
 valueFound s value.Absent = unread
 
--- the value stands before its LF
-abbrev pub Ordered : ValueAt → Type 0
-Ordered (value.At a e) = a ≤ e
-Ordered value.Absent = Unit {0}
+-- a value from a on, up to an LF at e, begins behind the key of the line at an offset
+pub record ValueStands (at : ℕ) (key : List ℕ) (a e : ℕ) : Type 0 where
+  pub begins : a ≡ at + length key
+  pub forward : a ≤ e
+
+abbrev pub Placed : ℕ → List ℕ → ValueAt → Type 0
+Placed at key (value.At a e) = ValueStands at key a e
+Placed at key value.Absent = Unit {0}
 
 -- the value of the line at an offset, with this key
 abbrev pub ValueRead : List ℕ → ℕ → List ℕ → ValueAt → Type 0
-ValueRead s at key v = LineReads s at key some (valueFound s v) × Ordered v
+ValueRead s at key v = LineReads s at key some (valueFound s v) × Placed at key v
 
 -- where a value stands that begins there, with its line's LF just before `next`
 abbrev pub valueBefore : ValueStart → ℕ → ValueAt

@@ -9,7 +9,7 @@ ghost use Rattle.definitions.specs.Bytes.{comma, compareBytes, fieldsOf, sameBy
 ghost use Rattle.definitions.specs.Lists.{isThere};
 ghost use Rattle.definitions.specs.Numbers.{isDigit, isNameByte, name, number, numberList, orMissing};
 ghost use Rattle.kv_text.specs.Fields.{FieldFound, alleleRead, digitsRead, fieldLength, firstNumbers, numberRead, numbersRead, orderOf};
-ghost use Rattle.kv_text.specs.Lines.{LineReads, ListStored, NextBehind, Ordered, ValueRead, behindLine, listCount, listFound, movedBehind, numberFound, optionalFound, valueBefore, valueFound};
+ghost use Rattle.kv_text.specs.Lines.{LineReads, ListStored, NextBehind, Placed, ValueRead, behindLine, listCount, listFound, movedBehind, numberFound, optionalFound, valueBefore, valueFound};
 
 // ---- bytes
 
@@ -466,7 +466,7 @@ pub fn number_line(s: &[u8], at: usize, key: &[u8]) -> NumberAt
 
 // The name in the line at an offset.
 pub fn name_line(s: &[u8], at: usize, key: &[u8]) -> ValueAt
-    ensures { λ r. ⌜ LineReads (now (s .entry)) at (now (key .entry)) name (valueFound (now (s .entry)) r) × Ordered r ⌝ }
+    ensures { λ r. ⌜ LineReads (now (s .entry)) at (now (key .entry)) name (valueFound (now (s .entry)) r) × Placed at (now (key .entry)) r ⌝ }
 {
     let v = value_line(s, at, key);
     let ValueAt::At(a, e) = v else {

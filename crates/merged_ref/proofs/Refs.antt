@@ -11,12 +11,13 @@ use Rattle.definitions.specs.ClipAndReference.{ReferenceSegment, segmentOf}
 use Rattle.definitions.specs.Cohort.{Site}
 use Rattle.definitions.specs.Lists.{allOf, onlyIf}
 use Rattle.definitions.specs.MergedRef.{firstRef, mergedRef, refLetter, sharedRef}
+use Rattle.indexed_groups.proofs.Storing.{segments-split}
 use Rattle.indexed_groups.specs.Indexed.{SegmentsIndexed}
 use Rattle.laws.proofs.Checked.{not-required, required}
 use Rattle.laws.proofs.ReferenceLetter.{firstLetter}
 use Rattle.tables.specs.Tables.{partAt}
-use Rattle.merged_ref.specs.Answers.{LetterFound, letterBytes, refAnswer, refBytes, referenceSegments, sitesAt, startingRefs}
-use Rattle.merged_ref.proofs.Letters.{letter-is, letter-lacks}
+use Rattle.merged_ref.specs.Answers.{letterBytes, refAnswer, refBytes, referenceSegments, sitesAt, startingRefs}
+use Rattle.merged_ref.proofs.Letters.{LetterFound, letter-is, letter-lacks}
 use Rattle.merged_ref.proofs.Starting.{LongestFound}
 use Rattle.merged_ref.specs.declared.LetterAt.the-variants as letterAt
 use Rattle.merged_ref.specs.declared.LongestAt.the-variants as longestAt
@@ -79,7 +80,7 @@ module _ (s rows reference contig : List ℕ) (position : ℕ) (found : List ℕ
 pub all-segments : (reference rows : List ℕ) {segments : List ReferenceSegment} → SegmentsIndexed reference rows → SegmentsFrom reference 0 segments
     → referenceSegments reference rows ≡ segments
 unfolding referenceSegments
-all-segments reference rows x from = sym (x .split) ∙ all-read segmentOf reference from
+all-segments reference rows x from = sym (segments-split reference rows x) ∙ all-read segmentOf reference from
 
 -- and REF is that of these, if there is a reference
 pub by-segments : (reference rows : List ℕ) (referenced : Bool) (segments : List ReferenceSegment)

@@ -4,14 +4,14 @@ use lib.Dec.{ltb}
 use lib.ListN.{drop, length, take}
 use mathlib.Core.Bool.{cond}
 use mathlib.Core.List.{List, [], _++_, foldr, map}
-use mathlib.Core.Option.{none, some}
-use mathlib.Core.Path.{_≡_}
-use Rattle.clip_and_reference.specs.Groups.{segmentsRead}
+use mathlib.Core.Option.{Option, Option·map, none, some}
+use Rattle.clip_and_reference.specs.Groups.{PlacedSegment, segmentsPlaced, segmentsRead}
 use Rattle.definitions.specs.Checked.{Checked, accepted, refused}
 use Rattle.definitions.specs.ClipAndReference.{ReferenceSegment, segmentHolds}
 use Rattle.definitions.specs.Cohort.{Site}
 use Rattle.definitions.specs.Lists.{filterBy, firstWhere, numbersFrom}
 use Rattle.definitions.specs.MergedRef.{siteRef, startsAt}
+use Rattle.indexed_groups.specs.Indexed.{placedAt}
 use Rattle.kv_text.specs.Fields.{between}
 use Rattle.tables.specs.Tables.{partAt, segmentAt, segmentCount, segmentsNext, siteAt}
 use Rattle.merged_ref.specs.declared.LetterAt.{LetterAt}
@@ -44,20 +44,36 @@ segmentsIn reference rows = map (segmentAt reference rows) (numbersFrom 0 (segme
 unfoldable pub referenceSegments : List ℕ → List ℕ → List ReferenceSegment
 referenceSegments reference rows = segmentsIn reference rows ++ segmentsRead reference (segmentsNext rows)
 
--- The offset is that of the letter at the position in the bases of the first segment that holds it, which stand in the reference text
--- from `basesAt` to before `basesEnd`.
-pub record LetterIn (reference contig : List ℕ) (position : ℕ) (segments : List ReferenceSegment) (i : ℕ) : Type 0 where
-  pub segment : ReferenceSegment
-  pub holding : firstWhere (segmentHolds contig position) segments ≡ some segment
-  pub basesAt : ℕ
-  pub basesEnd : ℕ
-  pub bases : segment .bases ≡ between reference basesAt basesEnd
-  pub offset : i ≡ basesAt + (position - segment .first)
+-- ---- where the letter stands
 
--- where the letter of the first segment that holds the position stands in the reference text, if one holds it
-unfoldable pub LetterFound : List ℕ → List ℕ → ℕ → List ReferenceSegment → LetterAt → Type 0
-LetterFound reference contig position segments (letter.At i) = LetterIn reference contig position segments i
-LetterFound reference contig position segments letter.Absent = firstWhere (segmentHolds contig position) segments ≡ none
+-- a segment by its parts of the reference text, with where its bases begin
+abbrev pub placedBy : List ℕ → ℕ → ℕ → ℕ → ℕ → ℕ → PlacedSegment
+placedBy reference contigAt contigEnd first basesAt basesEnd =
+    record { segment = segmentBy reference contigAt contigEnd first basesAt basesEnd; basesAt = basesAt }
+
+-- the segments with rows, each with where its row says that its bases begin
+abbrev pub placedIn : List ℕ → List ℕ → List PlacedSegment
+placedIn reference rows = map (placedAt reference rows) (numbersFrom 0 (segmentCount rows))
+
+-- those of `referenceSegments`, each with where its bases begin
+unfoldable pub referencePlaced : List ℕ → List ℕ → List PlacedSegment
+referencePlaced reference rows = placedIn reference rows ++ segmentsPlaced reference (segmentsNext rows)
+
+-- where a segment's letter at the position stands: as far behind the first base as the position is behind the first position
+unfoldable pub placeIn : ℕ → PlacedSegment → ℕ
+placeIn position p = p .basesAt + (position - p .segment .first)
+
+-- where the letter of the first segment that holds the position stands in the reference text; none if none holds it
+unfoldable pub letterPlace : List ℕ → ℕ → List PlacedSegment → Option ℕ
+letterPlace contig position segments =
+    Option·map (placeIn position) (firstWhere (λ (p : PlacedSegment). segmentHolds contig position (p .segment)) segments)
+
+-- the answer
+abbrev pub letterOffset : LetterAt → Option ℕ
+letterOffset (letter.At i) = some i
+letterOffset letter.Absent = none
+
+-- ---- REF
 
 -- the site, or the longest so far if its REF is not shorter
 unfoldable pub longerOf : List ℕ → List ℕ → ℕ → LongestAt → LongestAt

@@ -4,13 +4,14 @@ ghost use lib.ListN.{drop, take};
 ghost use mathlib.Core.List.{List, [], _∷_};
 ghost use mathlib.Core.Path.{_≡_};
 ghost use Prim.Native.Nat.{ℕ};
-ghost use Rattle.clip_and_reference.specs.Groups.{segmentsRead};
+ghost use Rattle.clip_and_reference.specs.Groups.{segmentsPlaced};
 ghost use Rattle.definitions.specs.Bytes.{isPrefix};
 ghost use Rattle.definitions.specs.Lists.{allOf, onlyIf};
 ghost use Rattle.definitions.specs.MergedRef.{firstRef, mergedRef, refLetter};
+ghost use Rattle.indexed_groups.specs.Indexed.{placedAt};
 ghost use Rattle.laws.proofs.ReferenceLetter.{firstLetter};
-ghost use Rattle.tables.specs.Tables.{partAt, segmentAt};
-ghost use Rattle.merged_ref.specs.Answers.{LetterFound, letterBytes, longerSite, longestSite, refAnswer, refBytes, referenceSegments, segmentBy, segmentsIn, sitesAt, startingRefs};
+ghost use Rattle.tables.specs.Tables.{partAt};
+ghost use Rattle.merged_ref.specs.Answers.{letterBytes, letterOffset, letterPlace, longerSite, longestSite, placedBy, placedIn, refAnswer, refBytes, referencePlaced, referenceSegments, sitesAt, startingRefs};
 use bio_ids::GenomePosition;
 use clip_and_reference::SegmentAt;
 
@@ -33,8 +34,8 @@ fn letter_in(
     contig: &[u8],
     position: GenomePosition,
 ) -> LetterAt
-    ensures { λ r. ⌜ LetterFound (now (reference .entry)) (now (contig .entry)) (position .0)
-        (segmentBy (now (reference .entry)) «contig_at» «contig_end» (first .0) «bases_at» «bases_end» ∷ []) r ⌝ }
+    ensures { λ r. ⌜ letterOffset r ≡ letterPlace (now (contig .entry)) (position .0)
+        (placedBy (now (reference .entry)) «contig_at» «contig_end» (first .0) «bases_at» «bases_end» ∷ []) ⌝ }
 {
     let name = tables::part(reference, contig_at, contig_end);
     if !kv_text::same_bytes(contig, name) {
@@ -61,8 +62,8 @@ fn letter_in_row(
     contig: &[u8],
     position: GenomePosition,
 ) -> LetterAt
-    ensures { λ r. ⌜ LetterFound (now (reference .entry)) (now (contig .entry)) (position .0)
-        (segmentAt (now (reference .entry)) (now (rows .entry)) segment ∷ []) r ⌝ }
+    ensures { λ r. ⌜ letterOffset r ≡ letterPlace (now (contig .entry)) (position .0)
+        (placedAt (now (reference .entry)) (now (rows .entry)) segment ∷ []) ⌝ }
 {
     let contig_at = tables::segment_column(rows, segment, 0);
     let contig_end = tables::segment_column(rows, segment, 1);
@@ -88,8 +89,8 @@ fn letter_in_rows(
     contig: &[u8],
     position: GenomePosition,
 ) -> LetterAt
-    ensures { λ r. ⌜ LetterFound (now (reference .entry)) (now (contig .entry)) (position .0)
-        (segmentsIn (now (reference .entry)) (now (rows .entry))) r ⌝ }
+    ensures { λ r. ⌜ letterOffset r ≡ letterPlace (now (contig .entry)) (position .0)
+        (placedIn (now (reference .entry)) (now (rows .entry))) ⌝ }
 {
     let count = tables::segment_count(rows);
     for segment in 0..count {
@@ -103,7 +104,7 @@ fn letter_in_rows(
 
 // The letter at the position that the first group from an offset on gives that holds it, up to the first faulty one.
 fn letter_from(reference: &[u8], from: usize, contig: &[u8], position: GenomePosition) -> LetterAt
-    ensures { λ r. ⌜ LetterFound (now (reference .entry)) (now (contig .entry)) (position .0) (segmentsRead (now (reference .entry)) from) r ⌝ }
+    ensures { λ r. ⌜ letterOffset r ≡ letterPlace (now (contig .entry)) (position .0) (segmentsPlaced (now (reference .entry)) from) ⌝ }
 {
     let mut at = from;
     while at < reference.len() {
@@ -144,8 +145,8 @@ pub fn find_letter(
     contig: &[u8],
     position: GenomePosition,
 ) -> LetterAt
-    ensures { λ r. ⌜ LetterFound (now (reference .entry)) (now (contig .entry)) (position .0)
-        (referenceSegments (now (reference .entry)) (now (rows .entry))) r ⌝ }
+    ensures { λ r. ⌜ letterOffset r ≡ letterPlace (now (contig .entry)) (position .0)
+        (referencePlaced (now (reference .entry)) (now (rows .entry))) ⌝ }
 {
     let letter = letter_in_rows(reference, rows, contig, position);
     if let LetterAt::At(i) = letter {

@@ -3,15 +3,17 @@ use Prim.Native.Nat.{_+_, _-_, _<_, _≤_, ℕ}
 use borrow.Author.Needs.{needs}
 use lib.ListN.{length}
 use mathlib.Core.List.{List}
+use mathlib.Core.Path.{_≡_}
 use native.Mathlib.Omega.{arith}
-use Rattle.clip_and_reference.proofs.ThreeLines.{first-unread, group-read, number-zero, out-of-order, part-length, part-of, referenceGroup, second-unread, third-unread, threeLines}
-use Rattle.clip_and_reference.specs.Groups.{PartOf, SegmentRead}
+use Rattle.clip_and_reference.proofs.ThreeLines.{first-unread, group-read, number-zero, out-of-order, part-read, referenceGroup, second-unread, third-start, third-unread, threeLines}
+use Rattle.clip_and_reference.specs.Groups.{SegmentRead}
 use Rattle.definitions.specs.Alleles.{lettersOf}
 use Rattle.definitions.specs.Bytes.{text}
 use Rattle.definitions.specs.ClipAndReference.{segmentOf}
 use Rattle.definitions.specs.Lines.{keyOf}
 use Rattle.definitions.specs.Numbers.{maxNumber, name, number}
 use Rattle.kv_text.proofs.Lines.{line-within}
+use Rattle.kv_text.proofs.Places.{part-long}
 use Rattle.kv_text.specs.Fields.{between}
 use Rattle.kv_text.specs.Lines.{LineReads, lineValue, readTo}
 use Rattle.laws.proofs.SoundValues.{letters-sound}
@@ -20,23 +22,22 @@ use Rattle.clip_and_reference.proofs.segment_at.Statement.{statement}
 use Rattle.clip_and_reference.proofs.segment_at.Tie as tie
 
 module _ (s : List ℕ) (at : ℕ) (key : List ℕ) (a e : ℕ) (l : LineReads s at key (lettersOf maxNumber) (readTo (between s a e) e)) (h : a ≤ e) where
-  bases-part : PartOf s a e
-  bases-part = part-of h (line-within s at key (lettersOf maxNumber) _ e l)
+  long : a + length (between s a e) ≡ e
+  long = part-long s a e h (omega (arith, line-within s at key (lettersOf maxNumber) _ e l))
 
   -- the letters are few enough that the sum fits
   few : e - a ≤ 2147483647
   unfolding LineReads lineValue maxNumber
-  few = after-bind _ _ (l .value) λ w p q.
-      omega (arith, letters-sound 2147483647 w (between s a e) q .not-too-long, part-length s a e bases-part)
+  few = after-bind _ _ (l .value) λ w p q. omega (arith, letters-sound 2147483647 w (between s a e) q .not-too-long, long)
 
   -- where the last letter stands, by the code's sum
   past-the-end : (first : ℕ) → 2147483648 < first + (e - a) → maxNumber < first + length (between s a e) - 1
   unfolding maxNumber
-  past-the-end first k = omega (arith, part-length s a e bases-part)
+  past-the-end first k = omega (arith, long)
 
   not-past : (first : ℕ) → first + (e - a) ≤ 2147483648 → first + length (between s a e) - 1 ≤ maxNumber
   unfolding maxNumber
-  not-past first k = omega (arith, part-length s a e bases-part)
+  not-past first k = omega (arith, long)
 
 slice-aggregate-name-line : tie.Need-slice-aggregate-name-line
 slice-aggregate-name-line c = search needs
@@ -109,14 +110,14 @@ sub-if2 : tie.Need-sub-if2
 sub-if2 c = let n = rw (c .before .before .letters .given .1) at (c .before .before .before .before .letters-line .ensures) in omega (arith, n .1)
 
 add-if2 : tie.Need-add-if2
-add-if2 c = let n = rw (c .before .before .letters .given .1) at (c .before .before .before .before .letters-line .ensures) in omega (arith, few _ _ _ _ _ (n .0) (n .1))
+add-if2 c = let n = rw (c .before .before .letters .given .1) at (c .before .before .before .before .letters-line .ensures) in omega (arith, few _ _ _ _ _ (n .0) (n .1 .forward))
 
 returns-5 : tie.Need-returns-5
 unfolding keyOf text SegmentRead segmentOf threeLines
 returns-5 c = let l = rw (c .before .before .before .before .before .before .before .before .before .before .before .before .before .name .given .1) at (c .before .before .before .before .before .before .before .before .before .before .before .before .before .before .before .name-line .ensures) in
     let m = rw (c .before .before .before .before .before .before .before .before .from .given .1) at (c .before .before .before .before .before .before .before .before .before .before .number-line .ensures) in
     let n = rw (c .before .before .before .letters .given .1) at (c .before .before .before .before .before .letters-line .ensures) in
-    out-of-order referenceGroup _ _ _ _ (l .0) _ _ m _ _ (n .0) (past-the-end _ _ _ _ _ (n .0) (n .1) _ (omega (arith, c .if2 .taken)))
+    out-of-order referenceGroup _ _ _ _ (l .0) _ _ m _ _ (n .0) (past-the-end _ _ _ _ _ (n .0) (n .1 .forward) _ (omega (arith, c .if2 .taken)))
 
 add-next : tie.Need-add-next
 add-next c =
@@ -140,10 +141,10 @@ returns-6 c =
     let m = rw (at-from .from .given .1) at (at-from .before .before .number-line .ensures) in
     let n = rw (at-letters .letters .given .1) at (at-letters .before .before .letters-line .ensures) in
     let read = group-read referenceGroup _ _ _ _ (l .0) _ _ m _ _ (n .0) (omega (arith, at-ifs .before .if1 .left))
-    (not-past _ _ _ _ _ (n .0) (n .1) _ (omega (arith, at-ifs .if2 .left))) in (
+    (not-past _ _ _ _ _ (n .0) (n .1 .forward) _ (omega (arith, at-ifs .if2 .left))) in (
       rw (c .new-1based .ensures) read,
-      part-of (l .1) (line-within _ _ _ name _ _ (l .0)),
-      bases-part _ _ _ _ _ (n .0) (n .1),
+      part-read _ _ _ name _ _ _ (l .0) (l .1),
+      rw (← third-start referenceGroup _ _ _ _ (l .0) _ _ m) (part-read _ _ _ (lettersOf maxNumber) _ _ _ (n .0) (n .1)),
     )
 
 pub segment-at-spec : {M : Type 1} → statement M

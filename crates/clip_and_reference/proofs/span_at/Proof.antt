@@ -2,7 +2,7 @@
 use borrow.Author.Needs.{needs}
 use mathlib.Core.Path.{_∙_}
 use native.Mathlib.Omega.{arith}
-use Rattle.clip_and_reference.proofs.ThreeLines.{clipGroup, first-unread, group-read, number-zero, out-of-order, part-of, second-unread, third-unread, threeLines}
+use Rattle.clip_and_reference.proofs.ThreeLines.{clipGroup, first-unread, group-read, number-zero, out-of-order, part-read, second-unread, third-unread, threeLines}
 use Rattle.clip_and_reference.specs.Groups.{SpanRead}
 use Rattle.definitions.specs.Bytes.{text}
 use Rattle.definitions.specs.ClipAndReference.{spanOf}
@@ -116,7 +116,7 @@ returns-6 c =
     let read = group-read clipGroup _ _ _ _ (l .0) _ _ m _ _ n (omega (arith, at-ifs .before .if1 .left)) (omega (arith, at-ifs .if2 .left)) in
     let is-start = c .new .ensures .0 ∙ c .before .before .new-1based .ensures in
     let is-end = c .new .ensures .1 ∙ c .before .new-1based2 .ensures in
-    (rw (is-start, is-end) read, part-of (l .1) (line-within _ _ _ name _ _ (l .0)))
+    (rw (is-start, is-end) read, part-read _ _ _ name _ _ _ (l .0) (l .1))
 
 pub span-at-spec : {M : Type 1} → statement M
 span-at-spec =

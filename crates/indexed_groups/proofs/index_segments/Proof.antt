@@ -26,7 +26,7 @@ returns-2 : tie.Need-returns-2
 returns-2 c =
     let room : 99332 ≤ length (c .before .before .store-segments .last .1 .0) =
     omega (arith, c .before .before .before .before .if1 .left, c .before .before .store-segments .kept .1 .0) in
-    segments-given room (c .before .before .store-segments .ensures .0) (c .before .before .store-segments .ensures .1)
+    segments-given room _ (c .before .before .store-segments .ensures .0) (c .before .before .store-segments .ensures .1)
 
 pub index-segments-spec : {M : Type 1} → statement M
 index-segments-spec =

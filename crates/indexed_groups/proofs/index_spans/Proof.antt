@@ -26,7 +26,7 @@ returns-2 : tie.Need-returns-2
 returns-2 c =
     let room : 99332 ≤ length (c .before .before .store-spans .last .1 .0) =
     omega (arith, c .before .before .before .before .if1 .left, c .before .before .store-spans .kept .1 .0) in
-    spans-given room (c .before .before .store-spans .ensures .0) (c .before .before .store-spans .ensures .1)
+    spans-given room _ (c .before .before .store-spans .ensures .0) (c .before .before .store-spans .ensures .1)
 
 pub index-spans-spec : {M : Type 1} → statement M
 index-spans-spec =

@@ -2,9 +2,11 @@
 use Prim.Native.Nat.{_-_, _≤_}
 use borrow.Author.Needs.{needs}
 use lib.ListN.{length}
+use mathlib.Core.Path.{_∙_}
 use native.Mathlib.Omega.{arith}
+use Rattle.clip_and_reference.proofs.Places.{placed-faulty}
 use Rattle.clip_and_reference.specs.Groups.{SegmentRead}
-use Rattle.indexed_groups.proofs.Storing.{counted-all, counted-most, none-stored, segment-stored}
+use Rattle.indexed_groups.proofs.Storing.{counted-all, counted-most, none-stored, rows-for-segments, segment-stored}
 use Rattle.indexed_groups.specs.Indexed.{SegmentsStored}
 use Rattle.indexed_groups.proofs.store_segments.Statement.{statement}
 use Rattle.indexed_groups.proofs.store_segments.Tie as tie
@@ -16,7 +18,7 @@ abbrev μ-loop : tie.MeasureT-loop
 μ-loop reference rows₀ at₀ count₀ rows at count = 1024 - count
 
 loop-holds : tie.Need-loop-holds Inv-loop μ-loop
-loop-holds c = none-stored _ _ _ _ _ _
+loop-holds c = none-stored _ _ _ _ _
 
 segment-at-requires : tie.Need-segment-at-requires Inv-loop μ-loop
 segment-at-requires c κs = search needs
@@ -34,7 +36,8 @@ returns : tie.Need-returns Inv-loop μ-loop
 unfolding SegmentRead
 returns c =
     let inv = c .before .before .before .before .loop .inv in
-    (inv, counted-all _ _ (inv .indexed) (rw (c .enum-told .given .1) at (c .before .before .segment-at .ensures)))
+    let ended = placed-faulty _ _ (rw (c .enum-told .given .1) at (c .before .before .segment-at .ensures)) in
+    (inv, counted-all _ (inv .indexed) ended ∙ rows-for-segments _)
 
 get-requires : tie.Need-get-requires Inv-loop μ-loop
 get-requires c κs = search needs
@@ -67,13 +70,13 @@ loop-again c =
     let g = rw (at-group .group .given .1) at (at-group .before .before .segment-at .ensures) in
     let group = rw (← c .before .before .before .before .before .get .ensures) at (g .0) in
     let room : 99332 ≤ length (at-loop .loop .rows) = omega (arith, at-loop .before .before .before .pre, inv .only .long) in
-    rw (c .before .before .store-row .ensures) (segment-stored _ _ _ _ _ _ _ _ (c .before .before .before .before .before .before .before .before .before .before .loop-test .taken) room inv group)
+    rw (c .before .before .store-row .ensures) (segment-stored _ _ _ _ _ _ _ _ (c .before .before .before .before .before .before .before .before .before .before .loop-test .taken) room inv group (g .2))
 
 same-length-2 : tie.Need-same-length-2 Inv-loop μ-loop
 same-length-2 c = c .before .loop .inv .only .long
 
 returns-2 : tie.Need-returns-2 Inv-loop μ-loop
-returns-2 c = let inv = c .before .loop .inv in (inv, counted-most _ _ (inv .indexed) (c .loop-test .left))
+returns-2 c = let inv = c .before .loop .inv in (inv, counted-most _ (inv .indexed) (c .loop-test .left) ∙ rows-for-segments _)
 
 pub store-segments-spec : {M : Type 1} → statement M
 store-segments-spec =

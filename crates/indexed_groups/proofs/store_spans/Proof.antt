@@ -3,7 +3,9 @@ use Prim.Native.Nat.{_-_, _≤_}
 use borrow.Author.Needs.{needs}
 use lib.ListN.{length}
 use native.Mathlib.Omega.{arith}
+use Rattle.clip_and_reference.proofs.Groups.{read-faulty}
 use Rattle.clip_and_reference.specs.Groups.{SpanRead}
+use Rattle.definitions.specs.ClipAndReference.{spanOf}
 use Rattle.indexed_groups.proofs.Storing.{counted-all, counted-most, none-stored, span-stored}
 use Rattle.indexed_groups.specs.Indexed.{SpansStored}
 use Rattle.indexed_groups.proofs.store_spans.Statement.{statement}
@@ -16,7 +18,7 @@ abbrev μ-loop : tie.MeasureT-loop
 μ-loop clip rows₀ at₀ count₀ rows at count = 1024 - count
 
 loop-holds : tie.Need-loop-holds Inv-loop μ-loop
-loop-holds c = none-stored _ _ _ _ _ _
+loop-holds c = none-stored _ _ _ _ _
 
 span-at-requires : tie.Need-span-at-requires Inv-loop μ-loop
 span-at-requires c κs = search needs
@@ -34,7 +36,8 @@ returns : tie.Need-returns Inv-loop μ-loop
 unfolding SpanRead
 returns c =
     let inv = c .before .before .before .before .loop .inv in
-    (inv, counted-all _ _ (inv .indexed) (rw (c .enum-told .given .1) at (c .before .before .span-at .ensures)))
+    let ended = read-faulty spanOf _ _ (rw (c .enum-told .given .1) at (c .before .before .span-at .ensures)) in
+    (inv, counted-all _ (inv .indexed) ended)
 
 get-requires : tie.Need-get-requires Inv-loop μ-loop
 get-requires c κs = search needs
@@ -76,7 +79,7 @@ same-length-2 : tie.Need-same-length-2 Inv-loop μ-loop
 same-length-2 c = c .before .loop .inv .only .long
 
 returns-2 : tie.Need-returns-2 Inv-loop μ-loop
-returns-2 c = let inv = c .before .loop .inv in (inv, counted-most _ _ (inv .indexed) (c .loop-test .left))
+returns-2 c = let inv = c .before .loop .inv in (inv, counted-most _ (inv .indexed) (c .loop-test .left))
 
 pub store-spans-spec : {M : Type 1} → statement M
 store-spans-spec =

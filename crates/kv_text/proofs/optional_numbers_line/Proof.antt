@@ -69,7 +69,7 @@ returns-3 : tie.Need-returns-3
 unfolding text numbersRead
 returns-3 c = let l = rw (c .before .before .before .before .before .before .before .before .before .before .before .before .before .v .given .1) at (c .before .before .before .before .before .before .before .before .before .before .before .before .before .before .before .value-line .ensures) in
     let q = rw (c .before .n .given .1) at (c .before .before .before .before .before .read-numbers .ensures .0) in
-    (read-right _ _ _ (orMissing numberList) _ _ _ (l .0) (missing-some numberList _ _ (sym (c .before .before .before .before .before .before .before .before .before .same-bytes .ensures) ∙ (c .before .before .before .before .before .before .before .before .if1 .left)) (q .0)), (l .1, q .0, q .1), rw (q .0) (c .before .before .before .before .before .read-numbers .ensures .1))
+    (read-right _ _ _ (orMissing numberList) _ _ _ (l .0) (missing-some numberList _ _ (sym (c .before .before .before .before .before .before .before .before .before .same-bytes .ensures) ∙ (c .before .before .before .before .before .before .before .before .if1 .left)) (q .0)), (l .1 .forward, q .0, q .1), rw (q .0) (c .before .before .before .before .before .read-numbers .ensures .1))
 
 same-length-2 : tie.Need-same-length-2
 same-length-2 c = search needs

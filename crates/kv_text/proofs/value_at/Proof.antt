@@ -21,7 +21,9 @@ use Rattle.kv_text.proofs.value_at.Tie as tie
 module _ (s : List ℕ) (at : ℕ) (key : List ℕ) (e : ℕ) (ends : e ≡ at + fieldLength 10 (drop at s)) where
   found : e < length s → isThere (stripPrefix key (between s at e)) ≡ true
       → ValueRead s at key (valueBefore (At (at + length key)) (e + 1)) × (e + 1 ≡ behindLine at (valueBefore (At (at + length key)) (e + 1)))
-  found h there = rw add-sub-cancel ((line-with-key s at key e ends h there, key-fits s at key e ends there), refl)
+  found h there =
+      rw add-sub-cancel
+      ((line-with-key s at key e ends h there, record { begins = refl; forward = key-fits s at key e ends there }), refl)
 
 field-end-requires : tie.Need-field-end-requires
 field-end-requires c κs = search needs

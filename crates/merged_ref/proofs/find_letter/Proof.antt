@@ -1,6 +1,6 @@
 -- The segments with rows come first.
 use borrow.Author.Needs.{needs}
-use Rattle.merged_ref.proofs.Letters.{behind-rows, in-rows}
+use Rattle.merged_ref.proofs.LetterPlaces.{behind-rows, in-rows}
 use Rattle.merged_ref.proofs.find_letter.Statement.{statement}
 use Rattle.merged_ref.proofs.find_letter.Tie as tie
 
@@ -11,7 +11,7 @@ enum-known-letter : tie.Need-enum-known-letter
 enum-known-letter c = search needs
 
 returns : tie.Need-returns
-returns c = in-rows _ _ _ _ _ (rw ((c .before .letter .given .1)) at ((c .before .before .before .letter-in-rows .ensures)))
+returns c = in-rows _ _ _ _ (rw ((c .before .letter .given .1)) at ((c .before .before .before .letter-in-rows .ensures)))
 
 enum-told : tie.Need-enum-told
 enum-told c = search needs
@@ -23,7 +23,7 @@ letter-from-requires : tie.Need-letter-from-requires
 letter-from-requires c κs = search needs
 
 returns-2 : tie.Need-returns-2
-returns-2 c = behind-rows _ _ _ _ (rw ((c .before .before .enum-told .given .1)) at ((c .before .before .before .before .letter-in-rows .ensures))) _ (rw ((c .before .segments-next .ensures)) at ((c .letter-from .ensures)))
+returns-2 c = behind-rows _ _ _ _ (rw ((c .before .before .enum-told .given .1)) at ((c .before .before .before .before .letter-in-rows .ensures))) (rw ((c .before .segments-next .ensures)) at ((c .letter-from .ensures)))
 
 pub find-letter-spec : {M : Type 1} → statement M
 find-letter-spec =

@@ -4,12 +4,12 @@ use borrow.Author.Needs.{needs}
 use lib.ListN.{length}
 use native.Mathlib.Omega.{arith}
 use Rattle.clip_and_reference.specs.Groups.{SegmentRead}
-use Rattle.merged_ref.proofs.Letters.{LetterLeft, letter-end, letter-faulty, letter-found, letter-passed, letter-start}
+use Rattle.merged_ref.proofs.LetterPlaces.{LetterLeft, letter-end, letter-faulty, letter-found, letter-passed, letter-start}
 use Rattle.merged_ref.proofs.letter_from.Statement.{statement}
 use Rattle.merged_ref.proofs.letter_from.Tie as tie
 
 abbrev Inv-loop : tie.InvT-loop
-Inv-loop reference from contig position at₀ at = LetterLeft reference contig (position .0) from at
+Inv-loop reference from contig position at₀ at = LetterLeft contig (position .0) reference from at
 
 abbrev μ-loop : tie.MeasureT-loop
 μ-loop reference from contig position at₀ at = length reference - at
@@ -38,7 +38,7 @@ enum-known-letter c = search needs
 
 returns-2 : tie.Need-returns-2 Inv-loop μ-loop
 unfolding SegmentRead
-returns-2 c = let g = rw ((c .before .before .before .before .before .group .given .1)) at ((c .before .before .before .before .before .before .before .segment-at .ensures)) in letter-found _ _ _ _ (c .before .before .before .before .before .before .before .before .before .loop .inv) _ _ (g .0) _ (rw ((c .before .letter .given .1)) at ((c .before .before .before .letter-in .ensures)))
+returns-2 c = let g = rw ((c .before .before .before .before .before .group .given .1)) at ((c .before .before .before .before .before .before .before .segment-at .ensures)) in letter-found _ _ _ _ (c .before .before .before .before .before .before .before .before .before .loop .inv) (g .0) (g .2) (rw ((c .before .letter .given .1)) at ((c .before .before .before .letter-in .ensures)))
 
 enum-told-2 : tie.Need-enum-told-2 Inv-loop μ-loop
 enum-told-2 c = search needs
@@ -49,7 +49,7 @@ loop-less c = let g = rw ((c .before .before .before .before .group .given .1)) 
 
 loop-again : tie.Need-loop-again Inv-loop μ-loop
 unfolding SegmentRead
-loop-again c = let g = rw ((c .before .before .before .before .group .given .1)) at ((c .before .before .before .before .before .before .segment-at .ensures)) in letter-passed _ _ _ _ (c .before .before .before .before .before .before .before .before .loop .inv) _ _ (g .0) (rw ((c .enum-told2 .given .1)) at ((c .before .before .letter-in .ensures)))
+loop-again c = let g = rw ((c .before .before .before .before .group .given .1)) at ((c .before .before .before .before .before .before .segment-at .ensures)) in letter-passed _ _ _ _ (c .before .before .before .before .before .before .before .before .loop .inv) (g .0) (g .2) (rw ((c .enum-told2 .given .1)) at ((c .before .before .letter-in .ensures)))
 
 returns-3 : tie.Need-returns-3 Inv-loop μ-loop
 returns-3 c = letter-end _ _ _ _ (c .before .loop .inv) (c .loop-test .left)

@@ -3,7 +3,8 @@ use borrow.Author.Needs.{needs}
 use borrow.Author.Tests.{not-false, not-true}
 use mathlib.Core.Path.{_∙_, sym}
 use native.Mathlib.Omega.{arith}
-use Rattle.merged_ref.proofs.Letters.{at-index, off-contig, part-room, too-early, too-late}
+use Rattle.merged_ref.proofs.LetterPlaces.{at-index, off-contig, too-early, too-late}
+use Rattle.merged_ref.proofs.Letters.{part-room}
 use Rattle.merged_ref.proofs.letter_in.Statement.{statement}
 use Rattle.merged_ref.proofs.letter_in.Tie as tie
 

@@ -1,6 +1,7 @@
 -- The row's numbers are those of the segment.
 use borrow.Author.Needs.{needs}
 use mathlib.Core.Path.{_∙_}
+use Rattle.indexed_groups.specs.Indexed.{placedAt}
 use Rattle.tables.specs.Tables.{segmentAt}
 use Rattle.merged_ref.proofs.letter_in_row.Statement.{statement}
 use Rattle.merged_ref.proofs.letter_in_row.Tie as tie
@@ -27,7 +28,7 @@ letter-in-requires : tie.Need-letter-in-requires
 letter-in-requires c κs = search needs
 
 returns : tie.Need-returns
-unfolding segmentAt
+unfolding placedAt segmentAt
 returns c =
     let at-columns = c .before .before in
     let is-first = c .before .new-1based .ensures ∙ at-columns .before .before .segment-column3 .ensures in

@@ -1,13 +1,13 @@
 -- The loop's invariant: the rows from here on give the letter as all do.
 use Prim.Native.Nat.{_-_, _≤_, _<_}
 use borrow.Author.Needs.{needs}
-use Rattle.merged_ref.proofs.Letters.{RowsLeft, rows-absent, rows-found, rows-passed, rows-start}
+use Rattle.merged_ref.proofs.LetterPlaces.{RowsLeft, rows-absent, rows-found, rows-passed, rows-start}
 use Rattle.tables.specs.Tables.{segmentCount}
 use Rattle.merged_ref.proofs.letter_in_rows.Statement.{statement}
 use Rattle.merged_ref.proofs.letter_in_rows.Tie as tie
 
 abbrev Inv-loop : tie.InvT-loop
-Inv-loop reference rows contig position count segment₀ segment = RowsLeft reference contig (position .0) rows segment
+Inv-loop reference rows contig position count segment₀ segment = RowsLeft contig (position .0) reference rows segment
 
 abbrev μ-loop : tie.MeasureT-loop
 μ-loop reference rows contig position count segment₀ segment = count - segment
@@ -25,7 +25,7 @@ enum-known-letter : tie.Need-enum-known-letter Inv-loop μ-loop
 enum-known-letter c = search needs
 
 returns : tie.Need-returns Inv-loop μ-loop
-returns c = rows-found _ _ _ _ ((c .before .before .before .before .before .loop .inv)) (rw ((c .before .before .before .before .before .before .segment-count .ensures)) at ((c .before .before .before .before .loop-test .taken))) _ (rw ((c .before .letter .given .1)) at ((c .before .before .before .letter-in-row .ensures)))
+returns c = rows-found _ _ _ _ ((c .before .before .before .before .before .loop .inv)) (rw ((c .before .before .before .before .before .before .segment-count .ensures)) at ((c .before .before .before .before .loop-test .taken))) (rw ((c .before .letter .given .1)) at ((c .before .before .before .letter-in-row .ensures)))
 
 enum-told : tie.Need-enum-told Inv-loop μ-loop
 enum-told c = search needs

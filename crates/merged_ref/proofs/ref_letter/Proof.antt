@@ -1,6 +1,7 @@
 -- By whether a reference is there, and by what is found in it.
 use borrow.Author.Needs.{needs}
 use borrow.Author.Tests.{not-false, not-true}
+use Rattle.merged_ref.proofs.LetterPlaces.{place-lacks, place-stands}
 use Rattle.merged_ref.proofs.Refs.{letter-lacking, letter-there, not-referenced}
 use Rattle.merged_ref.proofs.ref_letter.Statement.{statement}
 use Rattle.merged_ref.proofs.ref_letter.Tie as tie
@@ -26,13 +27,13 @@ returns-2 : tie.Need-returns-2
 returns-2 c = λ s.
     let a = c .before .before .before .before .before .before .before .before .before .args in
     let there = not-false (a .referenced) (c .before .before .before .before .if1 .left) in
-    letter-there s _ _ _ _ (a .found .now) _ _ there _ (rw (c .before .letter .given .1) at (c .before .before .before .find-letter .ensures))
+    letter-there s _ _ _ _ (a .found .now) _ _ there _ (place-stands _ _ _ _ (rw (c .before .letter .given .1) at (c .before .before .before .find-letter .ensures)))
 
 returns-3 : tie.Need-returns-3
 returns-3 c = λ s.
     let a = c .before .before .before .before .before .before .before .before .args in
     let there = not-false (a .referenced) (c .before .before .before .if1 .left) in
-    letter-lacking s _ _ _ _ (a .found .now) _ _ there (rw (c .enum-told .given .1) at (c .before .before .find-letter .ensures))
+    letter-lacking s _ _ _ _ (a .found .now) _ _ there (place-lacks _ _ _ _ (rw (c .enum-told .given .1) at (c .before .before .find-letter .ensures)))
 
 pub ref-letter-spec : {M : Type 1} → statement M
 ref-letter-spec =

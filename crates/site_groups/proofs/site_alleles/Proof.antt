@@ -43,7 +43,7 @@ enum-told-2 c = search needs
 returns-2 : tie.Need-returns-2
 unfolding keyOf text
 returns-2 c = let reference = rw (c .before .before .before .before .before .reference .given .1) at (c .before .before .before .before .before .before .before .value-line .ensures) in
-    alt-wrong _ _ _ _ (reference .0) (reference .1) ((rw (c .enum-told2 .given .1) at (c .before .before .value-line2 .ensures)) .0)
+    alt-wrong _ _ _ _ (reference .0) (reference .1 .forward) ((rw (c .enum-told2 .given .1) at (c .before .before .value-line2 .ensures)) .0)
 
 add-t13 : tie.Need-add-t13
 add-t13 c = let h = line-within _ _ _ some _ _ ((rw (c .before .alternate .given .1) at (c .before .before .before .value-line2 .ensures)) .0) in omega arith
@@ -52,7 +52,7 @@ returns-3 : tie.Need-returns-3
 unfolding keyOf text
 returns-3 c = let reference = rw (c .before .before .before .before .before .before .reference .given .1) at (c .before .before .before .before .before .before .before .before .value-line .ensures) in
     let alternate = rw (c .before .alternate .given .1) at (c .before .before .before .value-line2 .ensures) in
-    alleles-read _ _ _ _ (reference .0) (reference .1) _ _ (alternate .0) (alternate .1)
+    alleles-read _ _ _ _ (reference .0) (reference .1 .forward) _ _ (alternate .0) (alternate .1 .forward)
 
 pub site-alleles-spec : {M : Type 1} → statement M
 site-alleles-spec =

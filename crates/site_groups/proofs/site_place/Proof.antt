@@ -73,7 +73,7 @@ returns-3 c =
     let at-site = at-name-line .before .before .before in
     let at-number-line = at-site .before .before in
     let contig = rw (at-contig .contig .given .1) at (at-name-line .name-line .ensures) in
-    start-wrong _ _ _ _ (rw (at-site .site .given .1) at (at-number-line .number-line .ensures)) _ _ (contig .0) (contig .1)
+    start-wrong _ _ _ _ (rw (at-site .site .given .1) at (at-number-line .number-line .ensures)) _ _ (contig .0) (contig .1 .forward)
     (rw (c .enum-told3 .given .1) at (at-number-line2 .number-line2 .ensures))
 
 add-number-line-2 : tie.Need-add-number-line-2
@@ -102,7 +102,7 @@ returns-4 c =
     let at-site = at-name-line .before .before .before in
     let at-number-line = at-site .before .before in
     let contig = rw (at-contig .contig .given .1) at (at-name-line .name-line .ensures) in
-    end-wrong _ _ _ _ (rw (at-site .site .given .1) at (at-number-line .number-line .ensures)) _ _ (contig .0) (contig .1)
+    end-wrong _ _ _ _ (rw (at-site .site .given .1) at (at-number-line .number-line .ensures)) _ _ (contig .0) (contig .1 .forward)
     _ _ (rw (at-from .from .given .1) at (at-number-line2 .number-line2 .ensures)) (rw (c .enum-told4 .given .1) at (at-number-line3 .number-line3 .ensures))
 
 cast-new : tie.Need-cast-new
@@ -143,7 +143,7 @@ returns-5 c =
     let at-site = at-name-line .before .before .before in
     let at-number-line = at-site .before .before in
     let contig = rw (at-contig .contig .given .1) at (at-name-line .name-line .ensures) in
-    place-read _ _ _ _ (rw (at-site .site .given .1) at (at-number-line .number-line .ensures)) _ _ (contig .0) (contig .1)
+    place-read _ _ _ _ (rw (at-site .site .given .1) at (at-number-line .number-line .ensures)) _ _ (contig .0) (contig .1 .forward)
     _ _ (rw (at-from .from .given .1) at (at-number-line2 .number-line2 .ensures)) _ _
     (rw (at-to .to .given .1) at (at-number-line3 .number-line3 .ensures)) (at-new .new .ensures) (c .before .new-1based .ensures) (c .new-1based2 .ensures)
 
