@@ -1,6 +1,7 @@
 -- A block by the number of ALTs and the length of REF.
 use borrow.Author.Needs.{needs}
 use mathlib.Core.Path.{_∙_, sym}
+use Rattle.coalescing.proofs.StepLaws.{record-step}
 use Rattle.contig_walk.proofs.LaidRecords.{by-numbers, other-record, record-fits}
 use Rattle.contig_walk.specs.Laying.{laidRecord}
 use Rattle.contig_walk.proofs.lay_record.Statement.{statement}
@@ -34,7 +35,10 @@ same-length-5 : tie.Need-same-length-5
 same-length-5 c = search needs
 
 returns-2 : tie.Need-returns-2
-returns-2 c = λ ready waiting d₀ bytes records h p. (c .before .before .step-record .ensures) waiting (laidRecord ready) d₀ bytes records h (other-record ready (by-numbers ready ∙ sym (c .before .before .before .before .before .before .is-homref-nonref-only .ensures) ∙ (c .before .before .before .before .before .if1 .left))) p
+returns-2 c = λ ready waiting d₀ bytes records h p.
+    let other = by-numbers ready ∙ sym (c .before .before .before .before .before .before .is-homref-nonref-only .ensures) ∙ c .before .before .before .before .before .if1 .left in
+    let step = c .before .before .step-record .ensures in
+    record-step _ _ _ _ _ _ d₀ bytes records _ _ _ _ (laidRecord ready) (other-record ready other) _ waiting h _ _ _ p _ _ (step .0) (step .1)
 
 pub lay-record-spec : {M : Type 1} → statement M
 lay-record-spec =
