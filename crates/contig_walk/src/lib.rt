@@ -285,8 +285,8 @@ pub fn walk_contig<'a>(
 ) -> Walked
     requires { ⌜ WalkReady (now s) (now rows) samples clipped (now clip) referenced (now reference) (now contig) (now chosen) (now bounds) (now places) × Begun (now out) at count × WalkRoom (now held) (now fresh) (now alts) ⌝ }
     ensures { λ r. ⌜ ((ready : WalkReady (now (s .entry)) (now (rows .entry)) samples clipped (now (clip .entry)) referenced (now (reference .entry)) (now (contig .entry)) (now (chosen .entry)) (now (bounds .entry)) (now (places .entry)))
-        (d₀ bytes : List ℕ) (records : ℕ) → Progress d₀ bytes records (now (out .entry)) at count
-        → RecordsWalked (mergedContig (ready .runs .on .loaded .input) (chosenLetters (ready .runs .on .loaded)) (now (contig .entry))) d₀ bytes records (now (out .exit)) r) ⌝ }
+        (begun : Begun (now (out .entry)) at count)
+        → RecordsWalked (mergedContig (ready .runs .on .loaded .input) (chosenLetters (ready .runs .on .loaded)) (now (contig .entry))) (begun .d₀) (begun .bytes) (begun .records) (now (out .exit)) r) ⌝ }
 {
     let mut found = [0usize; 64];
     let mut owners = [0usize; 64];
