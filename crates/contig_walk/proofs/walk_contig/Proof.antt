@@ -4,7 +4,7 @@ use borrow.Author.Needs.{needs}
 use lib.ListN.{getD, length}
 use mathlib.Core.Path.{_∙_, _≡_, refl}
 use native.Mathlib.Omega.{arith}
-use Rattle.contig_walk.proofs.Walking.{Walking, end-fits, next-place, refused-here, search-here, search-later, search-start, turn-ready, walking-end, walking-next, walking-start}
+use Rattle.contig_walk.proofs.Walking.{Walking, end-fits, next-place, refused-here, search-here, search-later, search-start, turn-ready, turn-underway, walking-end, walking-next, walking-start}
 use Rattle.contig_walk.specs.Walk.{Begun, WalkReady}
 use Rattle.covering_sites.specs.Ended.{Ended}
 use Rattle.contig_walk.proofs.walk_contig.Statement.{statement}
@@ -85,15 +85,18 @@ walk-interval-requires c κs =
     let searched = search-here (start .pre .0) _ (at-loop .8) _ first (c .before .before .before .before .before .before .before .before .skip-ended .ensures) in
     let begun = start .pre .1 in
     let w = at-loop .3 (start .pre .0) begun in
-    turn-ready (start .pre .0) (begun .d₀) (begun .bytes) (begun .records) _ _ _ _ w _ _ more first last searched (record {
-      for-held = omega (arith, at-loop .0, start .pre .2 .for-held);
-      for-fresh = omega (arith, at-loop .4, start .pre .2 .for-fresh);
-      for-record = record {
-        for-sites = omega (arith, at-loop .5, start .pre .0 .runs .on .loaded .few);
-        for-owners = omega (arith, at-loop .9, start .pre .0 .runs .on .loaded .few);
-        for-alts = omega (arith, at-loop .6, start .pre .2 .for-alts);
-      };
-    })
+    let way = turn-underway (start .pre .0) (begun .d₀) (begun .bytes) (begun .records) _ _ _ _ w in (
+      turn-ready (start .pre .0) (begun .d₀) (begun .bytes) (begun .records) _ _ _ _ w _ _ more first last searched (record {
+        for-held = omega (arith, at-loop .0, start .pre .2 .for-held);
+        for-fresh = omega (arith, at-loop .4, start .pre .2 .for-fresh);
+        for-record = record {
+          for-sites = omega (arith, at-loop .5, start .pre .0 .runs .on .loaded .few);
+          for-owners = omega (arith, at-loop .9, start .pre .0 .runs .on .loaded .few);
+          for-alts = omega (arith, at-loop .6, start .pre .2 .for-alts);
+        };
+      }),
+      way,
+    )
 
 enum-known-turn : tie.Need-enum-known-turn Inv-loop μ-loop
 enum-known-turn c = search needs
@@ -111,7 +114,7 @@ same-length-4 : tie.Need-same-length-4 Inv-loop μ-loop
 same-length-4 c = (c .before .before .before .before .before .before .before .before .before .before .before .before .before .walk-interval .kept .1 .1 .1 .1 .1 .1 .1 .1 .1 .1 .1 .1 .1 .1 .1 .1 .1 .1 .0) ∙ (c .before .before .before .before .before .before .before .before .before .before .before .before .before .before .before .before .before .before .before .before .before .before .before .before .before .before .before .before .before .before .loop .inv .1)
 
 returns : tie.Need-returns Inv-loop μ-loop
-unfolding turn-ready
+unfolding turn-ready turn-underway
 returns c = λ ready begun.
     let start = c .before .before .before .before .before .before .before .before .before .before .before .before .before .before .before .before .before .before .before .before .before .before .before .before .before .before .before .before .before .before .before .before .before .before .before .before .before .before .before .before .before .before .before .before .before .before in
     let at-loop = c .before .before .before .before .before .before .before .before .before .before .before .before .before .before .before .before .before .before .before .before .before .before .before .before .before .before .before .before .before .before .loop .inv in
@@ -131,7 +134,7 @@ returns c = λ ready begun.
         for-alts = omega (arith, at-loop .6, start .pre .2 .for-alts);
       };
     }))
-    (w .waiting) _ _ _ (w .holds) (w .progress)))
+    (turn-underway ready (begun .d₀) (begun .bytes) (begun .records) _ _ _ _ w)))
 
 enum-known-turn-2 : tie.Need-enum-known-turn-2 Inv-loop μ-loop
 enum-known-turn-2 c = search needs
@@ -143,7 +146,7 @@ loop-less : tie.Need-loop-less Inv-loop μ-loop
 loop-less c = omega (arith, (c .before .before .before .before .before .before .before .before .before .before .before .before .before .before .before .before .before .before .before .before .before .before .before .before .before .before .before .before .before .loop-test .taken))
 
 loop-again : tie.Need-loop-again Inv-loop μ-loop
-unfolding turn-ready
+unfolding turn-ready turn-underway
 loop-again c =
     let start = c .before .before .before .before .before .before .before .before .before .before .before .before .before .before .before .before .before .before .before .before .before .before .before .before .before .before .before .before .before .before .before .before .before .before .before .before .before .before .before .before .before .before .before .before .before .before in
     let at-loop = c .before .before .before .before .before .before .before .before .before .before .before .before .before .before .before .before .before .before .before .before .before .before .before .before .before .before .before .before .before .before .loop .inv in
@@ -167,7 +170,7 @@ loop-again c =
               for-alts = omega (arith, at-loop .6, start .pre .2 .for-alts);
             };
           }))
-          (w .waiting) _ _ _ (w .holds) (w .progress)))),
+          (turn-underway ready (begun .d₀) (begun .bytes) (begun .records) _ _ _ _ w)))),
       c .before .before .before .before .before .before .before .before .before .before .before .before .before .walk-interval .kept .1 .1 .1 .1 .1 .1 .1 .1 .1 .1 .1 .1 .1 .1 .0 ∙ at-loop .4,
       c .before .before .before .before .before .before .before .before .before .before .before .before .before .walk-interval .kept .1 .1 .1 .1 .1 .1 .1 .1 .1 .1 .1 .1 .1 .1 .1 .0 ∙ at-loop .5,
       c .before .before .before .before .before .before .before .before .before .before .before .before .before .walk-interval .kept .1 .1 .1 .1 .1 .1 .1 .1 .1 .1 .1 .1 .1 .1 .1 .1 .1 .0 ∙ at-loop .6,
