@@ -121,6 +121,12 @@ module _ {s names rows : List ℕ} {samples : ℕ} {clipped : Bool} {clip : List
 
 -- ---- the second pass
 
+-- bytes that fill a list are all that it holds
+sets-whole : (d bytes : List ℕ) → length d ≡ length bytes → sets d 0 bytes ≡ bytes
+sets-whole d bytes e =
+    let all : length d ≤ length bytes = omega arith in
+    sets-front d bytes (omega arith) ∙ rw (drop-of-length-le d all) (append-nil bytes)
+
 module _ {s names rows : List ℕ} {samples : ℕ} {clipped : Bool} {clip : List ℕ} {referenced : Bool} {reference contigs order bounds : List ℕ}
     {scratch len count : ℕ} (m : Measurement s names rows samples clipped clip referenced reference contigs order bounds scratch len count) where
   pub count-low : count ≤ 2147483647
@@ -159,11 +165,12 @@ module _ {s names rows : List ℕ} {samples : ℕ} {clipped : Bool} {clip : List
     -- there is room, and the list is written over the part that it takes
     pub fitting-answered : {written : List ℕ} (out : List ℕ) → r + len ≤ length (part ++ out)
         → ((m : Measurement s names rows samples clipped clip referenced reference contigs order bounds scratch len count)
-        → length (take (r + len) (part ++ out)) ≡ length (listTo m) → written ≡ listTo m)
+        → written ≡ sets (take (r + len) (part ++ out)) 0 (listTo m))
         → Answered (within (length out) (listTo m)) out (written ++ drop (r + len) (part ++ out)) (outcome.Written (r + len))
     fitting-answered {written} out h writes =
         let empty : part ++ out ≡ out = ap (λ (p : List ℕ). p ++ out) (nothing-laid header) in
-        let all : written ≡ listTo m = writes m (omega (arith, length-take (r + len) (part ++ out), list-length)) in
+        let exact : length (take (r + len) (part ++ out)) ≡ length (listTo m) = omega (arith, length-take (r + len) (part ++ out), list-length) in
+        let all : written ≡ listTo m = writes m ∙ sets-whole (take (r + len) (part ++ out)) (listTo m) exact in
         let room : length (listTo m) ≤ length out = omega (arith, ap length empty, list-length) in
         answered-written (is-within (listTo m) room) list-length (rw (all, empty, list-length))
 
@@ -181,15 +188,13 @@ module _ {s names rows : List ℕ} {samples : ℕ} {clipped : Bool} {clip : List
       };
     }
 
-    pub list-written : {out₂ : List ℕ} (w : Walked) → WalkSays (m .ready) out₁ at scratch out₂ w → length out ≡ length (listTo m) → out₂ ≡ listTo m
+    pub list-written : {out₂ : List ℕ} (w : Walked) → WalkSays (m .ready) out₁ at scratch out₂ w → out₂ ≡ sets out 0 (listTo m)
     unfolding RecordsWalked writing
-    list-written {out₂} w says exact = go w (says writing)
+    list-written {out₂} w says = go w (says writing)
       where
-        go : (w : Walked) → RecordsWalked (allRecords (m .ready .tables) scratch) out headerOf 0 out₂ w → out₂ ≡ listTo m
+        go : (w : Walked) → RecordsWalked (allRecords (m .ready .tables) scratch) out headerOf 0 out₂ w → out₂ ≡ sets out 0 (listTo m)
         go (walked.Refused row) e = not-refused (sym (e .merged) ∙ m .merged)
         go (walked.To end records) laid =
             let same : laid .list ≡ m .records = accepted-same (sym (laid .merged) ∙ m .merged) in
             let bytes : headerOf ++ flatMap printedRecord (laid .list) ≡ listTo m = rw same (sym list-parts) in
-            let all : out₂ ≡ sets out 0 (listTo m) = laid .progress .measured .laid ∙ ap (sets out 0) bytes in
-            all ∙ sets-front out (listTo m) (omega arith)
-            ∙ rw (drop-of-length-le out (let h : length out ≤ length (listTo m) = omega arith in h)) (append-nil (listTo m))
+            laid .progress .measured .laid ∙ ap (sets out 0) bytes
