@@ -1,9 +1,9 @@
 -- The two passes: the list is measured, and if there is room it is written.
 use Prim.Native.Nat.{_*_, _+_, _<_, _≤_, ℕ}
-use lib.ListN.{drop, drop-of-length-le, length, length-append, length-take, take}
+use lib.ListN.{drop, length, length-append, length-take, take}
 use lib.Seq.{sets}
 use mathlib.Core.Bool.{Bool, false, true}
-use mathlib.Core.List.{List, [], _++_, _∷_, append-nil, flatMap}
+use mathlib.Core.List.{List, [], _++_, _∷_, flatMap}
 use mathlib.Core.Path.{_∙_, _≡_, ap, refl, subst, sym}
 use native.Mathlib.Omega.{arith}
 use Rattle.answers.proofs.Answers.{answered-refused, answered-written, is-within, not-within}
@@ -17,7 +17,7 @@ use Rattle.definitions.specs.Lists.{onlyIf}
 use Rattle.definitions.specs.Numbers.{maxNumber}
 use Rattle.definitions.specs.Printed.{printedHeader, printedList, printedRecord}
 use Rattle.definitions.specs.Records.{Record}
-use Rattle.kv_write.proofs.Laying.{sets-front, sets-nothing}
+use Rattle.kv_write.proofs.Laying.{sets-nothing}
 use Rattle.kv_write.specs.Laid.{Laid}
 use Rattle.laws.proofs.Checked.{accepted-same, not-refused, then, then-refused}
 use Rattle.laws.proofs.CombinedRecordsSound.{records-sound}
@@ -26,7 +26,7 @@ use Rattle.laws.proofs.RecordCount.{records-few}
 use Rattle.laws.proofs.ReferenceLetter.{first-letter}
 use Rattle.laws.proofs.SoundRecords.{RecordAfter}
 use Rattle.list_header.proofs.HeaderLines.{header-fits}
-use Rattle.list_header.proofs.TwoPasses.{measured-none}
+use Rattle.list_header.proofs.TwoPasses.{measured-none, sets-whole}
 use Rattle.list_header.specs.Measured.{limit}
 use Rattle.merged_records.specs.Loaded.{Loaded, chosenLetters}
 use Rattle.record_laws.proofs.Lengths.{mostHeader, mostRecord, record-few}
@@ -120,12 +120,6 @@ module _ {s names rows : List ℕ} {samples : ℕ} {clipped : Bool} {clip : List
         subst (λ (c : Checked (List ℕ)). Answered c out out₂ r) (sym (then _ (within (length out)) list refl)) answer
 
 -- ---- the second pass
-
--- bytes that fill a list are all that it holds
-sets-whole : (d bytes : List ℕ) → length d ≡ length bytes → sets d 0 bytes ≡ bytes
-sets-whole d bytes e =
-    let all : length d ≤ length bytes = omega arith in
-    sets-front d bytes (omega arith) ∙ rw (drop-of-length-le d all) (append-nil bytes)
 
 module _ {s names rows : List ℕ} {samples : ℕ} {clipped : Bool} {clip : List ℕ} {referenced : Bool} {reference contigs order bounds : List ℕ}
     {scratch len count : ℕ} (m : Measurement s names rows samples clipped clip referenced reference contigs order bounds scratch len count) where
