@@ -29,6 +29,16 @@ use Rattle.coalescing.specs.declared.Pending.{Pending}
 use Rattle.coalescing.specs.declared.Pending.the-variants.{Block, Nothing}
 use Rattle.coalescing.specs.declared.Stepped.{Stepped}
 
+-- where the list goes on and how many records it has, behind the one that was held back and another
+pub both-counted : (s rows reference contig held : List ℕ) (pending : Pending) (at count : ℕ) (lines : List ℕ) {behind next end at′ laid count′ : ℕ}
+    → behind ≡ at + length (pendingBytes s rows reference contig held pending) → next ≡ min limit behind
+    → end ≡ next + length lines → at′ ≡ min limit end
+    → laid ≡ pendingCount pending count → count′ ≡ min mostCount (laid + 1)
+    → _≡_ {A = Stepped} (record { pending = Nothing; at = at′; count = count′ })
+    (recordStepped pending (behindPending s rows reference contig held pending at) lines count)
+unfolding recordStepped behindPending
+both-counted s rows reference contig held pending at count lines b n e a l c = rw (a, e, n, b, c, l)
+
 module _ (s rows : List ℕ) (samples : ℕ) (reference contig held : List ℕ) (d₀ bytes : List ℕ) (records : ℕ) where
   -- the record that was held back is laid
   count-laid : (pending : Pending) (waiting : Option Record) → Holds s rows samples reference contig held pending waiting → {count : ℕ}

@@ -20,7 +20,7 @@ returns : tie.Need-returns
 unfolding blockStepped blockLays heldAfter
 returns c =
     let joins = sym (c .before .before .joins .ensures) ∙ c .before .if1 .taken in
-    (rw (joins, c .set-end .ensures), (rw joins, rw joins))
+    (rw joins (cc (c .set-end .ensures)), (rw joins, rw joins))
 
 put-pending-requires : tie.Need-put-pending-requires
 put-pending-requires c κs = (c .before .before .before .before .before .before .before .before .before .before .before .before .pre .fits)
@@ -46,7 +46,7 @@ returns-2 c =
     let apart = sym (c .before .before .before .before .before .before .before .before .before .before .before .before .joins .ensures) ∙ c .before .before .before .before .before .before .before .before .before .before .before .if1 .left in
     let laid = c .before .before .before .before .before .before .before .before .put-pending .ensures in
     let held = c .before .before .before .before .put-bytes .ensures in (
-      rw (apart, c .before .cap .ensures, c .count-pending .ensures, laid .next, held .next, zero-add),
+      rw apart (cc (c .before .cap .ensures, c .count-pending .ensures, laid .next, held .next ∙ zero-add _)),
       (rw apart (laid .laid), rw apart (held .laid)),
     )
 

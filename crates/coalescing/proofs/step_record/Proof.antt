@@ -1,8 +1,8 @@
 -- The one that is held back, then this one.
 use borrow.Author.Needs.{needs}
 use native.Mathlib.Omega.{arith}
+use Rattle.coalescing.proofs.StepLaws.{both-counted}
 use Rattle.coalescing.specs.Held.{behindPending}
-use Rattle.coalescing.specs.Steps.{recordStepped}
 use Rattle.coalescing.proofs.step_record.Statement.{statement}
 use Rattle.coalescing.proofs.step_record.Tie as tie
 
@@ -29,12 +29,12 @@ same-length : tie.Need-same-length
 same-length c = search needs
 
 returns : tie.Need-returns
-unfolding recordStepped behindPending
+unfolding behindPending
 returns c =
     let pending = c .before .before .before .before .before .before .before .before .before .before .put-pending .ensures in
     let next = c .before .before .before .before .before .before .before .cap .ensures in
     let lines = c .before .before .before .before .before .merge-result-to-record .ensures in (
-      rw (c .before .before .cap2 .ensures, c .count-more .ensures, c .before .count-pending .ensures, lines .next, next, pending .next),
+      both-counted _ _ _ _ _ _ _ _ _ (pending .next) next (lines .next) (c .before .before .cap2 .ensures) (c .before .count-pending .ensures) (c .count-more .ensures),
       rw (← pending .laid, ← pending .next, ← next) (lines .laid),
     )
 
