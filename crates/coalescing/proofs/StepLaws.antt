@@ -142,10 +142,15 @@ module _ (s rows : List ℕ) (samples : ℕ) (reference contig held : List ℕ) 
         rw (stepped, laid, after) (go (joinsPending s rows reference held pending (loc .start .0) place fresh) refl)
       where
         go : (j : Bool) → joinsPending s rows reference held pending (loc .start .0) place fresh ≡ j
-            → StepTo s rows samples reference contig (cond j held (sets held 0 fresh)) (sets out at (cond j [] (pendingBytes s rows reference contig held pending)))
+            → StepTo s rows samples reference contig (cond j held (sets held 0 fresh))
+            (sets out at (cond j [] (pendingBytes s rows reference contig held pending)))
             waiting new d₀ bytes records
             (cond j (record { pending = joinedTo pending (loc .end); at = at; count = count })
-            (record { pending = Block loc place (length fresh); at = behindPending s rows reference contig held pending at; count = pendingCount pending count }))
+            (record {
+              pending = Block loc place (length fresh);
+              at = behindPending s rows reference contig held pending at;
+              count = pendingCount pending count;
+            }))
         go true j = step-joined pending waiting h j out at count p
         go false j =
             step-apart pending waiting h j _ _ room (record { next = sym (zero-add (length fresh)); laid = refl }) out _ at count _ p
@@ -197,7 +202,8 @@ module _ (s rows : List ℕ) (samples : ℕ) (reference contig held : List ℕ) 
     pub record-step : (pending : Pending) (waiting : Option Record) → Holds s rows samples reference contig held pending waiting
         → (out : List ℕ) (at count : ℕ) → Progress d₀ bytes records out at count
         → (out′ : List ℕ) (r : Stepped)
-        → r ≡ recordStepped pending (behindPending s rows reference contig held pending at) (recordBytes s rows samples reference contig position place own alts) count
+        → r ≡ recordStepped pending (behindPending s rows reference contig held pending at)
+        (recordBytes s rows samples reference contig position place own alts) count
         → out′ ≡ sets (sets out at (pendingBytes s rows reference contig held pending)) (behindPending s rows reference contig held pending at)
         (recordBytes s rows samples reference contig position place own alts)
         → StepTo s rows samples reference contig held out′ waiting new d₀ bytes records r

@@ -157,7 +157,8 @@ module _ {s rows : List ℕ} {samples : ℕ} {clipped : Bool} {clip : List ℕ} 
         pub one-walked : (out out′ : List ℕ) (at count scratch : ℕ) (w : Walked)
             → length (breakpoints (g .loaded .input .cohort .sites) (g .loaded .input .clip) contig) ≤ scratch
             → ((ready : WalkReady s rows samples clipped clip referenced reference contig chosen parts places) (begun : Begun out at count)
-            → RecordsWalked (mergedContig (ready .runs .on .loaded .input) (chosenLetters (ready .runs .on .loaded)) contig) (begun .d₀) (begun .bytes) (begun .records) out′ w)
+            → RecordsWalked (mergedContig (ready .runs .on .loaded .input) (chosenLetters (ready .runs .on .loaded)) contig)
+            (begun .d₀) (begun .bytes) (begun .records) out′ w)
             → (d₀ bytes : List ℕ) (records : ℕ) → Progress d₀ bytes records out at count
             → RecordsWalked (recordsOn g scratch first) d₀ bytes records out′ w
         unfolding walk-ready in-contig-runs

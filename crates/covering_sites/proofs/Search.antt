@@ -1,7 +1,7 @@
 -- The search for the first site of each run that covers a position, one site and one sample at a time.
 use Prim.Native.Nat.{_+_, _-_, _<_, _^_, _≤_, suc, ℕ}
 use lib.ListN.{getD, length, set}
-use lib.Seq.{drop-cons, sets}
+use lib.Seq.{drop-cons}
 use mathlib.Core.Bool.{Bool, cond, false, true}
 use mathlib.Core.List.{List, [], _∷_, filterMap, filterMap-cons-none, filterMap-cons-some}
 use mathlib.Core.Option.{Option, Option·map, none, some}
@@ -117,7 +117,8 @@ module _ (rows : List ℕ) (position : ℕ) (chosen bounds : List ℕ) (samples 
       }
 
     pub samples-end : samples ≤ x
-        → Found found₀ (coveringRows rows position samples (runAt chosen bounds)) found owners₀ (coveringSamples rows position samples (runAt chosen bounds)) owners count
+        → Found found₀ (coveringRows rows position samples (runAt chosen bounds)) found
+        owners₀ (coveringSamples rows position samples (runAt chosen bounds)) owners count
     unfolding foundFrom ownersFrom filterMap
     samples-end h =
         let l = done (recast (ap (filterMap _) (numbers-end samples x h)) (s .left)) in
@@ -147,6 +148,7 @@ module _ {list bounds : List ℕ} {samples : ℕ} {run : ℕ → List ℕ} (r : 
       (λ x m. ap (λ (t : List ℕ). Option·map (λ _. x) (firstWhere (rowCovers rows position) t)) (run-known x m))
 
   pub found-known : {before after samples-before samples-after : List ℕ} {n : ℕ}
-      → Found before (coveringRows rows position samples (runAt list bounds)) after samples-before (coveringSamples rows position samples (runAt list bounds)) samples-after n
+      → Found before (coveringRows rows position samples (runAt list bounds)) after
+      samples-before (coveringSamples rows position samples (runAt list bounds)) samples-after n
       → Found before (coveringRows rows position samples run) after samples-before (coveringSamples rows position samples run) samples-after n
   found-known f = rw (← rows-known, ← samples-known) f

@@ -38,7 +38,8 @@ returns : tie.Need-returns
 returns c = λ ready block way.
     let f = fresh-lines ready block _ _ (rw (c .before .before .before .before .before .before .before .before .before .before .before .before .ref-bytes .ensures) at (c .before .before .before .before .before .before .before .before .before .before .merge-genotypes .ensures)) in
     let step = c .before .before .before .before .coalesce-homref-blocks .ensures in
-    block-step _ _ _ _ _ _ (way .begun .d₀) (way .begun .bytes) (way .begun .records) _ _ _ (laidRecord ready) (new-block ready block _ (f .lines)) _ (way .waiting) (way .holds)
+    block-step _ _ _ _ _ _ (way .begun .d₀) (way .begun .bytes) (way .begun .records) _ _ _
+    (laidRecord ready) (new-block ready block _ (f .lines)) _ (way .waiting) (way .holds)
     (omega (arith, ap length (f .lines), ready .room, lines-few ready block)) _ _ _ (way .begun .progress) _ _ _ (step .0) (step .1 .0) (step .1 .1)
 
 pub lay-block-spec : {M : Type 1} → statement M

@@ -45,7 +45,8 @@ returns-2 : tie.Need-returns-2
 returns-2 c = λ ready way.
     let other = by-numbers ready ∙ sym (c .before .before .before .before .before .before .is-homref-nonref-only .ensures) ∙ c .before .before .before .before .before .if1 .left in
     let step = c .before .before .step-record .ensures in
-    record-step _ _ _ _ _ _ (way .begun .d₀) (way .begun .bytes) (way .begun .records) _ _ _ _ (laidRecord ready) (other-record ready other) _ (way .waiting) (way .holds)
+    record-step _ _ _ _ _ _ (way .begun .d₀) (way .begun .bytes) (way .begun .records) _ _ _ _
+    (laidRecord ready) (other-record ready other) _ (way .waiting) (way .holds)
     _ _ _ (way .begun .progress) _ _ (step .0) (step .1)
 
 pub lay-record-spec : {M : Type 1} → statement M

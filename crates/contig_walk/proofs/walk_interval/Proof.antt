@@ -109,7 +109,8 @@ returns-2 c = λ ready way.
     let at-merge = c .before .before .before .before .before .before .before .before in
     let at-clip = at-merge .before .before .before .before in
     let inside = in-input-clip ready (at-clip .before .passes-clip .ensures) (not-false _ (at-clip .if1 .left)) in
-    turn-bare ready (way .waiting) (way .begun .d₀) (way .begun .bytes) (way .begun .records) (way .holds) inside (rw (c .enum-told .given .1) at (at-merge .merge-reference-confidence .ensures .0 (ready .runs))) _ _ (way .begun .progress)
+    turn-bare ready (way .waiting) (way .begun .d₀) (way .begun .bytes) (way .begun .records) (way .holds) inside
+    (rw (c .enum-told .given .1) at (at-merge .merge-reference-confidence .ensures .0 (ready .runs))) _ _ (way .begun .progress)
 
 same-length-4 : tie.Need-same-length-4
 same-length-4 c = c .before .before .before .before .before .before .before .before .before .merge-reference-confidence .kept .1 .1 .1 .1 .1 .1 .1 .1 .1 .1 .0
@@ -127,7 +128,8 @@ returns-3 c = λ ready way.
     let f = rw (c .before .here .given .1) at (at-merge .merge-reference-confidence .ensures .0 (ready .runs)) in
     let at-clip = at-merge .before .before .before .before in
     let inside = in-input-clip ready (at-clip .before .passes-clip .ensures) (not-false _ (at-clip .if1 .left)) in
-    turn-none ready (way .waiting) (way .begun .d₀) (way .begun .bytes) (way .begun .records) (way .holds) inside _ (f .0) (f .1) _ (way .begun .progress .measured .laid)
+    turn-none ready (way .waiting) (way .begun .d₀) (way .begun .bytes) (way .begun .records) (way .holds) inside
+    _ (f .0) (f .1) _ (way .begun .progress .measured .laid)
 
 same-length-7 : tie.Need-same-length-7
 same-length-7 c = c .before .before .before .before .before .before .lay-record .kept .1 .1 .1 .1 .1 .1 .1 .1 .1 .1 .1 .0
@@ -157,7 +159,8 @@ returns-4 c = λ ready way.
     let inside = in-input-clip ready (at-clip .before .passes-clip .ensures) (not-false _ (at-clip .if1 .left)) in
     let at-part = c .before .before .before .before .before .before .before .before .before .before .before in
     let own = own-known ready _ _ _ _ _ _ f _ (answer .1 .0 (ready .runs)) (answer .1 .1 (ready .runs)) (at-part .before .before .before .own-sites .ensures) in
-    turn-laid ready (way .waiting) (way .begun .d₀) (way .begun .bytes) (way .begun .records) (way .holds) inside _ _ _ _ _ _ f _ (at-part .part .ensures) _ own _ _ _
+    turn-laid ready (way .waiting) (way .begun .d₀) (way .begun .bytes) (way .begun .records) (way .holds) inside
+    _ _ _ _ _ _ f _ (at-part .part .ensures) _ own _ _ _
     (c .before .before .before .before .before .before .lay-record .ensures (lay-ready ready inside _ _ _ _ _ _ f _ (at-part .part .ensures) _ own) way)
 
 pub walk-interval-spec : {M : Type 1} → statement M
