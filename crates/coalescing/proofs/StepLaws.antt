@@ -2,7 +2,7 @@
 use Prim.Native.Nat.{_+_, _≤_, min, ℕ}
 use lib.ListN.{drop, length, length-append}
 use lib.Seq.{sets, take-at, take-length}
-use mathlib.Core.Bool.{false, true}
+use mathlib.Core.Bool.{Bool, cond, false, true}
 use mathlib.Core.List.{List, [], _++_, _∷_, append-assoc, append-nil, flatMap}
 use mathlib.Core.Option.{Option, none, some}
 use mathlib.Core.Path.{_∙_, _≡_, ap, refl, sym}
@@ -17,30 +17,27 @@ use Rattle.kv_write.specs.Laid.{Laid}
 use Rattle.laws.proofs.Members.{flatMap-append}
 use Rattle.laws.proofs.Tests.{clash}
 use Rattle.list_header.proofs.TwoPasses.{counted-more, measured-more}
-use Rattle.list_header.specs.Measured.{Counted, limit}
+use Rattle.list_header.specs.Measured.{Counted, limit, mostCount}
 use Rattle.merged_ref.specs.Answers.{refBytes}
 use Rattle.merged_ref.specs.declared.RefAt.{RefAt}
 use Rattle.record_laws.proofs.Coalescing.{turn-apart, turn-both-done, turn-done, turn-held, turn-joined}
 use Rattle.record_laws.specs.Pending.{andLater, finish}
-use Rattle.record_lines.specs.Head.{headOf}
-use Rattle.record_lines.specs.Samples.{printedSamples}
 use Rattle.coalescing.proofs.HeldBlocks.{held-joins, held-printed, holds-joined}
-use Rattle.coalescing.specs.Held.{HeldBlock, Holds, heldAfter, joinedTo, joinsPending, ofOption, pendingBytes, pendingCount}
-use Rattle.coalescing.specs.Steps.{OtherRecord, Progress, StepTo}
+use Rattle.coalescing.specs.Held.{HeldBlock, Holds, behindPending, heldAfter, joinedTo, joinsPending, ofOption, pendingBytes, pendingCount}
+use Rattle.coalescing.specs.Steps.{OtherRecord, Progress, StepTo, blockLays, blockStepped, recordBytes, recordStepped}
 use Rattle.coalescing.specs.declared.Pending.{Pending}
 use Rattle.coalescing.specs.declared.Pending.the-variants.{Block, Nothing}
+use Rattle.coalescing.specs.declared.Stepped.{Stepped}
 
--- the lines that are held behind a block
-module _ (s rows reference held : List ℕ) (pending : Pending) (position : ℕ) (place : RefAt) (fresh : List ℕ) where
-  pub held-joined : joinsPending s rows reference held pending position place fresh ≡ true
-      → held ≡ heldAfter s rows reference held pending position place fresh
-  unfolding heldAfter
-  held-joined e = rw e
-
-  pub held-own : joinsPending s rows reference held pending position place fresh ≡ false
-      → sets held 0 fresh ≡ heldAfter s rows reference held pending position place fresh
-  unfolding heldAfter
-  held-own e = rw e
+-- where the list goes on and how many records it has, behind the one that was held back and another
+pub both-counted : (s rows reference contig held : List ℕ) (pending : Pending) (at count : ℕ) (lines : List ℕ) {behind next end at′ laid count′ : ℕ}
+    → behind ≡ at + length (pendingBytes s rows reference contig held pending) → next ≡ min limit behind
+    → end ≡ next + length lines → at′ ≡ min limit end
+    → laid ≡ pendingCount pending count → count′ ≡ min mostCount (laid + 1)
+    → _≡_ {A = Stepped} (record { pending = Nothing; at = at′; count = count′ })
+    (recordStepped pending (behindPending s rows reference contig held pending at) lines count)
+unfolding recordStepped behindPending
+both-counted s rows reference contig held pending at count lines b n e a l c = rw (a, e, n, b, c, l)
 
 module _ (s rows : List ℕ) (samples : ℕ) (reference contig held : List ℕ) (d₀ bytes : List ℕ) (records : ℕ) where
   -- the record that was held back is laid
@@ -73,7 +70,7 @@ module _ (s rows : List ℕ) (samples : ℕ) (reference contig held : List ℕ) 
         refl (b .one-letter) (b .derived) lines
         ∙ ap (coalesces p) (sym (b .record-is))
 
-    pub step-joined : (pending : Pending) (waiting : Option Record) → Holds s rows samples reference contig held pending waiting
+    step-joined : (pending : Pending) (waiting : Option Record) → Holds s rows samples reference contig held pending waiting
         → joinsPending s rows reference held pending (loc .start .0) place fresh ≡ true
         → (out : List ℕ) (at count : ℕ) → Progress d₀ bytes records out at count
         → StepTo s rows samples reference contig held out waiting new d₀ bytes records (record { pending = joinedTo pending (loc .end); at = at; count = count })
@@ -116,7 +113,7 @@ module _ (s rows : List ℕ) (samples : ℕ) (reference contig held : List ℕ) 
     apart-turned (Block l own len) waiting (q, e, h) j done m c k =
         rw e (turn-apart done m c q k (sym (same-joins l own len q h) ∙ j))
 
-    pub step-apart : (pending : Pending) (waiting : Option Record) → Holds s rows samples reference contig held pending waiting
+    step-apart : (pending : Pending) (waiting : Option Record) → Holds s rows samples reference contig held pending waiting
         → joinsPending s rows reference held pending (loc .start .0) place fresh ≡ false
         → (after : List ℕ) (len : ℕ) → length fresh ≤ length held → Laid held 0 fresh after len
         → (out out′ : List ℕ) (at count r : ℕ) → Progress d₀ bytes records out at count
@@ -132,6 +129,33 @@ module _ (s rows : List ℕ) (samples : ℕ) (reference contig held : List ℕ) 
       turned = apart-turned pending waiting h j;
     }
 
+    -- what `coalesce_homref_blocks` leaves is such a step
+    pub block-step : (pending : Pending) (waiting : Option Record) → Holds s rows samples reference contig held pending waiting → length fresh ≤ length held
+        → (out : List ℕ) (at count : ℕ) → Progress d₀ bytes records out at count
+        → (held′ out′ : List ℕ) (r : Stepped)
+        → r ≡ blockStepped s rows reference contig held pending loc place fresh at count
+        → out′ ≡ sets out at (blockLays s rows reference contig held pending (loc .start .0) place fresh)
+        → held′ ≡ heldAfter s rows reference held pending (loc .start .0) place fresh
+        → StepTo s rows samples reference contig held′ out′ waiting new d₀ bytes records r
+    unfolding blockStepped blockLays heldAfter behindPending
+    block-step pending waiting h room out at count p held′ out′ r stepped laid after =
+        rw (stepped, laid, after) (go (joinsPending s rows reference held pending (loc .start .0) place fresh) refl)
+      where
+        go : (j : Bool) → joinsPending s rows reference held pending (loc .start .0) place fresh ≡ j
+            → StepTo s rows samples reference contig (cond j held (sets held 0 fresh))
+            (sets out at (cond j [] (pendingBytes s rows reference contig held pending)))
+            waiting new d₀ bytes records
+            (cond j (record { pending = joinedTo pending (loc .end); at = at; count = count })
+            (record {
+              pending = Block loc place (length fresh);
+              at = behindPending s rows reference contig held pending at;
+              count = pendingCount pending count;
+            }))
+        go true j = step-joined pending waiting h j out at count p
+        go false j =
+            step-apart pending waiting h j _ _ room (record { next = sym (zero-add (length fresh)); laid = refl }) out _ at count _ p
+            (record { next = refl; laid = refl })
+
   -- ---- another record
 
   module _ (position : ℕ) (place : RefAt) (own alts : List ℕ) (new : Record)
@@ -143,14 +167,12 @@ module _ (s rows : List ℕ) (samples : ℕ) (reference contig held : List ℕ) 
     done-turned Nothing waiting h done m c k = rw h (turn-done done m c k (o .not-block))
     done-turned (Block l own len) waiting (q, e, h) done m c k = rw e (turn-both-done done m c q k (o .not-block))
 
-    pub step-other : (pending : Pending) (waiting : Option Record) → Holds s rows samples reference contig held pending waiting
+    step-other : (pending : Pending) (waiting : Option Record) → Holds s rows samples reference contig held pending waiting
         → (out middle out′ : List ℕ) (at count r end : ℕ) → Progress d₀ bytes records out at count
         → Laid out at (pendingBytes s rows reference contig held pending) middle r
-        → Laid middle (min limit r)
-        (headOf contig position position (refBytes s rows reference place) alts ++ printedSamples s rows samples own position (refBytes s rows reference place) alts)
-        out′ end
+        → Laid middle (min limit r) (recordBytes s rows samples reference contig position place own alts) out′ end
         → StepTo s rows samples reference contig held out′ waiting new d₀ bytes records
-        (record { pending = Nothing; at = min limit end; count = min 4294967295 (pendingCount pending count + 1) })
+        (record { pending = Nothing; at = min limit end; count = min mostCount (pendingCount pending count + 1) })
     unfolding Holds
     step-other pending waiting h out middle out′ at count r end p laid laid-new =
         let q = laid-pending pending waiting h p laid in
@@ -175,3 +197,17 @@ module _ (s rows : List ℕ) (samples : ℕ) (reference contig held : List ℕ) 
 
         one-more : records + length (ofOption waiting ++ (new ∷ [])) ≡ records + length (ofOption waiting) + 1
         one-more = omega (arith, length-append (ofOption waiting) (new ∷ []))
+
+    -- what `step_record` leaves is such a step
+    pub record-step : (pending : Pending) (waiting : Option Record) → Holds s rows samples reference contig held pending waiting
+        → (out : List ℕ) (at count : ℕ) → Progress d₀ bytes records out at count
+        → (out′ : List ℕ) (r : Stepped)
+        → r ≡ recordStepped pending (behindPending s rows reference contig held pending at)
+        (recordBytes s rows samples reference contig position place own alts) count
+        → out′ ≡ sets (sets out at (pendingBytes s rows reference contig held pending)) (behindPending s rows reference contig held pending at)
+        (recordBytes s rows samples reference contig position place own alts)
+        → StepTo s rows samples reference contig held out′ waiting new d₀ bytes records r
+    unfolding recordStepped behindPending
+    record-step pending waiting h out at count p out′ r stepped laid =
+        rw (stepped, laid)
+        (step-other pending waiting h out _ _ at count _ _ p (record { next = refl; laid = refl }) (record { next = refl; laid = refl }))

@@ -14,6 +14,7 @@ use Rattle.definitions.specs.Numbers.{maxNumber}
 use Rattle.definitions.specs.Printed.{printedSampleData}
 use Rattle.definitions.specs.Records.{Record}
 use Rattle.laws.proofs.Every.{Every}
+use Rattle.list_header.specs.Measured.{limit, mostCount}
 use Rattle.merged_ref.specs.Answers.{refBytes}
 use Rattle.merged_ref.specs.declared.RefAt.{RefAt}
 use Rattle.record_laws.proofs.SamePrinted.{Derived}
@@ -27,6 +28,10 @@ unfoldable pub pendingBytes : List ℕ → List ℕ → List ℕ → List ℕ �
 pendingBytes s rows reference contig held Nothing = []
 pendingBytes s rows reference contig held (Block loc place len) =
     headOf contig (loc .start .0) (loc .end .0) (refBytes s rows reference place) (text "<NON_REF>") ++ take len held
+
+-- where the list goes on behind them, held at its limit
+unfoldable pub behindPending : List ℕ → List ℕ → List ℕ → List ℕ → List ℕ → Pending → ℕ → ℕ
+behindPending s rows reference contig held pending at = min limit (at + length (pendingBytes s rows reference contig held pending))
 
 -- what laying it asks: positions as a file has them, and the offset behind its lines fits a usize
 pub record BlockFits (s rows reference contig held : List ℕ) (pending : Pending) (last : ℕ) (at : ℕ) : Type 0 where
@@ -59,7 +64,7 @@ joinedTo (Block loc place len) end = Block (record { start = loc .start; end = e
 -- how many records there are with it, held at the greatest u32
 unfoldable pub pendingCount : Pending → ℕ → ℕ
 pendingCount Nothing count = count
-pendingCount (Block loc place len) count = min 4294967295 (count + 1)
+pendingCount (Block loc place len) count = min mostCount (count + 1)
 
 -- the record that is held back
 pub record HeldBlock (s rows : List ℕ) (samples : ℕ) (reference contig held : List ℕ) (first last : ℕ) (place : RefAt) (len : ℕ) (p : Record) : Type 0 where

@@ -1,18 +1,12 @@
 // Records of a contig one after the other: a block record is held back until the next one does not join it (the Rust's
 // `coalesce_homref_blocks`).
-ghost use Prim.Native.Nat.{ℕ};
-ghost use lib.ListN.{length, take};
-ghost use mathlib.Core.List.{List, _++_};
-ghost use mathlib.Core.Option.{Option};
+ghost use lib.ListN.{take};
+ghost use lib.Seq.{sets};
 ghost use mathlib.Core.Path.{_≡_};
 ghost use Rattle.definitions.specs.Bytes.{sameBytes};
-ghost use Rattle.definitions.specs.Records.{Record};
 ghost use Rattle.kv_write.specs.Laid.{Laid};
-ghost use Rattle.merged_ref.specs.Answers.{refBytes};
-ghost use Rattle.record_lines.specs.Head.{headOf};
-ghost use Rattle.record_lines.specs.Samples.{printedSamples};
-ghost use Rattle.coalescing.specs.Held.{HeldBlock, Holds, PendingFits, heldAfter, joinedTo, joinsPending, pendingBytes, pendingCount};
-ghost use Rattle.coalescing.specs.Steps.{BlockReady, OtherRecord, Progress, RecordFits, StepTo};
+ghost use Rattle.coalescing.specs.Held.{PendingFits, behindPending, heldAfter, joinedTo, joinsPending, pendingBytes, pendingCount};
+ghost use Rattle.coalescing.specs.Steps.{BlockReady, RecordFits, blockLays, blockStepped, recordBytes, recordStepped};
 use bio_ids::GenomeLoc;
 use bio_ids::GenomePosition;
 use merged_ref::RefAt;
@@ -128,9 +122,7 @@ fn merge_result_to_record<'a>(
 ) -> usize
     requires { ⌜ RecordFits (now s) (now rows) samples (now reference) (now contig) (position .0) place (now own) (now alts) at ⌝ }
     ensures { λ r. ⌜ Laid (now (out .entry)) at
-        (headOf (now (contig .entry)) (position .0) (position .0) (refBytes (now (s .entry)) (now (rows .entry)) (now (reference .entry)) place) (now (alts .entry))
-        ++ printedSamples (now (s .entry)) (now (rows .entry)) samples (now (own .entry)) (position .0)
-        (refBytes (now (s .entry)) (now (rows .entry)) (now (reference .entry)) place) (now (alts .entry)))
+        (recordBytes (now (s .entry)) (now (rows .entry)) samples (now (reference .entry)) (now (contig .entry)) (position .0) place (now (own .entry)) (now (alts .entry)))
         (now (out .exit)) r ⌝ }
 {
     let allele = merged_ref::ref_bytes(s, rows, reference, place);
@@ -163,11 +155,9 @@ pub fn coalesce_homref_blocks<'a>(
     count: usize,
 ) -> Stepped
     requires { ⌜ BlockReady (now s) (now rows) (now reference) (now contig) (now held) (now fresh) pending at ⌝ }
-    ensures step { λ r. ⌜ ((samples : ℕ) (waiting : Option Record) (new : Record) (d₀ bytes : List ℕ) (records : ℕ)
-        → Holds (now (s .entry)) (now (rows .entry)) samples (now (reference .entry)) (now (contig .entry)) (now (held .entry)) pending waiting
-        → HeldBlock (now (s .entry)) (now (rows .entry)) samples (now (reference .entry)) (now (contig .entry)) (now (fresh .entry)) (loc .start .0) (loc .end .0) place (length (now (fresh .entry))) new
-        → Progress d₀ bytes records (now (out .entry)) at count
-        → StepTo (now (s .entry)) (now (rows .entry)) samples (now (reference .entry)) (now (contig .entry)) (now (held .exit)) (now (out .exit)) waiting new d₀ bytes records r) ⌝ }
+    ensures step { λ r. ⌜ r ≡ blockStepped (now (s .entry)) (now (rows .entry)) (now (reference .entry)) (now (contig .entry)) (now (held .entry)) pending loc place (now (fresh .entry)) at count ⌝ }
+    ensures laid { λ _. ⌜ now (out .exit) ≡ sets (now (out .entry)) at
+        (blockLays (now (s .entry)) (now (rows .entry)) (now (reference .entry)) (now (contig .entry)) (now (held .entry)) pending (loc .start .0) place (now (fresh .entry))) ⌝ }
     ensures lines { λ _. ⌜ now (held .exit) ≡ heldAfter (now (s .entry)) (now (rows .entry)) (now (reference .entry)) (now (held .entry)) pending (loc .start .0) place (now (fresh .entry)) ⌝ }
 {
     if joins(s, rows, reference, held, pending, loc.start, place, fresh) {
@@ -205,11 +195,13 @@ pub fn step_record<'a>(
 ) -> Stepped
     requires { ⌜ PendingFits (now s) (now rows) (now reference) (now contig) (now held) pending at
         × RecordFits (now s) (now rows) samples (now reference) (now contig) (position .0) place (now own) (now alts) 9223372036854775808 ⌝ }
-    ensures { λ r. ⌜ ((waiting : Option Record) (new : Record) (d₀ bytes : List ℕ) (records : ℕ)
-        → Holds (now (s .entry)) (now (rows .entry)) samples (now (reference .entry)) (now (contig .entry)) (now (held .entry)) pending waiting
-        → OtherRecord (now (s .entry)) (now (rows .entry)) samples (now (reference .entry)) (now (contig .entry)) (position .0) place (now (own .entry)) (now (alts .entry)) new
-        → Progress d₀ bytes records (now (out .entry)) at count
-        → StepTo (now (s .entry)) (now (rows .entry)) samples (now (reference .entry)) (now (contig .entry)) (now (held .entry)) (now (out .exit)) waiting new d₀ bytes records r) ⌝ }
+    ensures step { λ r. ⌜ r ≡ recordStepped pending
+        (behindPending (now (s .entry)) (now (rows .entry)) (now (reference .entry)) (now (contig .entry)) (now (held .entry)) pending at)
+        (recordBytes (now (s .entry)) (now (rows .entry)) samples (now (reference .entry)) (now (contig .entry)) (position .0) place (now (own .entry)) (now (alts .entry))) count ⌝ }
+    ensures laid { λ _. ⌜ now (out .exit) ≡ sets
+        (sets (now (out .entry)) at (pendingBytes (now (s .entry)) (now (rows .entry)) (now (reference .entry)) (now (contig .entry)) (now (held .entry)) pending))
+        (behindPending (now (s .entry)) (now (rows .entry)) (now (reference .entry)) (now (contig .entry)) (now (held .entry)) pending at)
+        (recordBytes (now (s .entry)) (now (rows .entry)) samples (now (reference .entry)) (now (contig .entry)) (position .0) place (now (own .entry)) (now (alts .entry))) ⌝ }
 {
     let next = list_header::cap(put_pending(s, rows, reference, contig, held, pending, out, at));
     let end = merge_result_to_record(

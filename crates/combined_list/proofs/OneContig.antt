@@ -32,7 +32,7 @@ use Rattle.record_laws.specs.Pending.{mergedContig}
 use Rattle.tables.proofs.SameContig.{same-contig}
 use Rattle.tables.specs.Tables.{column, partAt, siteAt}
 use Rattle.combined_list.specs.Contigs.{Grouped, IsFirst, givenClip, recordsOn}
-use Rattle.contig_walk.specs.Walk.{ClipGiven, RecordsWalked, WalkReady}
+use Rattle.contig_walk.specs.Walk.{Begun, ClipGiven, RecordsWalked, WalkReady}
 use Rattle.coalescing.specs.Steps.{Progress}
 use Rattle.contig_walk.specs.declared.Walked.{Walked}
 use Rattle.contig_walk.specs.declared.Walked.the-variants as walked
@@ -156,15 +156,15 @@ module _ {s rows : List ℕ} {samples : ℕ} {clipped : Bool} {clip : List ℕ} 
         -- behind row 10 the records are those of the walk over the contig
         pub one-walked : (out out′ : List ℕ) (at count scratch : ℕ) (w : Walked)
             → length (breakpoints (g .loaded .input .cohort .sites) (g .loaded .input .clip) contig) ≤ scratch
-            → ((ready : WalkReady s rows samples clipped clip referenced reference contig chosen parts places) (d₀ bytes : List ℕ) (records : ℕ)
-            → Progress d₀ bytes records out at count
-            → RecordsWalked (mergedContig (ready .runs .on .loaded .input) (chosenLetters (ready .runs .on .loaded)) contig) d₀ bytes records out′ w)
+            → ((ready : WalkReady s rows samples clipped clip referenced reference contig chosen parts places) (begun : Begun out at count)
+            → RecordsWalked (mergedContig (ready .runs .on .loaded .input) (chosenLetters (ready .runs .on .loaded)) contig)
+            (begun .d₀) (begun .bytes) (begun .records) out′ w)
             → (d₀ bytes : List ℕ) (records : ℕ) → Progress d₀ bytes records out at count
             → RecordsWalked (recordsOn g scratch first) d₀ bytes records out′ w
         unfolding walk-ready in-contig-runs
         one-walked out out′ at count scratch w enough says d₀ bytes records progress =
             let same : recordsOn g scratch first ≡ mergedContig (g .loaded .input) (chosenLetters (g .loaded)) contig = rw (← e) (enough-places _ _ _ _ enough) in
-            rw same (says walk-ready d₀ bytes records progress)
+            rw same (says walk-ready (record { d₀ = d₀; bytes = bytes; records = records; progress = progress }))
 
   pub one-refused : {contig : List ℕ} (d₀ bytes : List ℕ) (records : ℕ) (out : List ℕ) {places : ℕ} → out ≡ sets d₀ 0 bytes → contig ≡ partAt 7 8 s rows first
       → places < length (breakpoints (g .loaded .input .cohort .sites) (g .loaded .input .clip) contig)

@@ -1,9 +1,9 @@
 -- The two passes: the list is measured, and if there is room it is written.
 use Prim.Native.Nat.{_*_, _+_, _<_, _≤_, ℕ}
-use lib.ListN.{drop, drop-of-length-le, length, length-append, length-take, take}
+use lib.ListN.{drop, length, length-append, length-take, take}
 use lib.Seq.{sets}
 use mathlib.Core.Bool.{Bool, false, true}
-use mathlib.Core.List.{List, [], _++_, _∷_, append-nil, flatMap}
+use mathlib.Core.List.{List, [], _++_, _∷_, flatMap}
 use mathlib.Core.Path.{_∙_, _≡_, ap, refl, subst, sym}
 use native.Mathlib.Omega.{arith}
 use Rattle.answers.proofs.Answers.{answered-refused, answered-written, is-within, not-within}
@@ -17,7 +17,7 @@ use Rattle.definitions.specs.Lists.{onlyIf}
 use Rattle.definitions.specs.Numbers.{maxNumber}
 use Rattle.definitions.specs.Printed.{printedHeader, printedList, printedRecord}
 use Rattle.definitions.specs.Records.{Record}
-use Rattle.kv_write.proofs.Laying.{sets-front, sets-nothing}
+use Rattle.kv_write.proofs.Laying.{sets-nothing}
 use Rattle.kv_write.specs.Laid.{Laid}
 use Rattle.laws.proofs.Checked.{accepted-same, not-refused, then, then-refused}
 use Rattle.laws.proofs.CombinedRecordsSound.{records-sound}
@@ -26,7 +26,7 @@ use Rattle.laws.proofs.RecordCount.{records-few}
 use Rattle.laws.proofs.ReferenceLetter.{first-letter}
 use Rattle.laws.proofs.SoundRecords.{RecordAfter}
 use Rattle.list_header.proofs.HeaderLines.{header-fits}
-use Rattle.list_header.proofs.TwoPasses.{measured-none}
+use Rattle.list_header.proofs.TwoPasses.{measured-none, sets-whole}
 use Rattle.list_header.specs.Measured.{limit}
 use Rattle.merged_records.specs.Loaded.{Loaded, chosenLetters}
 use Rattle.record_laws.proofs.Lengths.{mostHeader, mostRecord, record-few}
@@ -159,11 +159,12 @@ module _ {s names rows : List ℕ} {samples : ℕ} {clipped : Bool} {clip : List
     -- there is room, and the list is written over the part that it takes
     pub fitting-answered : {written : List ℕ} (out : List ℕ) → r + len ≤ length (part ++ out)
         → ((m : Measurement s names rows samples clipped clip referenced reference contigs order bounds scratch len count)
-        → length (take (r + len) (part ++ out)) ≡ length (listTo m) → written ≡ listTo m)
+        → written ≡ sets (take (r + len) (part ++ out)) 0 (listTo m))
         → Answered (within (length out) (listTo m)) out (written ++ drop (r + len) (part ++ out)) (outcome.Written (r + len))
     fitting-answered {written} out h writes =
         let empty : part ++ out ≡ out = ap (λ (p : List ℕ). p ++ out) (nothing-laid header) in
-        let all : written ≡ listTo m = writes m (omega (arith, length-take (r + len) (part ++ out), list-length)) in
+        let exact : length (take (r + len) (part ++ out)) ≡ length (listTo m) = omega (arith, length-take (r + len) (part ++ out), list-length) in
+        let all : written ≡ listTo m = writes m ∙ sets-whole (take (r + len) (part ++ out)) (listTo m) exact in
         let room : length (listTo m) ≤ length out = omega (arith, ap length empty, list-length) in
         answered-written (is-within (listTo m) room) list-length (rw (all, empty, list-length))
 
@@ -181,15 +182,13 @@ module _ {s names rows : List ℕ} {samples : ℕ} {clipped : Bool} {clip : List
       };
     }
 
-    pub list-written : {out₂ : List ℕ} (w : Walked) → WalkSays (m .ready) out₁ at scratch out₂ w → length out ≡ length (listTo m) → out₂ ≡ listTo m
+    pub list-written : {out₂ : List ℕ} (w : Walked) → WalkSays (m .ready) out₁ at scratch out₂ w → out₂ ≡ sets out 0 (listTo m)
     unfolding RecordsWalked writing
-    list-written {out₂} w says exact = go w (says writing)
+    list-written {out₂} w says = go w (says writing)
       where
-        go : (w : Walked) → RecordsWalked (allRecords (m .ready .tables) scratch) out headerOf 0 out₂ w → out₂ ≡ listTo m
+        go : (w : Walked) → RecordsWalked (allRecords (m .ready .tables) scratch) out headerOf 0 out₂ w → out₂ ≡ sets out 0 (listTo m)
         go (walked.Refused row) e = not-refused (sym (e .merged) ∙ m .merged)
         go (walked.To end records) laid =
             let same : laid .list ≡ m .records = accepted-same (sym (laid .merged) ∙ m .merged) in
             let bytes : headerOf ++ flatMap printedRecord (laid .list) ≡ listTo m = rw same (sym list-parts) in
-            let all : out₂ ≡ sets out 0 (listTo m) = laid .progress .measured .laid ∙ ap (sets out 0) bytes in
-            all ∙ sets-front out (listTo m) (omega arith)
-            ∙ rw (drop-of-length-le out (let h : length out ≤ length (listTo m) = omega arith in h)) (append-nil (listTo m))
+            laid .progress .measured .laid ∙ ap (sets out 0) bytes

@@ -1,6 +1,7 @@
 // The combined list of an input whose tables are loaded: contig by contig, in two passes.
 ghost use Prim.Native.Nat.{_≤_};
 ghost use lib.ListN.{length};
+ghost use lib.Seq.{sets};
 ghost use mathlib.Core.Path.{_≡_};
 ghost use Rattle.answers.specs.Answered.{Answered};
 ghost use Rattle.definitions.specs.Checked.{within};
@@ -138,7 +139,7 @@ fn walk_contigs<'a>(
     Walked::To(next, count)
 }
 
-// Writes the list that was measured, of so many bytes and records, over a buffer that has room for it and no more.
+// Lays the list that was measured, of so many bytes and records, from the beginning of a buffer on, as far as it fits.
 fn write_list<'a>(
     s: &'a [u8],
     names: &[usize],
@@ -162,7 +163,7 @@ fn write_list<'a>(
 )
     requires { ⌜ Measurement (now s) (now names) (now rows) samples clipped (now clip) referenced (now reference) (now contigs) (now order) (now runs) (length (now scratch)) len count × (length (now out) ≤ limit) × WalkRoom (now held) (now fresh) (now alts) × (length (now order) ≤ length (now chosen)) ⌝ }
     ensures { λ _. ⌜ ((m : Measurement (now (s .entry)) (now (names .entry)) (now (rows .entry)) samples clipped (now (clip .entry)) referenced (now (reference .entry)) (now (contigs .entry)) (now (order .entry)) (now (runs .entry)) (length (now (scratch .entry))) len count)
-        → length (now (out .entry)) ≡ length (listTo m) → now (out .exit) ≡ listTo m) ⌝ }
+        → now (out .exit) ≡ sets (now (out .entry)) 0 (listTo m)) ⌝ }
 {
     let at = list_header::put_header(s, names, samples, count as u32, out);
     walk_contigs(

@@ -11,7 +11,7 @@ use mathlib.Core.Path.{_∙_, _≡_, ap, refl, subst, sym}
 use native.Mathlib.Nat.{zero-add}
 use native.Mathlib.Omega.{arith}
 use Rattle.coalescing.specs.Held.{HeldBlock}
-use Rattle.coalescing.specs.Steps.{OtherRecord, RecordFits}
+use Rattle.coalescing.specs.Steps.{OtherRecord, RecordFits, recordBytes}
 use Rattle.coalescing.specs.declared.Pending.{Pending}
 use Rattle.definitions.specs.Alleles.{isBlock, onlyNonRef, writtenAlleles}
 use Rattle.definitions.specs.Bytes.{comma, fieldsOf, text}
@@ -160,7 +160,7 @@ module _ {s rows : List ℕ} {samples : ℕ} {reference contig : List ℕ} {firs
 
   module _ (other : isBlock (laidRecord r .alleles) ≡ false) where
     pub other-record : OtherRecord s rows samples reference contig first place own alts (laidRecord r)
-    unfolding onlyIf
+    unfolding onlyIf recordBytes
     other-record = record {
       not-block = other;
       printed =

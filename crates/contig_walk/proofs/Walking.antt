@@ -34,7 +34,7 @@ use Rattle.record_laws.proofs.Coalescing.{at-end, at-end-pending}
 use Rattle.record_laws.proofs.Walking.{here, recordsFrom, walk-end, walk-start, walk-turn}
 use Rattle.record_laws.specs.Pending.{finish, mergedContig}
 use Rattle.contig_walk.proofs.LaidRecords.{contig-named}
-use Rattle.contig_walk.specs.Laying.{TurnReady, TurnRoom, Turns}
+use Rattle.contig_walk.specs.Laying.{TurnReady, TurnRoom, Turns, Underway}
 use Rattle.contig_walk.specs.Walk.{RecordsWalked, WalkReady}
 use Rattle.contig_walk.specs.declared.Turned.the-variants as turned
 use Rattle.contig_walk.specs.declared.Walked.the-variants as walked
@@ -173,6 +173,13 @@ module _ {s rows : List ℕ} {samples : ℕ} {clipped : Bool} {clip : List ℕ} 
       pub end-fits : PendingFits s rows reference contig held (state .pending) (state .at)
       end-fits = holds-fits s rows samples reference contig held (state .pending) (w .waiting) (state .at) (w .holds) (on .loaded .few)
           (contig-named on .not-too-long) (omega (arith, w .progress .measured .at-is))
+
+      unfoldable pub turn-underway : Underway s rows samples reference contig held (state .pending) out (state .at) (state .count)
+      turn-underway = record {
+        begun = record { d₀ = d₀; bytes = bytes ++ flatMap printedRecord (w .done); records = records + length (w .done); progress = w .progress };
+        waiting = w .waiting;
+        holds = w .holds;
+      }
 
       unfoldable pub turn-ready : {from fresh found owners alts : List ℕ} (first last : ℕ) → k + 1 < length places → first ≡ getD places k 0 → last ≡ getD places (k + 1) 0 - 1
           → Ended rows chosen bounds from samples first → TurnRoom samples held fresh found owners alts

@@ -29,7 +29,7 @@ use Rattle.merged_ref.specs.declared.RefAt.{RefAt}
 use Rattle.record_laws.proofs.Walking.{withInterval}
 use Rattle.record_laws.specs.Pending.{finish}
 use Rattle.tables.specs.Tables.{column}
-use Rattle.contig_walk.specs.Walk.{ClipGiven}
+use Rattle.contig_walk.specs.Walk.{Begun, ClipGiven}
 use Rattle.contig_walk.specs.declared.Turned.{Turned}
 use Rattle.contig_walk.specs.declared.Turned.the-variants as turned
 
@@ -63,6 +63,12 @@ module _ {s rows : List ℕ} {samples : ℕ} {reference contig : List ℕ} {firs
     alleles = recordAlleles (r .on) first (r .to);
     sampleData = recordData (r .on) first (r .to);
   }
+
+-- what is laid and what waits: a list was begun, and this record is held back
+pub record Underway (s rows : List ℕ) (samples : ℕ) (reference contig held : List ℕ) (pending : Pending) (out : List ℕ) (at count : ℕ) : Type 0 where
+  pub begun : Begun out at count
+  pub waiting : Option Record
+  pub holds : Holds s rows samples reference contig held pending waiting
 
 -- the lists that a turn of the walk fills are long enough
 pub record TurnRoom (samples : ℕ) (held fresh found owners alts : List ℕ) : Type 0 where

@@ -26,7 +26,7 @@ pub record ClipGiven (clipped : Bool) (clip rows : List ℕ) (x : Input) : Type 
   pub spans-indexed : clipped ≡ true → SpansIndexed clip rows
   pub clip-is : x .clip ≡ onlyIf clipped spans
 
--- a list was begun: so many bytes and records stand before the contig's
+-- a list was begun: so many bytes and records are laid
 pub record Begun (out : List ℕ) (at count : ℕ) : Type 0 where
   pub d₀ : List ℕ
   pub bytes : List ℕ

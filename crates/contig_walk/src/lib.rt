@@ -1,22 +1,17 @@
 // The intervals of a contig one after the other: their records, coalesced and laid.
-ghost use Prim.Native.Nat.{ℕ};
 ghost use lib.Dec.{eqb};
 ghost use lib.ListN.{length};
 ghost use mathlib.Core.Bool.{_&&_, true};
-ghost use mathlib.Core.List.{List};
-ghost use mathlib.Core.Option.{Option};
 ghost use mathlib.Core.Path.{_≡_};
-ghost use Rattle.coalescing.specs.Held.{Holds};
-ghost use Rattle.coalescing.specs.Steps.{Progress, StepTo};
+ghost use Rattle.coalescing.specs.Steps.{StepTo};
 ghost use Rattle.definitions.specs.Alleles.{isBlock};
 ghost use Rattle.definitions.specs.Intervals.{inClip};
 ghost use Rattle.definitions.specs.Lists.{onlyIf};
-ghost use Rattle.definitions.specs.Records.{Record};
 ghost use Rattle.intervals.specs.InClip.{clipSpans, intervalOf};
 ghost use Rattle.merged_records.specs.Loaded.{chosenLetters};
 ghost use Rattle.merged_ref.specs.Answers.{refBytes};
 ghost use Rattle.record_laws.specs.Pending.{mergedContig};
-ghost use Rattle.contig_walk.specs.Laying.{LayReady, TurnReady, Turns, laidRecord};
+ghost use Rattle.contig_walk.specs.Laying.{LayReady, TurnReady, Turns, Underway, laidRecord};
 ghost use Rattle.contig_walk.specs.Walk.{Begun, RecordsWalked, WalkReady, WalkRoom};
 use bio_ids::GenomeLoc;
 use bio_ids::GenomePosition;
@@ -50,12 +45,13 @@ fn lay_block<'a>(
     at: usize,
     count: usize,
 ) -> Stepped
-    requires { ⌜ ((r : LayReady (now s) (now rows) samples (now reference) (now contig) (loc .start .0) (loc .end .0) place number (now own) (now alts) pending (now held) (now fresh) at) × (isBlock (laidRecord r .alleles) ≡ true)) ⌝ }
+    requires { ⌜ ((r : LayReady (now s) (now rows) samples (now reference) (now contig) (loc .start .0) (loc .end .0) place number (now own) (now alts) pending (now held) (now fresh) at) × (isBlock (laidRecord r .alleles) ≡ true)
+        × Underway (now s) (now rows) samples (now reference) (now contig) (now held) pending (now out) at count) ⌝ }
     ensures { λ r. ⌜ ((ready : LayReady (now (s .entry)) (now (rows .entry)) samples (now (reference .entry)) (now (contig .entry)) (loc .start .0) (loc .end .0) place number (now (own .entry)) (now (alts .entry)) pending (now (held .entry)) (now (fresh .entry)) at)
-        (block : isBlock (laidRecord ready .alleles) ≡ true) (waiting : Option Record) (d₀ bytes : List ℕ) (records : ℕ)
-        → Holds (now (s .entry)) (now (rows .entry)) samples (now (reference .entry)) (now (contig .entry)) (now (held .entry)) pending waiting
-        → Progress d₀ bytes records (now (out .entry)) at count
-        → StepTo (now (s .entry)) (now (rows .entry)) samples (now (reference .entry)) (now (contig .entry)) (now (held .exit)) (now (out .exit)) waiting (laidRecord ready) d₀ bytes records r) ⌝ }
+        (block : isBlock (laidRecord ready .alleles) ≡ true)
+        (way : Underway (now (s .entry)) (now (rows .entry)) samples (now (reference .entry)) (now (contig .entry)) (now (held .entry)) pending (now (out .entry)) at count)
+        → StepTo (now (s .entry)) (now (rows .entry)) samples (now (reference .entry)) (now (contig .entry)) (now (held .exit)) (now (out .exit)) (way .waiting) (laidRecord ready)
+        (way .begun .d₀) (way .begun .bytes) (way .begun .records) r) ⌝ }
 {
     let allele = merged_ref::ref_bytes(s, rows, reference, place);
     let len = record_lines::merge_genotypes(
@@ -121,12 +117,12 @@ fn lay_record<'a>(
     at: usize,
     count: usize,
 ) -> Stepped
-    requires { ⌜ LayReady (now s) (now rows) samples (now reference) (now contig) (loc .start .0) (loc .end .0) place number (now own) (now alts) pending (now held) (now fresh) at ⌝ }
+    requires { ⌜ LayReady (now s) (now rows) samples (now reference) (now contig) (loc .start .0) (loc .end .0) place number (now own) (now alts) pending (now held) (now fresh) at
+        × Underway (now s) (now rows) samples (now reference) (now contig) (now held) pending (now out) at count ⌝ }
     ensures { λ r. ⌜ ((ready : LayReady (now (s .entry)) (now (rows .entry)) samples (now (reference .entry)) (now (contig .entry)) (loc .start .0) (loc .end .0) place number (now (own .entry)) (now (alts .entry)) pending (now (held .entry)) (now (fresh .entry)) at)
-        (waiting : Option Record) (d₀ bytes : List ℕ) (records : ℕ)
-        → Holds (now (s .entry)) (now (rows .entry)) samples (now (reference .entry)) (now (contig .entry)) (now (held .entry)) pending waiting
-        → Progress d₀ bytes records (now (out .entry)) at count
-        → StepTo (now (s .entry)) (now (rows .entry)) samples (now (reference .entry)) (now (contig .entry)) (now (held .exit)) (now (out .exit)) waiting (laidRecord ready) d₀ bytes records r) ⌝ }
+        (way : Underway (now (s .entry)) (now (rows .entry)) samples (now (reference .entry)) (now (contig .entry)) (now (held .entry)) pending (now (out .entry)) at count)
+        → StepTo (now (s .entry)) (now (rows .entry)) samples (now (reference .entry)) (now (contig .entry)) (now (held .exit)) (now (out .exit)) (way .waiting) (laidRecord ready)
+        (way .begun .d₀) (way .begun .bytes) (way .begun .records) r) ⌝ }
 {
     if is_homref_nonref_only(s, rows, reference, place, number) {
         return lay_block(
@@ -206,12 +202,12 @@ fn walk_interval<'a>(
     at: usize,
     count: usize,
 ) -> Turned
-    requires { ⌜ TurnReady (now s) (now rows) samples clipped (now clip) referenced (now reference) (now contig) (now chosen) (now from) (now bounds) (loc .start .0) (loc .end .0) pending (now held) (now fresh) (now found) (now owners) (now alts) at ⌝ }
+    requires { ⌜ TurnReady (now s) (now rows) samples clipped (now clip) referenced (now reference) (now contig) (now chosen) (now from) (now bounds) (loc .start .0) (loc .end .0) pending (now held) (now fresh) (now found) (now owners) (now alts) at
+        × Underway (now s) (now rows) samples (now reference) (now contig) (now held) pending (now out) at count ⌝ }
     ensures { λ r. ⌜ ((ready : TurnReady (now (s .entry)) (now (rows .entry)) samples clipped (now (clip .entry)) referenced (now (reference .entry)) (now (contig .entry)) (now (chosen .entry)) (now (from .entry)) (now (bounds .entry)) (loc .start .0) (loc .end .0) pending (now (held .entry)) (now (fresh .entry)) (now (found .entry)) (now (owners .entry)) (now (alts .entry)) at)
-        (waiting : Option Record) (d₀ bytes : List ℕ) (records : ℕ)
-        → Holds (now (s .entry)) (now (rows .entry)) samples (now (reference .entry)) (now (contig .entry)) (now (held .entry)) pending waiting
-        → Progress d₀ bytes records (now (out .entry)) at count
-        → Turns (ready .runs .on .loaded .input) (chosenLetters (ready .runs .on .loaded)) (now (s .entry)) (now (rows .entry)) samples (now (reference .entry)) (now (contig .entry)) (now (held .exit)) (now (out .exit)) (loc .start .0) (loc .end .0) waiting d₀ bytes records r) ⌝ }
+        (way : Underway (now (s .entry)) (now (rows .entry)) samples (now (reference .entry)) (now (contig .entry)) (now (held .entry)) pending (now (out .entry)) at count)
+        → Turns (ready .runs .on .loaded .input) (chosenLetters (ready .runs .on .loaded)) (now (s .entry)) (now (rows .entry)) samples (now (reference .entry)) (now (contig .entry)) (now (held .exit)) (now (out .exit)) (loc .start .0) (loc .end .0)
+        (way .waiting) (way .begun .d₀) (way .begun .bytes) (way .begun .records) r) ⌝ }
 {
     let same = Stepped { pending, at, count };
     if !passes_clip(clipped, clip, rows, contig, loc) {
@@ -285,8 +281,8 @@ pub fn walk_contig<'a>(
 ) -> Walked
     requires { ⌜ WalkReady (now s) (now rows) samples clipped (now clip) referenced (now reference) (now contig) (now chosen) (now bounds) (now places) × Begun (now out) at count × WalkRoom (now held) (now fresh) (now alts) ⌝ }
     ensures { λ r. ⌜ ((ready : WalkReady (now (s .entry)) (now (rows .entry)) samples clipped (now (clip .entry)) referenced (now (reference .entry)) (now (contig .entry)) (now (chosen .entry)) (now (bounds .entry)) (now (places .entry)))
-        (d₀ bytes : List ℕ) (records : ℕ) → Progress d₀ bytes records (now (out .entry)) at count
-        → RecordsWalked (mergedContig (ready .runs .on .loaded .input) (chosenLetters (ready .runs .on .loaded)) (now (contig .entry))) d₀ bytes records (now (out .exit)) r) ⌝ }
+        (begun : Begun (now (out .entry)) at count)
+        → RecordsWalked (mergedContig (ready .runs .on .loaded .input) (chosenLetters (ready .runs .on .loaded)) (now (contig .entry))) (begun .d₀) (begun .bytes) (begun .records) (now (out .exit)) r) ⌝ }
 {
     let mut found = [0usize; 64];
     let mut owners = [0usize; 64];

@@ -1,7 +1,7 @@
 -- The search for the first site of each run that covers a position, one site and one sample at a time.
 use Prim.Native.Nat.{_+_, _-_, _<_, _^_, _≤_, suc, ℕ}
 use lib.ListN.{getD, length, set}
-use lib.Seq.{drop-cons, sets}
+use lib.Seq.{drop-cons}
 use mathlib.Core.Bool.{Bool, cond, false, true}
 use mathlib.Core.List.{List, [], _∷_, filterMap, filterMap-cons-none, filterMap-cons-some}
 use mathlib.Core.Option.{Option, Option·map, none, some}
@@ -116,26 +116,39 @@ module _ (rows : List ℕ) (position : ℕ) (chosen bounds : List ℕ) (samples 
         owned = recast (ap (filterMap _) (numbers-next samples x h) ∙ filterMap-cons-none _ x _ (ap (Option·map (λ _. x)) e)) (s .owned);
       }
 
-    pub samples-end : samples ≤ x → (run : ℕ → List ℕ) → Runs chosen bounds samples run
-        → Found found₀ (coveringRows rows position samples run) found owners₀ (coveringSamples rows position samples run) owners count
-    unfolding foundFrom ownersFrom coveringRows coveringSamples filterMap
-    samples-end h run r =
+    pub samples-end : samples ≤ x
+        → Found found₀ (coveringRows rows position samples (runAt chosen bounds)) found
+        owners₀ (coveringSamples rows position samples (runAt chosen bounds)) owners count
+    unfolding foundFrom ownersFrom filterMap
+    samples-end h =
         let l = done (recast (ap (filterMap _) (numbers-end samples x h)) (s .left)) in
         let o = done (recast (ap (filterMap _) (numbers-end samples x h)) (s .owned)) in
-        let e = filterMap-same _ _ (numbersFrom 0 samples) (λ y m. ap (firstWhere (rowCovers rows position)) (same y m)) in
-        record {
-          count = l .next ∙ zero-add _ ∙ ap length e;
-          stored = l .laid ∙ ap (sets found₀ 0) e;
-          owned =
-              o .laid
-              ∙ ap (sets owners₀ 0) (filterMap-same _ _ (numbersFrom 0 samples) (λ y m. ap (λ (t : List ℕ). Option·map (λ _. y) (firstWhere (rowCovers rows position) t)) (same y m)));
-        }
-      where
-        same : (y : ℕ) → y ∈ numbersFrom 0 samples → runAt chosen bounds y ≡ run y
-        same y m = r .each y (let b = member-numbers 0 samples m in omega (arith, b .1))
+        record { count = l .next ∙ zero-add _; stored = l .laid; owned = o .laid }
 
     pub samples-length : length found ≡ length found₀
     samples-length = left-length (s .left)
 
     pub owners-length : length owners ≡ length owners₀
     owners-length = left-length (s .owned)
+
+-- ---- what is found in runs that are known
+
+module _ {list bounds : List ℕ} {samples : ℕ} {run : ℕ → List ℕ} (r : Runs list bounds samples run) (rows : List ℕ) (position : ℕ) where
+  run-known : (x : ℕ) → x ∈ numbersFrom 0 samples → runAt list bounds x ≡ run x
+  run-known x m = r .each x (let b = member-numbers 0 samples m in omega (arith, b .1))
+
+  pub rows-known : coveringRows rows position samples (runAt list bounds) ≡ coveringRows rows position samples run
+  unfolding coveringRows
+  rows-known = filterMap-same _ _ (numbersFrom 0 samples) (λ x m. ap (firstWhere (rowCovers rows position)) (run-known x m))
+
+  pub samples-known : coveringSamples rows position samples (runAt list bounds) ≡ coveringSamples rows position samples run
+  unfolding coveringSamples
+  samples-known =
+      filterMap-same _ _ (numbersFrom 0 samples)
+      (λ x m. ap (λ (t : List ℕ). Option·map (λ _. x) (firstWhere (rowCovers rows position) t)) (run-known x m))
+
+  pub found-known : {before after samples-before samples-after : List ℕ} {n : ℕ}
+      → Found before (coveringRows rows position samples (runAt list bounds)) after
+      samples-before (coveringSamples rows position samples (runAt list bounds)) samples-after n
+      → Found before (coveringRows rows position samples run) after samples-before (coveringSamples rows position samples run) samples-after n
+  found-known f = rw (← rows-known, ← samples-known) f

@@ -9,6 +9,7 @@ use mathlib.Core.Option.{Option·map}
 use mathlib.Core.Path.{_≡_}
 use Rattle.definitions.specs.Lists.{filterBy, firstWhere, numbersFrom}
 use Rattle.tables.specs.Tables.{column}
+use Rattle.covering_sites.specs.Runs.{runAt}
 
 -- a sample's sites, in file order
 unfoldable pub sampleSites : List ℕ → ℕ → ℕ → List ℕ
@@ -21,6 +22,10 @@ onContig rows contig = filterBy (λ i. eqb (column 1 rows i) contig)
 -- a sample's sites on a contig
 abbrev pub contigSites : List ℕ → ℕ → ℕ → ℕ → List ℕ
 contigSites rows count contig sample = onContig rows contig (sampleSites rows count sample)
+
+-- those of a sample's run that are on a contig
+unfoldable pub chosenRun : List ℕ → ℕ → List ℕ → List ℕ → ℕ → List ℕ
+chosenRun rows contig list bounds x = onContig rows contig (runAt list bounds x)
 
 -- the position lies from the site's start to its end
 unfoldable pub rowCovers : List ℕ → ℕ → ℕ → Bool

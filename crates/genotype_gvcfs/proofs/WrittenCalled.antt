@@ -1,8 +1,8 @@
 -- The two passes: the called list is measured, and if there is room it is written.
 use Prim.Native.Nat.{_*_, _+_, _<_, _≤_, ℕ}
-use lib.ListN.{drop, drop-of-length-le, length, length-append, length-map, length-take, take}
+use lib.ListN.{drop, length, length-append, length-map, length-take, take}
 use lib.Seq.{sets}
-use mathlib.Core.List.{List, [], _++_, _∷_, append-nil, flatMap}
+use mathlib.Core.List.{List, [], _++_, _∷_, flatMap}
 use mathlib.Core.Path.{_∙_, _≡_, ap, refl, subst, sym}
 use native.Mathlib.Omega.{arith}
 use Rattle.answers.proofs.Answers.{answered-refused, answered-written, is-within, not-within}
@@ -17,7 +17,7 @@ use Rattle.definitions.specs.ListReader.{recordRead}
 use Rattle.definitions.specs.Lists.{filterBy}
 use Rattle.definitions.specs.Printed.{printedHeader}
 use Rattle.definitions.specs.Records.{Record}
-use Rattle.kv_write.proofs.Laying.{sets-front, sets-nothing}
+use Rattle.kv_write.proofs.Laying.{sets-nothing}
 use Rattle.kv_write.specs.Laid.{Laid}
 use Rattle.laws.proofs.Checked.{accepted-same, each-read-back, not-refused, then, then-refused}
 use Rattle.laws.proofs.Every.{every-filter, every-of-each, every-of-map, flatMap-few}
@@ -25,7 +25,7 @@ use Rattle.laws.proofs.Members.{filter-few}
 use Rattle.laws.proofs.SoundList.{record-sound}
 use Rattle.laws.proofs.SoundRecords.{RecordAfter}
 use Rattle.list_header.proofs.HeaderLines.{header-fits}
-use Rattle.list_header.proofs.TwoPasses.{measured-none}
+use Rattle.list_header.proofs.TwoPasses.{measured-none, sets-whole}
 use Rattle.list_header.specs.HeaderNames.{HeaderNames}
 use Rattle.list_header.specs.Measured.{limit}
 use Rattle.record_laws.proofs.Lengths.{mostHeader, mostRecord}
@@ -141,11 +141,12 @@ module _ {s names : List ℕ} {samples records at : ℕ} {rows : List ℕ} {len 
     -- there is room, and the list is written over the part that it takes
     pub fitting-answered : {written : List ℕ} (out : List ℕ) → r + len ≤ length (part ++ out)
         → ((m : Measurement s names samples records at rows len count)
-        → length (take (r + len) (part ++ out)) ≡ length (listTo m) → written ≡ listTo m)
+        → written ≡ sets (take (r + len) (part ++ out)) 0 (listTo m))
         → Answered (within (length out) (listTo m)) out (written ++ drop (r + len) (part ++ out)) (outcome.Written (r + len))
     fitting-answered {written} out h writes =
         let empty : part ++ out ≡ out = ap (λ (p : List ℕ). p ++ out) (nothing-laid header) in
-        let all : written ≡ listTo m = writes m (omega (arith, length-take (r + len) (part ++ out), list-length)) in
+        let exact : length (take (r + len) (part ++ out)) ≡ length (listTo m) = omega (arith, length-take (r + len) (part ++ out), list-length) in
+        let all : written ≡ listTo m = writes m ∙ sets-whole (take (r + len) (part ++ out)) (listTo m) exact in
         let room : length (listTo m) ≤ length out = omega (arith, ap length empty, list-length) in
         answered-written (is-within (listTo m) room) list-length (rw (all, empty, list-length))
 
@@ -159,15 +160,13 @@ module _ {s names : List ℕ} {samples records at : ℕ} {rows : List ℕ} {len 
       measured = record { at-is = omega (arith, header .next, header-low); laid = header .laid; small = small };
     }
 
-    pub list-written : {out₂ : List ℕ} (w : Walked) → WalkSays s at samples records rows out₁ from out₂ w → length out ≡ length (listTo m) → out₂ ≡ listTo m
+    pub list-written : {out₂ : List ℕ} (w : Walked) → WalkSays s at samples records rows out₁ from out₂ w → out₂ ≡ sets out 0 (listTo m)
     unfolding RecordsWalked writing
-    list-written {out₂} w says exact = go w (says writing)
+    list-written {out₂} w says = go w (says writing)
       where
-        go : (w : Walked) → RecordsWalked (recordsFrom samples records s at) records out headerOf out₂ w → out₂ ≡ listTo m
+        go : (w : Walked) → RecordsWalked (recordsFrom samples records s at) records out headerOf out₂ w → out₂ ≡ sets out 0 (listTo m)
         go (walked.Refused row) e = not-refused (sym e ∙ m .value)
         go (walked.To end k) laid =
             let same : laid .list ≡ m .list = accepted-same (sym (laid .value) ∙ m .value) in
             let bytes : headerOf ++ flatMap printedCalledRecord (calledRecords (laid .list)) ≡ listTo m = rw same (sym list-parts) in
-            let all : out₂ ≡ sets out 0 (listTo m) = laid .laid .measured .laid ∙ ap (sets out 0) bytes in
-            all ∙ sets-front out (listTo m) (omega arith)
-            ∙ rw (drop-of-length-le out (let h : length out ≤ length (listTo m) = omega arith in h)) (append-nil (listTo m))
+            laid .laid .measured .laid ∙ ap (sets out 0) bytes

@@ -3,6 +3,7 @@
 ghost use Prim.Native.Nat.{_≤_};
 ghost use lib.Dec.{eqb};
 ghost use lib.ListN.{length};
+ghost use lib.Seq.{sets};
 ghost use mathlib.Core.Bool.{_&&_, not};
 ghost use mathlib.Core.Option.{Option·getD};
 ghost use mathlib.Core.Path.{_≡_};
@@ -142,7 +143,7 @@ fn genotype_gvcf_records(
 
 // ---- the two passes
 
-// Writes the list that was measured, of so many records, over a buffer that has room for it and no more.
+// Lays the list that was measured, of so many records, from the beginning of a buffer on, as far as it fits.
 fn write_list(
     s: &[u8],
     names: &[usize],
@@ -156,7 +157,7 @@ fn write_list(
 )
     requires { ⌜ Measurement (now s) (now names) samples records at (now rows) len count × (length (now out) ≤ limit) ⌝ }
     ensures { λ _. ⌜ ((m : Measurement (now (s .entry)) (now (names .entry)) samples records at (now (rows .entry)) len count)
-        → length (now (out .entry)) ≡ length (listTo m) → now (out .exit) ≡ listTo m) ⌝ }
+        → now (out .exit) ≡ sets (now (out .entry)) 0 (listTo m)) ⌝ }
 {
     let from = list_header::put_header(s, names, samples, count as u32, out);
     genotype_gvcf_records(s, at, samples, records, rows, out, from);

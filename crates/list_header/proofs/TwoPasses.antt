@@ -3,9 +3,9 @@
 use Prim.Native.Nat.{_+_, _<_, _^_, _≤_, min, suc, ℕ}
 use borrow.Author.Tests.{le-leb, lt-leb}
 use lib.Dec.{leb}
-use lib.ListN.{drop, length, length-append}
+use lib.ListN.{drop, drop-of-length-le, length, length-append}
 use lib.Seq.{length-sets, set-out, sets}
-use mathlib.Core.List.{List, [], _++_, _∷_}
+use mathlib.Core.List.{List, [], _++_, _∷_, append-nil}
 use mathlib.Core.Path.{_∙_, _≡_, ap, refl, sym}
 use native.Mathlib.Decide.{decLe}
 use native.Mathlib.Nat.{zero-add}
@@ -75,6 +75,12 @@ module _ {d₀ bytes d : List ℕ} {at : ℕ} (m : Measured d₀ bytes d at) whe
   -- bytes that fit stand at the front, and the rest is as it was
   pub measured-whole : length bytes ≤ length d₀ → (at ≡ length bytes) × (d ≡ bytes ++ drop (length bytes) d₀)
   measured-whole h = (measured-at (omega (arith, m .small)), m .laid ∙ sets-front d₀ bytes h)
+
+-- bytes that are as many as a list has places are all that it holds
+pub sets-whole : (d bytes : List ℕ) → length d ≡ length bytes → sets d 0 bytes ≡ bytes
+sets-whole d bytes e =
+    let all : length d ≤ length bytes = omega arith in
+    sets-front d bytes (omega arith) ∙ rw (drop-of-length-le d all) (append-nil bytes)
 
 -- ---- the count
 

@@ -1,7 +1,9 @@
 -- By whether it joins the one that is held back.
 use borrow.Author.Needs.{needs}
 use mathlib.Core.Path.{_∙_, sym}
-use Rattle.coalescing.proofs.StepLaws.{held-joined, held-own, step-apart, step-joined}
+use native.Mathlib.Nat.{zero-add}
+use Rattle.coalescing.specs.Held.{behindPending, heldAfter}
+use Rattle.coalescing.specs.Steps.{blockLays, blockStepped}
 use Rattle.coalescing.proofs.coalesce_homref_blocks.Statement.{statement}
 use Rattle.coalescing.proofs.coalesce_homref_blocks.Tie as tie
 
@@ -15,13 +17,10 @@ same-length : tie.Need-same-length
 same-length c = search needs
 
 returns : tie.Need-returns
+unfolding blockStepped blockLays heldAfter
 returns c =
-    let args = c .before .before .before .before .before .before .before .before .before .before .before .args in
-    let joins = sym (c .before .before .joins .ensures) ∙ c .before .if1 .taken in (
-      λ samples waiting new d₀ bytes records h b p.
-          rw (c .set-end .ensures) (step-joined _ _ samples _ _ _ d₀ bytes records (args .loc) (args .place) _ new b _ waiting h joins _ _ _ p),
-      held-joined _ _ _ _ _ _ (args .place) _ joins,
-    )
+    let joins = sym (c .before .before .joins .ensures) ∙ c .before .if1 .taken in
+    (rw joins (cc (c .set-end .ensures)), (rw joins, rw joins))
 
 put-pending-requires : tie.Need-put-pending-requires
 put-pending-requires c κs = (c .before .before .before .before .before .before .before .before .before .before .before .before .pre .fits)
@@ -42,15 +41,13 @@ same-length-3 : tie.Need-same-length-3
 same-length-3 c = search needs
 
 returns-2 : tie.Need-returns-2
+unfolding blockStepped blockLays heldAfter behindPending
 returns-2 c =
-    let args = c .before .before .before .before .before .before .before .before .before .before .before .before .before .before .before .before .before .before .before .before .before .args in
     let apart = sym (c .before .before .before .before .before .before .before .before .before .before .before .before .joins .ensures) ∙ c .before .before .before .before .before .before .before .before .before .before .before .if1 .left in
+    let laid = c .before .before .before .before .before .before .before .before .put-pending .ensures in
     let held = c .before .before .before .before .put-bytes .ensures in (
-      λ samples waiting new d₀ bytes records h b p.
-          rw (c .before .cap .ensures, c .count-pending .ensures)
-          (step-apart _ _ samples _ _ _ d₀ bytes records (args .loc) (args .place) _ new b _ waiting h apart _ _ (c .before .before .before .before .before .before .before .before .before .before .before .before .before .before .before .before .before .before .before .before .before .pre .room) held
-          _ _ _ _ _ p (c .before .before .before .before .before .before .before .before .put-pending .ensures)),
-      held .laid ∙ held-own _ _ _ _ _ _ (args .place) _ apart,
+      rw apart (cc (c .before .cap .ensures, c .count-pending .ensures, laid .next, held .next ∙ zero-add _)),
+      (rw apart (laid .laid), rw apart (held .laid)),
     )
 
 pub coalesce-homref-blocks-spec : {M : Type 1} → statement M

@@ -1,6 +1,7 @@
 -- The head and then the lines of the samples.
 use borrow.Author.Needs.{needs}
 use Rattle.coalescing.proofs.Laying.{record-head-fits, record-samples-fit}
+use Rattle.coalescing.specs.Steps.{recordBytes}
 use Rattle.kv_write.proofs.Laying.{laid-append}
 use Rattle.coalescing.proofs.merge_result_to_record.Statement.{statement}
 use Rattle.coalescing.proofs.merge_result_to_record.Tie as tie
@@ -29,6 +30,7 @@ same-length : tie.Need-same-length
 same-length c = search needs
 
 returns : tie.Need-returns
+unfolding recordBytes
 returns c =
     let at-head = c .before .before .before .before .before .before in
     let loc = at-head .before .before .new .ensures in

@@ -1,7 +1,8 @@
 -- The one that is held back, then this one.
 use borrow.Author.Needs.{needs}
 use native.Mathlib.Omega.{arith}
-use Rattle.coalescing.proofs.StepLaws.{step-other}
+use Rattle.coalescing.proofs.StepLaws.{both-counted}
+use Rattle.coalescing.specs.Held.{behindPending}
 use Rattle.coalescing.proofs.step_record.Statement.{statement}
 use Rattle.coalescing.proofs.step_record.Tie as tie
 
@@ -28,8 +29,14 @@ same-length : tie.Need-same-length
 same-length c = search needs
 
 returns : tie.Need-returns
-returns c = λ waiting new d₀ bytes records h o p.
-    rw ((c .before .before .cap2 .ensures), (c .count-more .ensures), (c .before .count-pending .ensures)) (step-other _ _ _ _ _ _ d₀ bytes records _ _ _ _ new o _ waiting h _ _ _ _ _ _ _ p ((c .before .before .before .before .before .before .before .before .before .before .put-pending .ensures)) (rw ((c .before .before .before .before .before .before .before .cap .ensures)) at ((c .before .before .before .before .before .merge-result-to-record .ensures))))
+unfolding behindPending
+returns c =
+    let pending = c .before .before .before .before .before .before .before .before .before .before .put-pending .ensures in
+    let next = c .before .before .before .before .before .before .before .cap .ensures in
+    let lines = c .before .before .before .before .before .merge-result-to-record .ensures in (
+      both-counted _ _ _ _ _ _ _ _ _ (pending .next) next (lines .next) (c .before .before .cap2 .ensures) (c .before .count-pending .ensures) (c .count-more .ensures),
+      rw (← pending .laid, ← pending .next, ← next) (lines .laid),
+    )
 
 pub step-record-spec : {M : Type 1} → statement M
 step-record-spec =

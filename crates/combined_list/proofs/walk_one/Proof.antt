@@ -2,6 +2,7 @@
 use borrow.Author.Needs.{needs}
 use lib.ListN.{length}
 use native.Mathlib.Omega.{arith}
+use Rattle.covering_sites.proofs.Filled.{selected-known}
 use Rattle.combined_list.proofs.OneContig.{all-places, collected, end-exactly, end-within, not-all-places, one-refused, one-walked, taken-exactly, walk-ready}
 use Rattle.combined_list.proofs.walk_one.Statement.{statement}
 use Rattle.combined_list.proofs.walk_one.Tie as tie
@@ -25,10 +26,10 @@ given-clip-requires : tie.Need-given-clip-requires
 given-clip-requires c κs = search needs
 
 slice-reshare-prefix-collect-breakpoints : tie.Need-slice-reshare-prefix-collect-breakpoints
-slice-reshare-prefix-collect-breakpoints c = end-within ((c .before .before .before .before .before .before .before .before .before .before .before .before .before .before .before .before .before .before .before .before .pre .0 .tables)) ((c .before .before .before .before .before .before .before .before .before .before .before .before .before .before .before .before .before .before .before .before .pre .0 .is-first)) ((c .before .before .before .before .before .select-contig .ensures .0) _ ((c .before .before .before .before .before .before .before .before .before .before .before .before .before .before .before .before .before .before .before .before .pre .0 .tables .grouped)))
+slice-reshare-prefix-collect-breakpoints c = end-within ((c .before .before .before .before .before .before .before .before .before .before .before .before .before .before .before .before .before .before .before .before .pre .0 .tables)) ((c .before .before .before .before .before .before .before .before .before .before .before .before .before .before .before .before .before .before .before .before .pre .0 .is-first)) (selected-known ((c .before .before .before .before .before .before .before .before .before .before .before .before .before .before .before .before .before .before .before .before .pre .0 .tables .grouped)) _ _ (c .before .before .before .before .before .select-contig .ensures .0))
 
 slice-aggregate-collect-breakpoints : tie.Need-slice-aggregate-collect-breakpoints
-slice-aggregate-collect-breakpoints c = end-exactly ((c .before .before .before .before .before .before .before .before .before .before .before .before .before .before .before .before .before .before .before .before .before .pre .0 .tables)) ((c .before .before .before .before .before .before .before .before .before .before .before .before .before .before .before .before .before .before .before .before .before .pre .0 .is-first)) ((c .before .before .before .before .before .before .select-contig .ensures .0) _ ((c .before .before .before .before .before .before .before .before .before .before .before .before .before .before .before .before .before .before .before .before .before .pre .0 .tables .grouped)))
+slice-aggregate-collect-breakpoints c = end-exactly ((c .before .before .before .before .before .before .before .before .before .before .before .before .before .before .before .before .before .before .before .before .before .pre .0 .tables)) ((c .before .before .before .before .before .before .before .before .before .before .before .before .before .before .before .before .before .before .before .before .before .pre .0 .is-first)) (selected-known ((c .before .before .before .before .before .before .before .before .before .before .before .before .before .before .before .before .before .before .before .before .before .pre .0 .tables .grouped)) _ _ (c .before .before .before .before .before .before .select-contig .ensures .0))
 
 collect-breakpoints-requires : tie.Need-collect-breakpoints-requires
 collect-breakpoints-requires c κs = search needs
@@ -43,17 +44,17 @@ slice-aggregate-walk-contig : tie.Need-slice-aggregate-walk-contig
 slice-aggregate-walk-contig c = search needs
 
 slice-reshare-prefix-walk-contig : tie.Need-slice-reshare-prefix-walk-contig
-slice-reshare-prefix-walk-contig c = let runs = (c .before .before .before .before .before .before .before .before .before .before .before .before .before .before .before .select-contig .ensures .0) _ ((c .before .before .before .before .before .before .before .before .before .before .before .before .before .before .before .before .before .before .before .before .before .before .before .before .before .before .before .before .before .before .pre .0 .tables .grouped)) in
+slice-reshare-prefix-walk-contig c = let runs = selected-known ((c .before .before .before .before .before .before .before .before .before .before .before .before .before .before .before .before .before .before .before .before .before .before .before .before .before .before .before .before .before .before .pre .0 .tables .grouped)) _ _ (c .before .before .before .before .before .before .before .before .before .before .before .before .before .before .before .select-contig .ensures .0) in
     let found = collected ((c .before .before .before .before .before .before .before .before .before .before .before .before .before .before .before .before .before .before .before .before .before .before .before .before .before .before .before .before .before .before .pre .0 .tables)) ((c .before .before .before .before .before .before .before .before .before .before .before .before .before .before .before .before .before .before .before .before .before .before .before .before .before .before .before .before .before .before .pre .0 .is-first)) runs ((c .before .before .before .before .before .before .before .before .before .before .before .contig-name .ensures)) ((c .before .before .before .before .before .before .before .before .before .before .given-clip .ensures)) ((c .before .before .before .before .before .before .before .collect-breakpoints .ensures)) in
     all-places found _ ((c .before .before .before .before .before .before .before .collect-breakpoints .kept .1 .1 .1 .1 .0)) ((c .before .before .before .found .given .1)) .within
 
 slice-aggregate-walk-contig-2 : tie.Need-slice-aggregate-walk-contig-2
-slice-aggregate-walk-contig-2 c = let runs = (c .before .before .before .before .before .before .before .before .before .before .before .before .before .before .before .before .select-contig .ensures .0) _ ((c .before .before .before .before .before .before .before .before .before .before .before .before .before .before .before .before .before .before .before .before .before .before .before .before .before .before .before .before .before .before .before .pre .0 .tables .grouped)) in
+slice-aggregate-walk-contig-2 c = let runs = selected-known ((c .before .before .before .before .before .before .before .before .before .before .before .before .before .before .before .before .before .before .before .before .before .before .before .before .before .before .before .before .before .before .before .pre .0 .tables .grouped)) _ _ (c .before .before .before .before .before .before .before .before .before .before .before .before .before .before .before .before .select-contig .ensures .0) in
     let found = collected ((c .before .before .before .before .before .before .before .before .before .before .before .before .before .before .before .before .before .before .before .before .before .before .before .before .before .before .before .before .before .before .before .pre .0 .tables)) ((c .before .before .before .before .before .before .before .before .before .before .before .before .before .before .before .before .before .before .before .before .before .before .before .before .before .before .before .before .before .before .before .pre .0 .is-first)) runs ((c .before .before .before .before .before .before .before .before .before .before .before .before .contig-name .ensures)) ((c .before .before .before .before .before .before .before .before .before .before .before .given-clip .ensures)) ((c .before .before .before .before .before .before .before .before .collect-breakpoints .ensures)) in
     taken-exactly _ _ (all-places found _ ((c .before .before .before .before .before .before .before .before .collect-breakpoints .kept .1 .1 .1 .1 .0)) ((c .before .before .before .before .found .given .1)) .within)
 
 walk-contig-requires : tie.Need-walk-contig-requires
-walk-contig-requires c κs = let runs = (c .before .before .before .before .before .before .before .before .before .before .before .before .before .before .before .before .before .before .before .before .select-contig .ensures .0) _ ((c .before .before .before .before .before .before .before .before .before .before .before .before .before .before .before .before .before .before .before .before .before .before .before .before .before .before .before .before .before .before .before .before .before .before .before .pre .0 .tables .grouped)) in
+walk-contig-requires c κs = let runs = selected-known ((c .before .before .before .before .before .before .before .before .before .before .before .before .before .before .before .before .before .before .before .before .before .before .before .before .before .before .before .before .before .before .before .before .before .before .before .pre .0 .tables .grouped)) _ _ (c .before .before .before .before .before .before .before .before .before .before .before .before .before .before .before .before .before .before .before .before .select-contig .ensures .0) in
     let found = collected ((c .before .before .before .before .before .before .before .before .before .before .before .before .before .before .before .before .before .before .before .before .before .before .before .before .before .before .before .before .before .before .before .before .before .before .before .pre .0 .tables)) ((c .before .before .before .before .before .before .before .before .before .before .before .before .before .before .before .before .before .before .before .before .before .before .before .before .before .before .before .before .before .before .before .before .before .before .before .pre .0 .is-first)) runs ((c .before .before .before .before .before .before .before .before .before .before .before .before .before .before .before .before .contig-name .ensures)) ((c .before .before .before .before .before .before .before .before .before .before .before .before .before .before .before .given-clip .ensures)) ((c .before .before .before .before .before .before .before .before .before .before .before .before .collect-breakpoints .ensures)) in
     let stored = all-places found _ ((c .before .before .before .before .before .before .before .before .before .before .before .before .collect-breakpoints .kept .1 .1 .1 .1 .0)) ((c .before .before .before .before .before .before .before .before .found .given .1)) in
     (walk-ready ((c .before .before .before .before .before .before .before .before .before .before .before .before .before .before .before .before .before .before .before .before .before .before .before .before .before .before .before .before .before .before .before .before .before .before .before .pre .0 .tables)) ((c .before .before .before .before .before .before .before .before .before .before .before .before .before .before .before .before .before .before .before .before .before .before .before .before .before .before .before .before .before .before .before .before .before .before .before .pre .0 .is-first)) runs ((c .before .before .before .before .before .before .before .before .before .before .before .before .before .before .before .before .contig-name .ensures)) (stored .exactly), record { d₀ = c .before .before .before .before .before .before .before .before .before .before .before .before .before .before .before .before .before .before .before .before .before .before .before .before .before .before .before .before .before .before .before .before .before .before .before .pre .0 .d₀; bytes = c .before .before .before .before .before .before .before .before .before .before .before .before .before .before .before .before .before .before .before .before .before .before .before .before .before .before .before .before .before .before .before .before .before .before .before .pre .0 .bytes; records = c .before .before .before .before .before .before .before .before .before .before .before .before .before .before .before .before .before .before .before .before .before .before .before .before .before .before .before .before .before .before .before .before .before .before .before .pre .0 .records; progress = c .before .before .before .before .before .before .before .before .before .before .before .before .before .before .before .before .before .before .before .before .before .before .before .before .before .before .before .before .before .before .before .before .before .before .before .pre .0 .progress }, c .before .before .before .before .before .before .before .before .before .before .before .before .before .before .before .before .before .before .before .before .before .before .before .before .before .before .before .before .before .before .before .before .before .before .before .pre .1)
@@ -65,7 +66,7 @@ same-length-2 : tie.Need-same-length-2
 same-length-2 c = search needs
 
 returns : tie.Need-returns
-returns c = λ ready. let runs = (c .before .before .before .before .before .before .before .before .before .before .before .before .select-contig .ensures .0) _ (ready .tables .grouped) in
+returns c = λ ready. let runs = selected-known (ready .tables .grouped) _ _ (c .before .before .before .before .before .before .before .before .before .before .before .before .select-contig .ensures .0) in
     let found = collected (ready .tables) (ready .is-first) runs ((c .before .before .before .before .before .before .before .before .contig-name .ensures)) ((c .before .before .before .before .before .before .before .given-clip .ensures)) ((c .before .before .before .before .collect-breakpoints .ensures)) in
     one-refused (ready .tables) (ready .is-first) _ _ _ _ (ready .progress .measured .laid) ((c .before .before .before .before .before .before .before .before .contig-name .ensures)) (not-all-places found ((c .enum-told .given .1)))
 
@@ -88,7 +89,7 @@ same-length-8 : tie.Need-same-length-8
 same-length-8 c = search needs
 
 returns-2 : tie.Need-returns-2
-returns-2 c = λ ready. let runs = (c .before .before .before .before .before .before .before .before .before .before .before .before .before .before .before .before .before .before .before .before .before .before .before .before .before .before .before .before .before .select-contig .ensures .0) _ (ready .tables .grouped) in
+returns-2 c = λ ready. let runs = selected-known (ready .tables .grouped) _ _ (c .before .before .before .before .before .before .before .before .before .before .before .before .before .before .before .before .before .before .before .before .before .before .before .before .before .before .before .before .before .select-contig .ensures .0) in
     let found = collected (ready .tables) (ready .is-first) runs ((c .before .before .before .before .before .before .before .before .before .before .before .before .before .before .before .before .before .before .before .before .before .before .before .before .before .contig-name .ensures)) ((c .before .before .before .before .before .before .before .before .before .before .before .before .before .before .before .before .before .before .before .before .before .before .before .before .given-clip .ensures)) ((c .before .before .before .before .before .before .before .before .before .before .before .before .before .before .before .before .before .before .before .before .before .collect-breakpoints .ensures)) in
     let stored = all-places found _ ((c .before .before .before .before .before .before .before .before .before .before .before .before .before .before .before .before .before .before .before .before .before .collect-breakpoints .kept .1 .1 .1 .1 .0)) ((c .before .before .before .before .before .before .before .before .before .before .before .before .before .before .before .before .before .found .given .1)) in
     one-walked (ready .tables) (ready .is-first) runs ((c .before .before .before .before .before .before .before .before .before .before .before .before .before .before .before .before .before .before .before .before .before .before .before .before .before .contig-name .ensures)) (stored .exactly) _ ((c .before .before .before .before .before .before .before .before .walk-contig .last .1 .1 .1 .1 .1 .1 .1 .1 .1 .1 .1 .1 .1 .1 .0)) ((c .before .before .before .before .before .before .before .before .before .before .before .before .before .before .before .before .before .before .before .before .before .before .before .before .before .before .before .before .before .before .before .before .before .before .before .before .before .before .before .before .before .before .before .before .args .at)) ((c .before .before .before .before .before .before .before .before .before .before .before .before .before .before .before .before .before .before .before .before .before .before .before .before .before .before .before .before .before .before .before .before .before .before .before .before .before .before .before .before .before .before .before .before .args .count)) (length ((c .before .before .before .before .before .before .before .before .before .before .before .before .before .before .before .before .before .before .before .before .before .before .before .before .before .before .before .before .before .before .before .before .before .before .before .before .before .before .before .before .before .before .before .before .args .scratch .now))) _ (stored .enough) ((c .before .before .before .before .before .before .before .before .walk-contig .ensures)) (ready .d₀) (ready .bytes) (ready .records) (ready .progress)

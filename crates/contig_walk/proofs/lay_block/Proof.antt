@@ -3,6 +3,7 @@ use borrow.Author.Needs.{needs}
 use lib.ListN.{length}
 use mathlib.Core.Path.{ap}
 use native.Mathlib.Omega.{arith}
+use Rattle.coalescing.proofs.StepLaws.{block-step}
 use Rattle.contig_walk.proofs.LaidRecords.{fresh-lines, lines-few, new-block, printable}
 use Rattle.contig_walk.specs.Laying.{laidRecord}
 use Rattle.contig_walk.proofs.lay_block.Statement.{statement}
@@ -34,9 +35,12 @@ same-length-3 : tie.Need-same-length-3
 same-length-3 c = search needs
 
 returns : tie.Need-returns
-returns c = λ ready block waiting d₀ bytes records h p.
+returns c = λ ready block way.
     let f = fresh-lines ready block _ _ (rw (c .before .before .before .before .before .before .before .before .before .before .before .before .ref-bytes .ensures) at (c .before .before .before .before .before .before .before .before .before .before .merge-genotypes .ensures)) in
-    (c .before .before .before .before .coalesce-homref-blocks .ensures .0) _ waiting (laidRecord ready) d₀ bytes records h (new-block ready block _ (f .lines)) p
+    let step = c .before .before .before .before .coalesce-homref-blocks .ensures in
+    block-step _ _ _ _ _ _ (way .begun .d₀) (way .begun .bytes) (way .begun .records) _ _ _
+    (laidRecord ready) (new-block ready block _ (f .lines)) _ (way .waiting) (way .holds)
+    (omega (arith, ap length (f .lines), ready .room, lines-few ready block)) _ _ _ (way .begun .progress) _ _ _ (step .0) (step .1 .0) (step .1 .1)
 
 pub lay-block-spec : {M : Type 1} → statement M
 lay-block-spec =

@@ -1,6 +1,7 @@
 -- A block by the number of ALTs and the length of REF.
 use borrow.Author.Needs.{needs}
 use mathlib.Core.Path.{_∙_, sym}
+use Rattle.coalescing.proofs.StepLaws.{record-step}
 use Rattle.contig_walk.proofs.LaidRecords.{by-numbers, other-record, record-fits}
 use Rattle.contig_walk.specs.Laying.{laidRecord}
 use Rattle.contig_walk.proofs.lay_record.Statement.{statement}
@@ -10,7 +11,10 @@ is-homref-nonref-only-requires : tie.Need-is-homref-nonref-only-requires
 is-homref-nonref-only-requires c κs = search needs
 
 lay-block-requires : tie.Need-lay-block-requires
-lay-block-requires c κs = ((c .before .before .before .before .before .before .before .before .before .before .before .before .before .before .pre), by-numbers (c .before .before .before .before .before .before .before .before .before .before .before .before .before .before .pre) ∙ sym (c .before .before .before .before .is-homref-nonref-only .ensures) ∙ (c .before .before .before .if1 .taken))
+lay-block-requires c κs =
+    let start = c .before .before .before .before .before .before .before .before .before .before .before .before .before .before in
+    let block = by-numbers (start .pre .0) ∙ sym (c .before .before .before .before .is-homref-nonref-only .ensures) ∙ c .before .before .before .if1 .taken in
+    (start .pre .0, block, start .pre .1)
 
 same-length : tie.Need-same-length
 same-length c = search needs
@@ -22,10 +26,14 @@ same-length-3 : tie.Need-same-length-3
 same-length-3 c = search needs
 
 returns : tie.Need-returns
-returns c = λ ready waiting d₀ bytes records h p. (c .before .before .before .before .before .before .lay-block .ensures) ready (by-numbers ready ∙ sym (c .before .before .before .before .before .before .before .before .before .before .before .is-homref-nonref-only .ensures) ∙ (c .before .before .before .before .before .before .before .before .before .before .if1 .taken)) waiting d₀ bytes records h p
+returns c = λ ready way.
+    let block = by-numbers ready ∙ sym (c .before .before .before .before .before .before .before .before .before .before .before .is-homref-nonref-only .ensures) ∙ c .before .before .before .before .before .before .before .before .before .before .if1 .taken in
+    c .before .before .before .before .before .before .lay-block .ensures ready block way
 
 step-record-requires : tie.Need-step-record-requires
-step-record-requires c κs = ((c .before .before .before .before .before .before .before .before .before .before .before .before .before .pre .fits), record-fits (c .before .before .before .before .before .before .before .before .before .before .before .before .before .pre))
+step-record-requires c κs =
+    let ready = c .before .before .before .before .before .before .before .before .before .before .before .before .before .pre .0 in
+    (ready .fits, record-fits ready)
 
 same-length-4 : tie.Need-same-length-4
 same-length-4 c = search needs
@@ -34,7 +42,12 @@ same-length-5 : tie.Need-same-length-5
 same-length-5 c = search needs
 
 returns-2 : tie.Need-returns-2
-returns-2 c = λ ready waiting d₀ bytes records h p. (c .before .before .step-record .ensures) waiting (laidRecord ready) d₀ bytes records h (other-record ready (by-numbers ready ∙ sym (c .before .before .before .before .before .before .is-homref-nonref-only .ensures) ∙ (c .before .before .before .before .before .if1 .left))) p
+returns-2 c = λ ready way.
+    let other = by-numbers ready ∙ sym (c .before .before .before .before .before .before .is-homref-nonref-only .ensures) ∙ c .before .before .before .before .before .if1 .left in
+    let step = c .before .before .step-record .ensures in
+    record-step _ _ _ _ _ _ (way .begun .d₀) (way .begun .bytes) (way .begun .records) _ _ _ _
+    (laidRecord ready) (other-record ready other) _ (way .waiting) (way .holds)
+    _ _ _ (way .begun .progress) _ _ (step .0) (step .1)
 
 pub lay-record-spec : {M : Type 1} → statement M
 lay-record-spec =

@@ -1,13 +1,11 @@
 -- Interval by interval; then what is held back is laid.
-use Prim.Native.Nat.{_-_, _≤_, ℕ}
+use Prim.Native.Nat.{_-_, _≤_}
 use borrow.Author.Needs.{needs}
 use lib.ListN.{getD, length}
-use mathlib.Core.List.{List}
 use mathlib.Core.Path.{_∙_, _≡_, refl}
 use native.Mathlib.Omega.{arith}
-use Rattle.coalescing.specs.Steps.{Progress}
-use Rattle.contig_walk.proofs.Walking.{Walking, end-fits, next-place, refused-here, search-here, search-later, search-start, turn-ready, walking-end, walking-next, walking-start}
-use Rattle.contig_walk.specs.Walk.{WalkReady}
+use Rattle.contig_walk.proofs.Walking.{Walking, end-fits, next-place, refused-here, search-here, search-later, search-start, turn-ready, turn-underway, walking-end, walking-next, walking-start}
+use Rattle.contig_walk.specs.Walk.{Begun, WalkReady}
 use Rattle.covering_sites.specs.Ended.{Ended}
 use Rattle.contig_walk.proofs.walk_contig.Statement.{statement}
 use Rattle.contig_walk.proofs.walk_contig.Tie as tie
@@ -15,8 +13,8 @@ use Rattle.contig_walk.proofs.walk_contig.Tie as tie
 abbrev Inv-loop : tie.InvT-loop
 Inv-loop s rows samples clipped clip referenced reference contig chosen bounds places held₀ fresh₀ alts₀ out₀ at count found₀ owners₀ from₀ state₀ k₀ held fresh alts out found owners from state k =
     (length held ≡ length held₀) × (length out ≡ length out₀) × (k ≤ length places)
-    × ((ready : WalkReady s rows samples clipped clip referenced reference contig chosen bounds places) (d₀ bytes : List ℕ) (records : ℕ)
-    → Progress d₀ bytes records out₀ at count → Walking ready d₀ bytes records out held state k)
+    × ((ready : WalkReady s rows samples clipped clip referenced reference contig chosen bounds places) (begun : Begun out₀ at count)
+    → Walking ready (begun .d₀) (begun .bytes) (begun .records) out held state k)
     × (length fresh ≡ length fresh₀) × (length found ≡ 64) × (length alts ≡ length alts₀) × (length from ≡ 64) × Ended rows chosen bounds from samples (getD places k 0) × (length owners ≡ 64)
 
 abbrev μ-loop : tie.MeasureT-loop
@@ -29,7 +27,7 @@ start-search-requires : tie.Need-start-search-requires Inv-loop μ-loop
 start-search-requires c κs = (((c .before .before .before .before .before .before .before .before .before .before .before .before .before .pre .0 .runs .in-runs .bounded .long)), omega (arith, (c .before .before .before .before .before .before .before .before .before .before .before .before .before .pre .0 .runs .on .loaded .few)))
 
 loop-holds : tie.Need-loop-holds Inv-loop μ-loop
-loop-holds c = (refl, refl, omega arith, (λ ready d₀ bytes records p. walking-start ready d₀ bytes records _ _ _ _ p), refl, refl, refl, (c .before .start-search .kept .1 .1 .0), search-start (c .before .before .before .before .before .before .before .before .before .before .before .before .before .before .before .pre .0) (omega (arith, (c .before .before .before .before .before .before .before .before .before .before .before .before .before .before .before .pre .0 .runs .on .loaded .few))) (c .before .start-search .ensures), refl)
+loop-holds c = (refl, refl, omega arith, (λ ready begun. walking-start ready (begun .d₀) (begun .bytes) (begun .records) _ _ _ _ (begun .progress)), refl, refl, refl, (c .before .start-search .kept .1 .1 .0), search-start (c .before .before .before .before .before .before .before .before .before .before .before .before .before .before .before .pre .0) (omega (arith, (c .before .before .before .before .before .before .before .before .before .before .before .before .before .before .before .pre .0 .runs .on .loaded .few))) (c .before .start-search .ensures), refl)
 
 add-loop : tie.Need-add-loop Inv-loop μ-loop
 add-loop c = omega (arith, (c .loop .inv .2), (c .before .before .before .before .before .before .before .before .before .before .before .before .before .before .before .before .good))
@@ -86,16 +84,19 @@ walk-interval-requires c κs =
     let last = loc .1 ∙ c .before .before .before .before .before .before .before .before .before .before .before .new-1based2 .ensures in
     let searched = search-here (start .pre .0) _ (at-loop .8) _ first (c .before .before .before .before .before .before .before .before .skip-ended .ensures) in
     let begun = start .pre .1 in
-    let w = at-loop .3 (start .pre .0) (begun .d₀) (begun .bytes) (begun .records) (begun .progress) in
-    turn-ready (start .pre .0) (begun .d₀) (begun .bytes) (begun .records) _ _ _ _ w _ _ more first last searched (record {
-      for-held = omega (arith, at-loop .0, start .pre .2 .for-held);
-      for-fresh = omega (arith, at-loop .4, start .pre .2 .for-fresh);
-      for-record = record {
-        for-sites = omega (arith, at-loop .5, start .pre .0 .runs .on .loaded .few);
-        for-owners = omega (arith, at-loop .9, start .pre .0 .runs .on .loaded .few);
-        for-alts = omega (arith, at-loop .6, start .pre .2 .for-alts);
-      };
-    })
+    let w = at-loop .3 (start .pre .0) begun in
+    let way = turn-underway (start .pre .0) (begun .d₀) (begun .bytes) (begun .records) _ _ _ _ w in (
+      turn-ready (start .pre .0) (begun .d₀) (begun .bytes) (begun .records) _ _ _ _ w _ _ more first last searched (record {
+        for-held = omega (arith, at-loop .0, start .pre .2 .for-held);
+        for-fresh = omega (arith, at-loop .4, start .pre .2 .for-fresh);
+        for-record = record {
+          for-sites = omega (arith, at-loop .5, start .pre .0 .runs .on .loaded .few);
+          for-owners = omega (arith, at-loop .9, start .pre .0 .runs .on .loaded .few);
+          for-alts = omega (arith, at-loop .6, start .pre .2 .for-alts);
+        };
+      }),
+      way,
+    )
 
 enum-known-turn : tie.Need-enum-known-turn Inv-loop μ-loop
 enum-known-turn c = search needs
@@ -113,8 +114,8 @@ same-length-4 : tie.Need-same-length-4 Inv-loop μ-loop
 same-length-4 c = (c .before .before .before .before .before .before .before .before .before .before .before .before .before .walk-interval .kept .1 .1 .1 .1 .1 .1 .1 .1 .1 .1 .1 .1 .1 .1 .1 .1 .1 .1 .0) ∙ (c .before .before .before .before .before .before .before .before .before .before .before .before .before .before .before .before .before .before .before .before .before .before .before .before .before .before .before .before .before .before .loop .inv .1)
 
 returns : tie.Need-returns Inv-loop μ-loop
-unfolding turn-ready
-returns c = λ ready d₀ bytes records p.
+unfolding turn-ready turn-underway
+returns c = λ ready begun.
     let start = c .before .before .before .before .before .before .before .before .before .before .before .before .before .before .before .before .before .before .before .before .before .before .before .before .before .before .before .before .before .before .before .before .before .before .before .before .before .before .before .before .before .before .before .before .before .before in
     let at-loop = c .before .before .before .before .before .before .before .before .before .before .before .before .before .before .before .before .before .before .before .before .before .before .before .before .before .before .before .before .before .before .loop .inv in
     let more = c .before .before .before .before .before .before .before .before .before .before .before .before .before .before .before .before .before .before .before .before .before .before .before .before .before .before .before .before .before .loop-test .taken in
@@ -122,9 +123,9 @@ returns c = λ ready d₀ bytes records p.
     let first = loc .0 ∙ c .before .before .before .before .before .before .before .before .before .before .before .before .before .before .before .before .before .before .before .before .before .before .before .before .before .before .before .new-1based .ensures in
     let last = loc .1 ∙ c .before .before .before .before .before .before .before .before .before .before .before .before .before .before .before .before .before .before .before .before .before .before .before .before .before .new-1based2 .ensures in
     let searched = search-here (start .pre .0) _ (at-loop .8) _ first (c .before .before .before .before .before .before .before .before .before .before .before .before .before .before .before .before .before .before .before .before .before .before .skip-ended .ensures) in
-    let w = at-loop .3 ready d₀ bytes records p in
-    refused-here ready d₀ bytes records _ _ _ _ w _ _ _ _ _ more first last
-    (rw (c .before .turn .given .1) at (c .before .before .before .before .before .before .before .before .before .before .before .before .before .walk-interval .ensures (turn-ready ready d₀ bytes records _ _ _ _ w _ _ more first last searched (record {
+    let w = at-loop .3 ready begun in
+    refused-here ready (begun .d₀) (begun .bytes) (begun .records) _ _ _ _ w _ _ _ _ _ more first last
+    (rw (c .before .turn .given .1) at (c .before .before .before .before .before .before .before .before .before .before .before .before .before .walk-interval .ensures (turn-ready ready (begun .d₀) (begun .bytes) (begun .records) _ _ _ _ w _ _ more first last searched (record {
       for-held = omega (arith, at-loop .0, start .pre .2 .for-held);
       for-fresh = omega (arith, at-loop .4, start .pre .2 .for-fresh);
       for-record = record {
@@ -133,7 +134,7 @@ returns c = λ ready d₀ bytes records p.
         for-alts = omega (arith, at-loop .6, start .pre .2 .for-alts);
       };
     }))
-    (w .waiting) _ _ _ (w .holds) (w .progress)))
+    (turn-underway ready (begun .d₀) (begun .bytes) (begun .records) _ _ _ _ w)))
 
 enum-known-turn-2 : tie.Need-enum-known-turn-2 Inv-loop μ-loop
 enum-known-turn-2 c = search needs
@@ -145,7 +146,7 @@ loop-less : tie.Need-loop-less Inv-loop μ-loop
 loop-less c = omega (arith, (c .before .before .before .before .before .before .before .before .before .before .before .before .before .before .before .before .before .before .before .before .before .before .before .before .before .before .before .before .before .loop-test .taken))
 
 loop-again : tie.Need-loop-again Inv-loop μ-loop
-unfolding turn-ready
+unfolding turn-ready turn-underway
 loop-again c =
     let start = c .before .before .before .before .before .before .before .before .before .before .before .before .before .before .before .before .before .before .before .before .before .before .before .before .before .before .before .before .before .before .before .before .before .before .before .before .before .before .before .before .before .before .before .before .before .before in
     let at-loop = c .before .before .before .before .before .before .before .before .before .before .before .before .before .before .before .before .before .before .before .before .before .before .before .before .before .before .before .before .before .before .loop .inv in
@@ -157,10 +158,10 @@ loop-again c =
       c .before .before .before .before .before .before .before .before .before .before .before .before .before .walk-interval .kept .1 .1 .1 .1 .1 .1 .1 .1 .1 .1 .1 .1 .1 .0 ∙ at-loop .0,
       c .before .before .before .before .before .before .before .before .before .before .before .before .before .walk-interval .kept .1 .1 .1 .1 .1 .1 .1 .1 .1 .1 .1 .1 .1 .1 .1 .1 .1 .1 .0 ∙ at-loop .1,
       omega (arith, more),
-      (λ ready d₀ bytes records p.
-          let w = at-loop .3 ready d₀ bytes records p in
-          walking-next ready d₀ bytes records _ _ _ _ w _ _ _ _ _ more first last
-          (rw (c .before .turn2 .given .1) at (c .before .before .before .before .before .before .before .before .before .before .before .before .before .walk-interval .ensures (turn-ready ready d₀ bytes records _ _ _ _ w _ _ more first last searched (record {
+      (λ ready begun.
+          let w = at-loop .3 ready begun in
+          walking-next ready (begun .d₀) (begun .bytes) (begun .records) _ _ _ _ w _ _ _ _ _ more first last
+          (rw (c .before .turn2 .given .1) at (c .before .before .before .before .before .before .before .before .before .before .before .before .before .walk-interval .ensures (turn-ready ready (begun .d₀) (begun .bytes) (begun .records) _ _ _ _ w _ _ more first last searched (record {
             for-held = omega (arith, at-loop .0, start .pre .2 .for-held);
             for-fresh = omega (arith, at-loop .4, start .pre .2 .for-fresh);
             for-record = record {
@@ -169,7 +170,7 @@ loop-again c =
               for-alts = omega (arith, at-loop .6, start .pre .2 .for-alts);
             };
           }))
-          (w .waiting) _ _ _ (w .holds) (w .progress)))),
+          (turn-underway ready (begun .d₀) (begun .bytes) (begun .records) _ _ _ _ w)))),
       c .before .before .before .before .before .before .before .before .before .before .before .before .before .walk-interval .kept .1 .1 .1 .1 .1 .1 .1 .1 .1 .1 .1 .1 .1 .1 .0 ∙ at-loop .4,
       c .before .before .before .before .before .before .before .before .before .before .before .before .before .walk-interval .kept .1 .1 .1 .1 .1 .1 .1 .1 .1 .1 .1 .1 .1 .1 .1 .0 ∙ at-loop .5,
       c .before .before .before .before .before .before .before .before .before .before .before .before .before .walk-interval .kept .1 .1 .1 .1 .1 .1 .1 .1 .1 .1 .1 .1 .1 .1 .1 .1 .1 .0 ∙ at-loop .6,
@@ -182,7 +183,7 @@ put-pending-requires : tie.Need-put-pending-requires Inv-loop μ-loop
 put-pending-requires c κs =
     let start = c .before .before .before .before .before .before .before .before .before .before .before .before .before .before .before .before .before .before .before in
     let begun = start .pre .1 in
-    let w = c .before .before .before .loop .inv .3 (start .pre .0) (begun .d₀) (begun .bytes) (begun .records) (begun .progress) in
+    let w = c .before .before .before .loop .inv .3 (start .pre .0) begun in
     end-fits (start .pre .0) (begun .d₀) (begun .bytes) (begun .records) _ _ _ _ w
 
 count-pending-requires : tie.Need-count-pending-requires Inv-loop μ-loop
@@ -204,8 +205,8 @@ same-length-8 : tie.Need-same-length-8 Inv-loop μ-loop
 same-length-8 c = (c .before .before .before .before .put-pending .kept .1 .1 .1 .1 .1 .1 .0) ∙ (c .before .before .before .before .before .before .before .before .loop .inv .1)
 
 returns-2 : tie.Need-returns-2 Inv-loop μ-loop
-returns-2 c = λ ready d₀ bytes records p. let w = (c .before .before .before .before .before .before .before .before .loop .inv .3) ready d₀ bytes records p in
-    rw ((c .cap .ensures), (c .before .count-pending .ensures)) (walking-end ready d₀ bytes records _ _ _ _ w (c .before .before .before .before .before .before .before .loop-test .left) _ _ (c .before .before .before .before .put-pending .ensures))
+returns-2 c = λ ready begun. let w = (c .before .before .before .before .before .before .before .before .loop .inv .3) ready begun in
+    rw ((c .cap .ensures), (c .before .count-pending .ensures)) (walking-end ready (begun .d₀) (begun .bytes) (begun .records) _ _ _ _ w (c .before .before .before .before .before .before .before .loop-test .left) _ _ (c .before .before .before .before .put-pending .ensures))
 
 pub walk-contig-spec : {M : Type 1} → statement M
 walk-contig-spec =

@@ -10,14 +10,14 @@ passes-clip-requires : tie.Need-passes-clip-requires
 passes-clip-requires c κs = search needs
 
 returns : tie.Need-returns
-returns c = λ ready waiting d₀ bytes records h p.
+returns c = λ ready way.
     let outside = in-input-clip ready (c .before .passes-clip .ensures) (not-true _ (c .if1 .taken)) in
-    turn-clipped ready waiting d₀ bytes records h outside _ _ p
+    turn-clipped ready (way .waiting) (way .begun .d₀) (way .begun .bytes) (way .begun .records) (way .holds) outside _ _ (way .begun .progress)
 
 merge-reference-confidence-requires : tie.Need-merge-reference-confidence-requires
 merge-reference-confidence-requires c κs =
     let start = c .before .before .before .before .before .before .before .before .before .before .before .before .before .before .before .before .before .before .before in
-    (start .pre .runs, start .pre .room .for-record, start .pre .ended)
+    (start .pre .0 .runs, start .pre .0 .room .for-record, start .pre .0 .ended)
 
 enum-told : tie.Need-enum-told
 enum-told c = search needs
@@ -34,7 +34,7 @@ slice-reshare-prefix-own-sites c =
     let at-merge = c .before .before .before .before .before .before .before .before .before in
     let start = at-merge .before .before .before .before .before .before .before .before .before .before .before .before .before .before .before .before .before .before .before .before in
     let answer = at-merge .merge-reference-confidence .ensures in
-    let f = rw (c .before .here2 .given .1) at (answer .0 (start .pre .runs)) in
+    let f = rw (c .before .here2 .given .1) at (answer .0 (start .pre .0 .runs)) in
     front-within _ (f .all)
 
 slice-aggregate-own-sites : tie.Need-slice-aggregate-own-sites
@@ -43,7 +43,7 @@ slice-aggregate-own-sites c =
     let at-merge = c .before .before .before .before .before .before .before .before .before .before in
     let start = at-merge .before .before .before .before .before .before .before .before .before .before .before .before .before .before .before .before .before .before .before .before in
     let answer = at-merge .merge-reference-confidence .ensures in
-    let f = rw (c .before .before .here2 .given .1) at (answer .0 (start .pre .runs)) in
+    let f = rw (c .before .before .here2 .given .1) at (answer .0 (start .pre .0 .runs)) in
     f .all
 
 slice-reshare-prefix-own-sites-2 : tie.Need-slice-reshare-prefix-own-sites-2
@@ -52,8 +52,8 @@ slice-reshare-prefix-own-sites-2 c =
     let at-merge = c .before .before .before .before .before .before .before .before .before .before in
     let start = at-merge .before .before .before .before .before .before .before .before .before .before .before .before .before .before .before .before .before .before .before .before in
     let answer = at-merge .merge-reference-confidence .ensures in
-    let f = rw (c .before .before .here2 .given .1) at (answer .0 (start .pre .runs)) in
-    owners-front (start .pre) _ _ _ _ _ _ f _ (answer .1 .0 (start .pre .runs)) (answer .1 .1 (start .pre .runs))
+    let f = rw (c .before .before .here2 .given .1) at (answer .0 (start .pre .0 .runs)) in
+    owners-front (start .pre .0) _ _ _ _ _ _ f _ (answer .1 .0 (start .pre .0 .runs)) (answer .1 .1 (start .pre .0 .runs))
 
 slice-aggregate-own-sites-2 : tie.Need-slice-aggregate-own-sites-2
 unfolding RecordFound
@@ -61,8 +61,8 @@ slice-aggregate-own-sites-2 c =
     let at-merge = c .before .before .before .before .before .before .before .before .before .before .before in
     let start = at-merge .before .before .before .before .before .before .before .before .before .before .before .before .before .before .before .before .before .before .before .before in
     let answer = at-merge .merge-reference-confidence .ensures in
-    let f = rw (c .before .before .before .here2 .given .1) at (answer .0 (start .pre .runs)) in
-    owners-exact (start .pre) _ _ _ _ _ _ f _ (answer .1 .0 (start .pre .runs)) (answer .1 .1 (start .pre .runs))
+    let f = rw (c .before .before .before .here2 .given .1) at (answer .0 (start .pre .0 .runs)) in
+    owners-exact (start .pre .0) _ _ _ _ _ _ f _ (answer .1 .0 (start .pre .0 .runs)) (answer .1 .1 (start .pre .0 .runs))
 
 slice-aggregate-own-sites-3 : tie.Need-slice-aggregate-own-sites-3
 slice-aggregate-own-sites-3 c = search needs
@@ -73,8 +73,8 @@ own-sites-requires c κs =
     let at-merge = c .before .before .before .before .before .before .before .before .before .before .before .before in
     let start = at-merge .before .before .before .before .before .before .before .before .before .before .before .before .before .before .before .before .before .before .before .before in
     let answer = at-merge .merge-reference-confidence .ensures in
-    let f = rw (c .before .before .before .before .here2 .given .1) at (answer .0 (start .pre .runs)) in
-    own-asked (start .pre) _ _ _ _ _ _ f _ (answer .1 .0 (start .pre .runs)) (answer .1 .1 (start .pre .runs))
+    let f = rw (c .before .before .before .before .here2 .given .1) at (answer .0 (start .pre .0 .runs)) in
+    own-asked (start .pre .0) _ _ _ _ _ _ f _ (answer .1 .0 (start .pre .0 .runs)) (answer .1 .1 (start .pre .0 .runs))
 
 part-requires : tie.Need-part-requires
 part-requires c κs = search needs
@@ -88,11 +88,11 @@ lay-record-requires c κs =
     let at-merge = c .before .before .before .before .before .before .before .before .before .before .before .before .before .before .before .before .before .before .before .before in
     let start = at-merge .before .before .before .before .before .before .before .before .before .before .before .before .before .before .before .before .before .before .before .before in
     let answer = at-merge .merge-reference-confidence .ensures in
-    let f = rw (c .before .before .before .before .before .before .before .before .before .before .before .before .here2 .given .1) at (answer .0 (start .pre .runs)) in
+    let f = rw (c .before .before .before .before .before .before .before .before .before .before .before .before .here2 .given .1) at (answer .0 (start .pre .0 .runs)) in
     let at-clip = at-merge .before .before .before .before in
-    let inside = in-input-clip (start .pre) (at-clip .before .passes-clip .ensures) (not-false _ (at-clip .if1 .left)) in
-    lay-ready (start .pre) inside _ _ _ _ _ _ f _ (c .before .before .before .before .part .ensures) _
-    (own-known (start .pre) _ _ _ _ _ _ f _ (answer .1 .0 (start .pre .runs)) (answer .1 .1 (start .pre .runs)) (c .before .before .before .before .before .before .before .own-sites .ensures))
+    let inside = in-input-clip (start .pre .0) (at-clip .before .passes-clip .ensures) (not-false _ (at-clip .if1 .left)) in
+    let own = own-known (start .pre .0) _ _ _ _ _ _ f _ (answer .1 .0 (start .pre .0 .runs)) (answer .1 .1 (start .pre .0 .runs)) (c .before .before .before .before .before .before .before .own-sites .ensures) in
+    (lay-ready (start .pre .0) inside _ _ _ _ _ _ f _ (c .before .before .before .before .part .ensures) _ own, start .pre .1)
 
 same-length : tie.Need-same-length
 same-length c = c .before .before .before .before .before .before .before .before .merge-reference-confidence .kept .1 .1 .1 .1 .1 .1 .1 .1 .1 .1 .0
@@ -105,11 +105,12 @@ same-length-3 c = c .before .before .before .before .before .before .before .bef
 
 returns-2 : tie.Need-returns-2
 unfolding RecordFound
-returns-2 c = λ ready waiting d₀ bytes records h p.
+returns-2 c = λ ready way.
     let at-merge = c .before .before .before .before .before .before .before .before in
     let at-clip = at-merge .before .before .before .before in
     let inside = in-input-clip ready (at-clip .before .passes-clip .ensures) (not-false _ (at-clip .if1 .left)) in
-    turn-bare ready waiting d₀ bytes records h inside (rw (c .enum-told .given .1) at (at-merge .merge-reference-confidence .ensures .0 (ready .runs))) _ _ p
+    turn-bare ready (way .waiting) (way .begun .d₀) (way .begun .bytes) (way .begun .records) (way .holds) inside
+    (rw (c .enum-told .given .1) at (at-merge .merge-reference-confidence .ensures .0 (ready .runs))) _ _ (way .begun .progress)
 
 same-length-4 : tie.Need-same-length-4
 same-length-4 c = c .before .before .before .before .before .before .before .before .before .merge-reference-confidence .kept .1 .1 .1 .1 .1 .1 .1 .1 .1 .1 .0
@@ -122,12 +123,13 @@ same-length-6 c = c .before .before .before .before .before .before .before .bef
 
 returns-3 : tie.Need-returns-3
 unfolding RecordFound
-returns-3 c = λ ready waiting d₀ bytes records h p.
+returns-3 c = λ ready way.
     let at-merge = c .before .before .before .before .before .before .before .before .before in
     let f = rw (c .before .here .given .1) at (at-merge .merge-reference-confidence .ensures .0 (ready .runs)) in
     let at-clip = at-merge .before .before .before .before in
     let inside = in-input-clip ready (at-clip .before .passes-clip .ensures) (not-false _ (at-clip .if1 .left)) in
-    turn-none ready waiting d₀ bytes records h inside _ (f .0) (f .1) _ (p .measured .laid)
+    turn-none ready (way .waiting) (way .begun .d₀) (way .begun .bytes) (way .begun .records) (way .holds) inside
+    _ (f .0) (f .1) _ (way .begun .progress .measured .laid)
 
 same-length-7 : tie.Need-same-length-7
 same-length-7 c = c .before .before .before .before .before .before .lay-record .kept .1 .1 .1 .1 .1 .1 .1 .1 .1 .1 .1 .0
@@ -149,7 +151,7 @@ same-length-12 c = c .before .before .before .before .before .before .lay-record
 
 returns-4 : tie.Need-returns-4
 unfolding RecordFound
-returns-4 c = λ ready waiting d₀ bytes records h p.
+returns-4 c = λ ready way.
     let at-merge = c .before .before .before .before .before .before .before .before .before .before .before .before .before .before .before .before .before .before .before .before .before .before .before .before .before .before .before in
     let answer = at-merge .merge-reference-confidence .ensures in
     let f = rw (c .before .before .before .before .before .before .before .before .before .before .before .before .before .before .before .before .before .before .before .here2 .given .1) at (answer .0 (ready .runs)) in
@@ -157,8 +159,9 @@ returns-4 c = λ ready waiting d₀ bytes records h p.
     let inside = in-input-clip ready (at-clip .before .passes-clip .ensures) (not-false _ (at-clip .if1 .left)) in
     let at-part = c .before .before .before .before .before .before .before .before .before .before .before in
     let own = own-known ready _ _ _ _ _ _ f _ (answer .1 .0 (ready .runs)) (answer .1 .1 (ready .runs)) (at-part .before .before .before .own-sites .ensures) in
-    turn-laid ready waiting d₀ bytes records h inside _ _ _ _ _ _ f _ (at-part .part .ensures) _ own _ _ _
-    (c .before .before .before .before .before .before .lay-record .ensures (lay-ready ready inside _ _ _ _ _ _ f _ (at-part .part .ensures) _ own) waiting d₀ bytes records h p)
+    turn-laid ready (way .waiting) (way .begun .d₀) (way .begun .bytes) (way .begun .records) (way .holds) inside
+    _ _ _ _ _ _ f _ (at-part .part .ensures) _ own _ _ _
+    (c .before .before .before .before .before .before .lay-record .ensures (lay-ready ready inside _ _ _ _ _ _ f _ (at-part .part .ensures) _ own) way)
 
 pub walk-interval-spec : {M : Type 1} → statement M
 walk-interval-spec =

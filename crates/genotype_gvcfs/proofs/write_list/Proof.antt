@@ -28,7 +28,7 @@ returns c =
     let at-genotype-gvcf-records = c .before .before .before .before in
     let at-put-header = at-genotype-gvcf-records .before .before .before .before .before in
     let at-pre = at-put-header .before .before .before .before .before .before in
-    λ m exact. list-written m _ ((at-pre .pre .1)) (at-put-header .put-header .ensures) _ (at-genotype-gvcf-records .genotype-gvcf-records .ensures) exact
+    λ m. list-written m _ ((at-pre .pre .1)) (at-put-header .put-header .ensures) _ (at-genotype-gvcf-records .genotype-gvcf-records .ensures)
 
 pub write-list-spec : {M : Type 1} → statement M
 write-list-spec =
