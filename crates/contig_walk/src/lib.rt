@@ -13,7 +13,6 @@ ghost use Rattle.definitions.specs.Intervals.{inClip};
 ghost use Rattle.definitions.specs.Lists.{onlyIf};
 ghost use Rattle.definitions.specs.Records.{Record};
 ghost use Rattle.intervals.specs.InClip.{clipSpans, intervalOf};
-ghost use Rattle.merged_records.specs.Loaded.{chosenLetters};
 ghost use Rattle.merged_ref.specs.Answers.{refBytes};
 ghost use Rattle.record_laws.specs.Pending.{mergedContig};
 ghost use Rattle.contig_walk.specs.Laying.{LayReady, TurnReady, Turns, laidRecord};
@@ -211,7 +210,7 @@ fn walk_interval<'a>(
         (waiting : Option Record) (d₀ bytes : List ℕ) (records : ℕ)
         → Holds (now (s .entry)) (now (rows .entry)) samples (now (reference .entry)) (now (contig .entry)) (now (held .entry)) pending waiting
         → Progress d₀ bytes records (now (out .entry)) at count
-        → Turns (ready .runs .on .loaded .input) (chosenLetters (ready .runs .on .loaded)) (now (s .entry)) (now (rows .entry)) samples (now (reference .entry)) (now (contig .entry)) (now (held .exit)) (now (out .exit)) (loc .start .0) (loc .end .0) waiting d₀ bytes records r) ⌝ }
+        → Turns (ready .runs .on .loaded .input) (now (s .entry)) (now (rows .entry)) samples (now (reference .entry)) (now (contig .entry)) (now (held .exit)) (now (out .exit)) (loc .start .0) (loc .end .0) waiting d₀ bytes records r) ⌝ }
 {
     let same = Stepped { pending, at, count };
     if !passes_clip(clipped, clip, rows, contig, loc) {
@@ -286,7 +285,7 @@ pub fn walk_contig<'a>(
     requires { ⌜ WalkReady (now s) (now rows) samples clipped (now clip) referenced (now reference) (now contig) (now chosen) (now bounds) (now places) × Begun (now out) at count × WalkRoom (now held) (now fresh) (now alts) ⌝ }
     ensures { λ r. ⌜ ((ready : WalkReady (now (s .entry)) (now (rows .entry)) samples clipped (now (clip .entry)) referenced (now (reference .entry)) (now (contig .entry)) (now (chosen .entry)) (now (bounds .entry)) (now (places .entry)))
         (d₀ bytes : List ℕ) (records : ℕ) → Progress d₀ bytes records (now (out .entry)) at count
-        → RecordsWalked (mergedContig (ready .runs .on .loaded .input) (chosenLetters (ready .runs .on .loaded)) (now (contig .entry))) d₀ bytes records (now (out .exit)) r) ⌝ }
+        → RecordsWalked (mergedContig (ready .runs .on .loaded .input) (now (contig .entry))) d₀ bytes records (now (out .exit)) r) ⌝ }
 {
     let mut found = [0usize; 64];
     let mut owners = [0usize; 64];
