@@ -85,7 +85,7 @@ def ref_of(taken, start, reference):
         return max(starting, key=len)
     if reference is None:
         return taken[min(taken)].alleles[0][0]
-    for g in reference:
+    for g in reference:  # the first group in the file that holds the position
         offset = start - int(g["first"])
         if 0 <= offset < len(g["bases"]):
             return g["bases"][offset]

@@ -21,6 +21,7 @@ PLACES, ROOM, INPUT_ROOM = 8192, 65536, 524288  # what the program has room for
 COVERED = {f"refused {n}" for n in range(1, 15)} | {
     "joined", "clip cuts a block", "deletion over a later position", "*", "REF grows", "missing value", "several contigs", "64 samples",
     "16 alleles", "letter from the reference", "letter from a sample", "clip keeps nothing", "no records", "a site hides another",
+    "reference groups disagree",
 }
 CLIP, REFERENCE = ("contig", "start", "end"), ("contig", "first", "bases")
 Case = namedtuple("Case", "name cohort clip reference lent places room")
@@ -62,9 +63,10 @@ def taken_at(sites, position):
 def check_interval(sites, reference, start):
     """Rows 11 to 13 of an interval, and what it shows. Nothing if no site covers it."""
     taken = taken_at(sites, start)
+    letters = {g["bases"][start - g["first"]] for g in reference or [] if 0 <= start - g["first"] < len(g["bases"])}
     refs = [s.alleles[0] for s in taken.values() if s.start == start]
     if taken and not refs and reference is not None:
-        check(11, any(0 <= start - g["first"] < len(g["bases"]) for g in reference))
+        check(11, letters)
     longest = max(refs, key=len, default="")
     check(12, all(longest.startswith(r) for r in refs))
     if not taken:
@@ -79,6 +81,7 @@ def check_interval(sites, reference, start):
         "deletion over a later position": any(s.start < start and min(map(len, s.alleles)) < len(s.alleles[0]) for s in taken.values()),
         "letter from the reference": not refs and reference is not None,
         "letter from a sample": not refs and reference is None,
+        "reference groups disagree": not refs and len(letters) > 1,
         "a site hides another": sum(s.start <= start <= s.end for s in sites) > len(taken),
         "taken": True,
     }
@@ -285,6 +288,26 @@ def letter_cases():
     case("11-then-14", 11, block, cut, "", room=0)
 
 
+def patched_cases():
+    """Groups that overlap and disagree: the first in the file that holds the position gives the letter. At 13, 14 and 15 stand three records."""
+    cut = span("c", 13, 13) + span("c", 14, 14) + span("c", 15, 15)
+    whole, fix = segment("c", 1, "A" * 20), segment("c", 13, "GT")
+    # sites elsewhere, so many that each size of the tables is taken
+    for size, more in ((64, 0), (256, 60), (4096, 240)):
+        cohort = one(start=10, end=20) + "".join(site(BLOCK, contig="d", start=i, end=i) for i in range(1, more + 1))
+        case(f"a-correction-in-front-{size}", None, cohort, cut, fix + whole)
+        case(f"two-groups-behind-one-that-lacks-the-position-{size}", None, cohort, cut, segment("c", 16, "T") + fix + whole)
+    block, elsewhere = one(start=10, end=20), segment("c", 9, "N")
+    case("a-correction-behind", None, block, cut, whole + fix)
+    case("a-correction-of-another-contig", None, block, cut, segment("d", 13, "GT") + whole)
+    case("a-correction-inside-a-correction", None, block, cut, segment("c", 14, "C") + fix + whole)
+    case("11-behind-groups-that-disagree", 11, block, cut, segment("c", 13, "G") + segment("c", 13, "TT"))
+    # the table has rows for 1,024 groups; those behind them are looked for in the text
+    for number in (1023, 1024, 1025):
+        case(f"groups-{number}-and-{number + 1}-disagree", None, block, cut, elsewhere * (number - 1) + fix + segment("c", 12, "CCCC"))
+    case("a-correction-in-a-row-of-a-group-in-the-text", None, block, cut, fix + elsewhere * 1023 + whole)
+
+
 def merge_cases():
     three = header("S0", "S1", "S2")
     for refs in (("A", "C", "AT"), ("AT", "A", "C"), ("C", "AT", "A"), ("AT", "AT", "AG")):
@@ -338,7 +361,7 @@ def printed(name, answer):
 
 
 def main():
-    for part in (recorded_cases, cohort_cases, clip_and_reference_cases, place_cases, letter_cases, merge_cases):
+    for part in (recorded_cases, cohort_cases, clip_and_reference_cases, place_cases, letter_cases, patched_cases, merge_cases):
         part()
     assert len({c.name for c, _ in CASES}) == len(CASES)
     stdin, stdout, covered = b"", b"", {}

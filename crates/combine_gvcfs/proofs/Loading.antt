@@ -4,7 +4,6 @@ use lib.ListN.{getD, length, length-map}
 use mathlib.Core.Bool.{Bool, _&&_, false, true}
 use mathlib.Core.List.{List, [], map}
 use mathlib.Core.Logic.{inl, inr, ⊎-elim}
-use mathlib.Core.Option.{Option, none, some}
 use mathlib.Core.Path.{_∙_, _≡_, refl, subst, sym}
 use native.Mathlib.Omega.{arith}
 use Rattle.answers.proofs.Answers.{answered-refused}
@@ -17,19 +16,18 @@ use Rattle.cohort.specs.Cohort.{CohortTo, CohortUnread, fittingCohort, sitesIn}
 use Rattle.combined_list.specs.WrittenList.{CallLoaded, listWithin}
 use Rattle.definitions.specs.Answers.{scratchAfter}
 use Rattle.definitions.specs.Checked.{Checked, accepted, isAccepted, refused}
-use Rattle.definitions.specs.ClipAndReference.{ChoiceFrom, LetterChoice, ReferenceSegment, optionalGroups, segmentOf, spanOf}
+use Rattle.definitions.specs.ClipAndReference.{optionalGroups, segmentOf, spanOf}
 use Rattle.definitions.specs.Cohort.{cohortOf}
-use Rattle.definitions.specs.CombinedList.{ChoiceFor, Input, Texts, combinedList, fits, inputOf}
+use Rattle.definitions.specs.CombinedList.{Input, Texts, combinedList, fits, inputOf}
 use Rattle.definitions.specs.Limits.{maxSamples, maxSites}
 use Rattle.definitions.specs.Lines.{Line}
 use Rattle.definitions.specs.Lists.{missingOr, numbersFrom, onlyIf}
 use Rattle.indexed_groups.proofs.ShortTables.{no-segment-rows, no-span-rows}
 use Rattle.indexed_groups.proofs.Storing.{segments-still, segments-unchanged, spans-unchanged}
 use Rattle.indexed_groups.specs.Indexed.{SegmentsGiven, SegmentsIndexed, SegmentsOnly, SpansGiven, SpansIndexed, SpansOnly}
-use Rattle.laws.proofs.Checked.{accepted-same, after-required, not-required, required, then, then-refused}
+use Rattle.laws.proofs.Checked.{after-required, not-required, required, then, then-refused}
 use Rattle.laws.proofs.Every.{every-of-each}
 use Rattle.laws.proofs.Members.{length-numbers}
-use Rattle.laws.proofs.ReferenceLetter.{first-letter, firstLetter}
 use Rattle.laws.proofs.SoundInput.{input-sound}
 use Rattle.laws.proofs.SoundRecords.{NameAfter}
 use Rattle.laws.proofs.Tests.{all-three, clash}
@@ -62,20 +60,10 @@ module _ {A : Type 0} (read : List Line → Checked A) (s : List ℕ) where
 
 -- ---- refusals
 
--- the letters of a reference, if there is one in order
-lettersOf : Checked (Option (List ReferenceSegment)) → LetterChoice
-lettersOf (refused n) = firstLetter []
-lettersOf (accepted none) = firstLetter []
-lettersOf (accepted (some segments)) = firstLetter segments
-
 pub texts-refused : {t : Texts} {scratch row : ℕ} {out out′ : List ℕ} → inputOf t ≡ refused row → out′ ≡ out
     → TextsAnswered t scratch out out′ (outcome.Refused row)
-unfolding combinedList ChoiceFor lettersOf
-texts-refused {t} e same = record {
-  choose = lettersOf (optionalGroups segmentOf (t .reference));
-  choice = λ reference p. rw p (first-letter reference);
-  answered = answered-refused (then-refused _ _ e) same;
-}
+unfolding combinedList
+texts-refused e same = record { answered = answered-refused (then-refused _ _ e) same }
 
 module _ (cohort : List ℕ) (clipped : Bool) (clip : List ℕ) (referenced : Bool) (reference : List ℕ) where
   -- a text is too long
@@ -246,22 +234,12 @@ module _ {s names rows : List ℕ} {samples sites : ℕ} {clipped : Bool} {clip 
             all-sites = sites-length;
           }
 
-      choice-for : ChoiceFor texts (firstLetter (r .groups))
-      unfolding ChoiceFor texts onlyIf
-      choice-for segments e = go referenced (accepted-same (sym (r .all) ∙ e))
-        where
-          go : (b : Bool) → onlyIf b (r .groups) ≡ some segments → ChoiceFrom segments (firstLetter (r .groups))
-          go true e = let same : r .groups ≡ segments = cc in rw (← same) (first-letter (r .groups))
-          go false e = let z : _≡_ {A = ℕ} 0 1 = cc in absurd (omega arith)
-
       pub texts-answered : (scratch : ℕ) {out out′ : List ℕ} {o : Outcome}
           → ((call : CallLoaded s names rows samples sites clipped clip referenced reference)
           → Answered (listWithin (call .loaded) scratch (length out)) out out′ o)
           → TextsAnswered (textsOf s clipped clip referenced reference) scratch out out′ o
       unfolding call-loaded texts combinedList
       texts-answered scratch {out = out} {out′ = out′} {o = o} says = record {
-        choose = firstLetter (r .groups);
-        choice = choice-for;
         answered = subst (λ (list : Checked (List ℕ)). Answered list out out′ o) (sym (then _ _ input-read refl)) (says call-loaded);
       }
 
@@ -312,8 +290,6 @@ tried-again e f a = rw (← e, ← f) a
 pub combined : {t : Texts} {scratch : List ℕ} (scratch₁ : List ℕ) {scratch′ out out′ : List ℕ} {r : Outcome} → TextsAnswered t (length scratch) out out′ r
     → length scratch₁ ≡ length scratch → scratch′ ≡ scratchAfter scratch₁ → Combined t scratch scratch′ out out′ r
 combined {scratch = scratch} scratch₁ a same cleared = record {
-  choose = a .choose;
-  choice = a .choice;
   answer = a .answered .answer;
   output = a .answered .output;
   cleared = cleared ∙ scratch-same scratch₁ scratch same;

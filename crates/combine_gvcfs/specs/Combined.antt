@@ -12,9 +12,8 @@ use Rattle.answers.specs.declared.Outcome.{Outcome}
 use Rattle.cohort.specs.Cohort.{sitesIn}
 use Rattle.definitions.specs.Answers.{outputAfter, scratchAfter, writtenOf}
 use Rattle.definitions.specs.Checked.{accepted}
-use Rattle.definitions.specs.ClipAndReference.{LetterChoice}
 use Rattle.definitions.specs.Cohort.{cohortOf}
-use Rattle.definitions.specs.CombinedList.{ChoiceFor, Texts, combinedList, fits}
+use Rattle.definitions.specs.CombinedList.{Texts, combinedList, fits}
 use Rattle.definitions.specs.Limits.{maxSamples, maxSites}
 use Rattle.definitions.specs.Lists.{missingOr, onlyIf}
 use Rattle.combined_list.specs.WrittenList.{ListsFit}
@@ -29,18 +28,14 @@ abbrev pub textsOf : List ℕ → Bool → List ℕ → Bool → List ℕ → Te
 textsOf cohort clipped clip referenced reference =
     record { cohort = cohort; clip = onlyIf clipped clip; reference = onlyIf referenced reference }
 
--- the answer for these texts, with some choice of reference letters
+-- the answer for these texts
 pub record TextsAnswered (texts : Texts) (scratch : ℕ) (out out′ : List ℕ) (r : Outcome) : Type 0 where
-  pub choose : LetterChoice
-  pub choice : ChoiceFor texts choose
-  pub answered : Answered (combinedList texts scratch (length out) choose) out out′ r
+  pub answered : Answered (combinedList texts scratch (length out)) out out′ r
 
 -- what a call promises
 pub record Combined (texts : Texts) (scratch scratch′ out out′ : List ℕ) (r : Outcome) : Type 0 where
-  pub choose : LetterChoice
-  pub choice : ChoiceFor texts choose
-  pub answer : outcomeAnswer r ≡ writtenOf (combinedList texts (length scratch) (length out) choose)
-  pub output : out′ ≡ outputAfter (combinedList texts (length scratch) (length out) choose) out
+  pub answer : outcomeAnswer r ≡ writtenOf (combinedList texts (length scratch) (length out))
+  pub output : out′ ≡ outputAfter (combinedList texts (length scratch) (length out)) out
   pub cleared : scratch′ ≡ scratchAfter scratch
 
 -- ---- texts

@@ -13,7 +13,7 @@ use Rattle.clip_and_reference.specs.Groups.{SpansFrom, spansRead}
 use Rattle.covering_sites.proofs.CoveringFound.{contig-member, member-contig}
 use Rattle.covering_sites.specs.Covering.{contigSites}
 use Rattle.covering_sites.specs.Runs.{Runs}
-use Rattle.definitions.specs.ClipAndReference.{LetterChoice, Span, spanOf}
+use Rattle.definitions.specs.ClipAndReference.{Span, spanOf}
 use Rattle.definitions.specs.Cohort.{Site}
 use Rattle.definitions.specs.CombinedList.{Input, contigRecords}
 use Rattle.definitions.specs.Intervals.{breakpoints}
@@ -27,7 +27,7 @@ use Rattle.laws.proofs.Checked.{not-required, required}
 use Rattle.laws.proofs.Every.{Every, every-member, every-of, every-of-map-back}
 use Rattle.laws.proofs.Members.{_∈_, numbers-member}
 use Rattle.list_header.specs.Measured.{limit}
-use Rattle.merged_records.specs.Loaded.{ContigRuns, chosenLetters}
+use Rattle.merged_records.specs.Loaded.{ContigRuns}
 use Rattle.record_laws.specs.Pending.{mergedContig}
 use Rattle.tables.proofs.SameContig.{same-contig}
 use Rattle.tables.specs.Tables.{column, partAt, siteAt}
@@ -39,13 +39,13 @@ use Rattle.contig_walk.specs.declared.Walked.the-variants as walked
 
 -- ---- row 10
 
-module _ (x : Input) (choose : LetterChoice) (places : ℕ) (contig : List ℕ) where
+module _ (x : Input) (places : ℕ) (contig : List ℕ) where
   pub enough-places : length (breakpoints (x .cohort .sites) (x .clip) contig) ≤ places
-      → contigRecords x choose places contig ≡ mergedContig x choose contig
+      → contigRecords x places contig ≡ mergedContig x contig
   unfolding contigRecords mergedContig
   enough-places h = required 10 _ _ (le-leb _ _ h) refl
 
-  pub few-places : places < length (breakpoints (x .cohort .sites) (x .clip) contig) → contigRecords x choose places contig ≡ refused 10
+  pub few-places : places < length (breakpoints (x .cohort .sites) (x .clip) contig) → contigRecords x places contig ≡ refused 10
   unfolding contigRecords
   few-places h = not-required 10 _ _ (lt-leb _ _ h)
 
@@ -157,17 +157,17 @@ module _ {s rows : List ℕ} {samples : ℕ} {clipped : Bool} {clip : List ℕ} 
         pub one-walked : (out out′ : List ℕ) (at count scratch : ℕ) (w : Walked)
             → length (breakpoints (g .loaded .input .cohort .sites) (g .loaded .input .clip) contig) ≤ scratch
             → ((ready : WalkReady s rows samples clipped clip referenced reference contig chosen parts places) (begun : Begun out at count)
-            → RecordsWalked (mergedContig (ready .runs .on .loaded .input) (chosenLetters (ready .runs .on .loaded)) contig)
+            → RecordsWalked (mergedContig (ready .runs .on .loaded .input) contig)
             (begun .d₀) (begun .bytes) (begun .records) out′ w)
             → (d₀ bytes : List ℕ) (records : ℕ) → Progress d₀ bytes records out at count
             → RecordsWalked (recordsOn g scratch first) d₀ bytes records out′ w
         unfolding walk-ready in-contig-runs
         one-walked out out′ at count scratch w enough says d₀ bytes records progress =
-            let same : recordsOn g scratch first ≡ mergedContig (g .loaded .input) (chosenLetters (g .loaded)) contig = rw (← e) (enough-places _ _ _ _ enough) in
+            let same : recordsOn g scratch first ≡ mergedContig (g .loaded .input) contig = rw (← e) (enough-places _ _ _ enough) in
             rw same (says walk-ready (record { d₀ = d₀; bytes = bytes; records = records; progress = progress }))
 
   pub one-refused : {contig : List ℕ} (d₀ bytes : List ℕ) (records : ℕ) (out : List ℕ) {places : ℕ} → out ≡ sets d₀ 0 bytes → contig ≡ partAt 7 8 s rows first
       → places < length (breakpoints (g .loaded .input .cohort .sites) (g .loaded .input .clip) contig)
       → RecordsWalked (recordsOn g places first) d₀ bytes records out (walked.Refused 10)
   unfolding RecordsWalked flatMap
-  one-refused d₀ bytes records out same e few = record { merged = rw (← e) (few-places _ _ _ _ few); list = []; laid = rw (append-nil bytes) same }
+  one-refused d₀ bytes records out same e few = record { merged = rw (← e) (few-places _ _ _ few); list = []; laid = rw (append-nil bytes) same }

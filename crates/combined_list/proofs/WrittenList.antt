@@ -2,7 +2,7 @@
 use Prim.Native.Nat.{_*_, _+_, _<_, _≤_, ℕ}
 use lib.ListN.{drop, length, length-append, length-take, take}
 use lib.Seq.{sets}
-use mathlib.Core.Bool.{Bool, false, true}
+use mathlib.Core.Bool.{Bool}
 use mathlib.Core.List.{List, [], _++_, _∷_, flatMap}
 use mathlib.Core.Path.{_∙_, _≡_, ap, refl, subst, sym}
 use native.Mathlib.Omega.{arith}
@@ -11,9 +11,7 @@ use Rattle.answers.specs.Answered.{Answered}
 use Rattle.answers.specs.declared.Outcome.the-variants as outcome
 use Rattle.answers.specs.declared.Outcome.{Outcome}
 use Rattle.definitions.specs.Checked.{Checked, accepted, refused, within}
-use Rattle.definitions.specs.ClipAndReference.{ChoiceFrom}
 use Rattle.definitions.specs.CombinedList.{combinedRecords, listOf}
-use Rattle.definitions.specs.Lists.{onlyIf}
 use Rattle.definitions.specs.Numbers.{maxNumber}
 use Rattle.definitions.specs.Printed.{printedHeader, printedList, printedRecord}
 use Rattle.definitions.specs.Records.{Record}
@@ -21,14 +19,13 @@ use Rattle.kv_write.proofs.Laying.{sets-nothing}
 use Rattle.kv_write.specs.Laid.{Laid}
 use Rattle.laws.proofs.Checked.{accepted-same, not-refused, then, then-refused}
 use Rattle.laws.proofs.CombinedRecordsSound.{records-sound}
-use Rattle.laws.proofs.Every.{IfThere, every-of-each, flatMap-few}
+use Rattle.laws.proofs.Every.{every-of-each, flatMap-few}
 use Rattle.laws.proofs.RecordCount.{records-few}
-use Rattle.laws.proofs.ReferenceLetter.{first-letter}
 use Rattle.laws.proofs.SoundRecords.{RecordAfter}
 use Rattle.list_header.proofs.HeaderLines.{header-fits}
 use Rattle.list_header.proofs.TwoPasses.{measured-none, sets-whole}
 use Rattle.list_header.specs.Measured.{limit}
-use Rattle.merged_records.specs.Loaded.{Loaded, chosenLetters}
+use Rattle.merged_records.specs.Loaded.{Loaded}
 use Rattle.record_laws.proofs.Lengths.{mostHeader, mostRecord, record-few}
 use Rattle.tables.specs.Tables.{namesIn}
 use Rattle.combined_list.specs.Contigs.{AllReady, allRecords}
@@ -49,22 +46,14 @@ nothing-left (x ∷ part) out e = absurd (omega arith)
 -- ---- the records of an input are few, and so are their bytes
 
 module _ {s rows : List ℕ} {samples : ℕ} {referenced : Bool} {reference : List ℕ} (l : Loaded s rows samples referenced reference) where
-  letters-chosen : IfThere (λ r. ChoiceFrom r (chosenLetters l)) (l .input .reference)
-  unfolding onlyIf
-  letters-chosen = rw (l .reference-is) (go referenced)
-    where
-      go : (b : Bool) → IfThere (λ r. ChoiceFrom r (chosenLetters l)) (onlyIf b (l .segments))
-      go true = first-letter (l .segments)
-      go false = tt
-
-  module _ (scratch : ℕ) (records : List Record) (e : combinedRecords (l .input) (chosenLetters l) scratch ≡ accepted records) where
+  module _ (scratch : ℕ) (records : List Record) (e : combinedRecords (l .input) scratch ≡ accepted records) where
     pub records-counted : length records ≤ 2147483647
     unfolding maxNumber
-    records-counted = records-few (l .input) (l .sound) (chosenLetters l) scratch records e
+    records-counted = records-few (l .input) (l .sound) scratch records e
 
     pub bytes-counted : length (flatMap printedRecord records) ≤ mostRecord * 2147483647
     bytes-counted =
-        let sound = records-sound (l .input) (l .sound) (chosenLetters l) letters-chosen scratch records e in
+        let sound = records-sound (l .input) (l .sound) scratch records e in
         let few = flatMap-few printedRecord mostRecord (every-of-each (λ before r (h : RecordAfter (length (l .input .cohort .names)) before r). record-few _ r (l .sound .cohort .names .few) (h .sound)) sound) in
         omega (arith, few, records-counted)
 
@@ -114,7 +103,7 @@ module _ {s names rows : List ℕ} {samples : ℕ} {clipped : Bool} {clip : List
     unfolding measurement listOf
     list-answered out out₁ out₂ r e kept writes =
         let m = measurement e in
-        let list : listOf (ready .tables .loaded .input) (chosenLetters (ready .tables .loaded)) scratch ≡ accepted (listTo m) =
+        let list : listOf (ready .tables .loaded .input) scratch ≡ accepted (listTo m) =
         then _ _ (subst (λ (k : ℕ). allRecords (ready .tables) k ≡ accepted (m .records)) same (m .merged)) refl in
         let answer : Answered (within (length out) (listTo m)) out out₂ r = rw kept at (writes m) in
         subst (λ (c : Checked (List ℕ)). Answered c out out₂ r) (sym (then _ (within (length out)) list refl)) answer

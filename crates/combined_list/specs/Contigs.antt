@@ -11,7 +11,7 @@ use Rattle.definitions.specs.CombinedList.{combinedRecords, contigRecords}
 use Rattle.definitions.specs.Intervals.{contigsOf}
 use Rattle.definitions.specs.Records.{Record}
 use Rattle.laws.proofs.Every.{Every}
-use Rattle.merged_records.specs.Loaded.{Loaded, chosenLetters}
+use Rattle.merged_records.specs.Loaded.{Loaded}
 use Rattle.tables.specs.Tables.{column, partAt}
 use Rattle.contig_walk.specs.Walk.{ClipGiven}
 use Rattle.coalescing.specs.Steps.{Progress}
@@ -35,11 +35,11 @@ module _ {s rows : List ℕ} {samples : ℕ} {clipped : Bool} {clip : List ℕ} 
 
   -- the records of a contig, by its first site, with so much scratch
   abbrev pub recordsOn : ℕ → ℕ → Checked (List Record)
-  recordsOn places first = contigRecords (g .loaded .input) (chosenLetters (g .loaded)) places (partAt 7 8 s rows first)
+  recordsOn places first = contigRecords (g .loaded .input) places (partAt 7 8 s rows first)
 
   -- all records
   abbrev pub allRecords : ℕ → Checked (List Record)
-  allRecords places = combinedRecords (g .loaded .input) (chosenLetters (g .loaded)) places
+  allRecords places = combinedRecords (g .loaded .input) places
 
 -- what the walk over one contig is lent
 pub record OneReady (s rows : List ℕ) (samples : ℕ) (clipped : Bool) (clip : List ℕ) (referenced : Bool) (reference : List ℕ) (first : ℕ)

@@ -11,7 +11,7 @@ use Rattle.definitions.specs.Printed.{printedList, printedRecord}
 use Rattle.definitions.specs.Records.{Record}
 use Rattle.laws.proofs.Every.{Every}
 use Rattle.list_header.specs.HeaderNames.{HeaderNames}
-use Rattle.merged_records.specs.Loaded.{Loaded, chosenLetters}
+use Rattle.merged_records.specs.Loaded.{Loaded}
 use Rattle.tables.specs.Tables.{namesIn, partAt}
 use Rattle.combined_list.specs.Contigs.{Grouped, IsFirst, allRecords}
 use Rattle.contig_walk.specs.Walk.{ClipGiven}
@@ -33,7 +33,7 @@ pub record ListsFit (sites : ℕ) (order firsts chosen : List ℕ) : Type 0 wher
 -- the list of an input, if there is so much room
 abbrev pub listWithin : {s rows : List ℕ} {samples : ℕ} {referenced : Bool} {reference : List ℕ}
     → Loaded s rows samples referenced reference → ℕ → ℕ → Checked (List ℕ)
-listWithin l scratch room = listOf (l .input) (chosenLetters l) scratch >>= within room
+listWithin l scratch room = listOf (l .input) scratch >>= within room
 
 -- the tables with the sites grouped by sample, and the contigs by their first sites, in byte order of name
 pub record ListReady (s names rows : List ℕ) (samples : ℕ) (clipped : Bool) (clip : List ℕ) (referenced : Bool) (reference contigs order bounds : List ℕ) : Type 0 where

@@ -25,7 +25,7 @@ use Rattle.intervals.specs.InClip.{clipSpans}
 use Rattle.kv_text.specs.Fields.{between}
 use Rattle.merged_records.proofs.Records.{owners-beside, record-is}
 use Rattle.merged_records.specs.Found.{RecordTo, covering}
-use Rattle.merged_records.specs.Loaded.{OnContig, chosenLetters, coveringNumbers, coveringOwners}
+use Rattle.merged_records.specs.Loaded.{OnContig, coveringNumbers, coveringOwners}
 use Rattle.merged_ref.specs.declared.RefAt.{RefAt}
 use Rattle.record_laws.proofs.Coalescing.{turn-refused}
 use Rattle.record_laws.proofs.Walking.{withInterval}
@@ -85,8 +85,8 @@ module _ {s rows : List ℕ} {samples : ℕ} {clipped : Bool} {clip : List ℕ} 
   module _ (in-clip : inClip contig (on .loaded .input .clip) (record { first = first; last = last }) ≡ true) where
     -- the covering sites are some, so the interval has a record
     has-record : 0 < length (covering on first) → (later : Checked (List Record))
-        → withInterval (on .loaded .input) (chosenLetters (on .loaded)) contig (record { first = first; last = last }) later
-        ≡ andLater (intervalRecord (on .loaded .input) (chosenLetters (on .loaded)) contig (record { first = first; last = last })) later
+        → withInterval (on .loaded .input) contig (record { first = first; last = last }) later
+        ≡ andLater (intervalRecord (on .loaded .input) contig (record { first = first; last = last })) later
     unfolding withInterval
     has-record some-site later = rw (in-clip, lt-ltb 0 (length (coveringSites (on .loaded .input .cohort) contig first)) some-site)
 
@@ -136,8 +136,8 @@ module _ {s rows : List ℕ} {samples : ℕ} {clipped : Bool} {clip : List ℕ} 
 
   -- nothing changes
   unchanged : (out : List ℕ) (count : ℕ) → Progress d₀ bytes records out at count
-      → ((later : Checked (List Record)) → withInterval (on′ .loaded .input) (chosenLetters (on′ .loaded)) contig (record { first = first; last = last }) later ≡ later)
-      → Turns (on′ .loaded .input) (chosenLetters (on′ .loaded)) s rows samples reference contig held out first last waiting d₀ bytes records
+      → ((later : Checked (List Record)) → withInterval (on′ .loaded .input) contig (record { first = first; last = last }) later ≡ later)
+      → Turns (on′ .loaded .input) s rows samples reference contig held out first last waiting d₀ bytes records
       (turned.To (record { pending = pending; at = at; count = count }))
   unfolding Turns flatMap
   unchanged out count p same = record {
@@ -150,23 +150,23 @@ module _ {s rows : List ℕ} {samples : ℕ} {clipped : Bool} {clip : List ℕ} 
 
   pub turn-clipped : inClip contig (on′ .loaded .input .clip) (record { first = first; last = last }) ≡ false
       → (out : List ℕ) (count : ℕ) → Progress d₀ bytes records out at count
-      → Turns (on′ .loaded .input) (chosenLetters (on′ .loaded)) s rows samples reference contig held out first last waiting d₀ bytes records
+      → Turns (on′ .loaded .input) s rows samples reference contig held out first last waiting d₀ bytes records
       (turned.To (record { pending = pending; at = at; count = count }))
   unfolding withInterval
   turn-clipped e out count p = unchanged out count p (λ later. rw e)
 
   module _ (in-clip : inClip contig (on′ .loaded .input .clip) (record { first = first; last = last }) ≡ true) where
     pub turn-bare : covering on′ first ≡ [] → (out : List ℕ) (count : ℕ) → Progress d₀ bytes records out at count
-        → Turns (on′ .loaded .input) (chosenLetters (on′ .loaded)) s rows samples reference contig held out first last waiting d₀ bytes records
+        → Turns (on′ .loaded .input) s rows samples reference contig held out first last waiting d₀ bytes records
         (turned.To (record { pending = pending; at = at; count = count }))
     unfolding withInterval
     turn-bare e out count p = unchanged out count p (λ later. rw (in-clip, e))
 
     -- a position without sites has no record to refuse
     pub turn-none : (row : ℕ) → 0 < length (covering on′ first)
-        → ((last : ℕ) → intervalRecord (on′ .loaded .input) (chosenLetters (on′ .loaded)) contig (record { first = first; last = last }) ≡ refused row)
+        → ((last : ℕ) → intervalRecord (on′ .loaded .input) contig (record { first = first; last = last }) ≡ refused row)
         → (out : List ℕ) → out ≡ sets d₀ 0 bytes
-        → Turns (on′ .loaded .input) (chosenLetters (on′ .loaded)) s rows samples reference contig held out first last waiting d₀ bytes records (turned.Refused row)
+        → Turns (on′ .loaded .input) s rows samples reference contig held out first last waiting d₀ bytes records (turned.Refused row)
     unfolding Turns
     turn-none row some-site e out same = record {
       unlaid = same;
@@ -176,7 +176,7 @@ module _ {s rows : List ℕ} {samples : ℕ} {clipped : Bool} {clip : List ℕ} 
     module _ (found alts : List ℕ) (n : ℕ) (place : RefAt) (len number : ℕ) (to : RecordTo on′ first (take n found) alts n place len number) where
       pub turn-laid : (text : List ℕ) (e : text ≡ between alts 0 len) (own : List ℕ) (o : own ≡ ownOf rows (take n found)) (held′ out : List ℕ) (step : Stepped)
           → StepTo s rows samples reference contig held′ out waiting (laidRecord (lay-ready ready in-clip found alts n place len number to text e own o)) d₀ bytes records step
-          → Turns (on′ .loaded .input) (chosenLetters (on′ .loaded)) s rows samples reference contig held′ out first last waiting d₀ bytes records (turned.To step)
+          → Turns (on′ .loaded .input) s rows samples reference contig held′ out first last waiting d₀ bytes records (turned.To step)
       unfolding Turns lay-ready
       turn-laid text e own o held′ out step t = record {
         laid = t .laid;

@@ -29,7 +29,7 @@ use Rattle.laws.proofs.IntervalsSound.{SoundInterval, intervals-sound}
 use Rattle.laws.proofs.Members.{_∈_, filter-member, flatMap-append}
 use Rattle.laws.proofs.Orders.{ascending-numbers}
 use Rattle.list_header.specs.Measured.{limit}
-use Rattle.merged_records.specs.Loaded.{OnContig, chosenLetters}
+use Rattle.merged_records.specs.Loaded.{OnContig}
 use Rattle.record_laws.proofs.Coalescing.{at-end, at-end-pending}
 use Rattle.record_laws.proofs.Walking.{here, recordsFrom, walk-end, walk-start, walk-turn}
 use Rattle.record_laws.specs.Pending.{finish, mergedContig}
@@ -64,15 +64,15 @@ module _ {s rows : List ℕ} {samples : ℕ} {clipped : Bool} {clip : List ℕ} 
   on = ready .runs .on
 
   abbrev left : ℕ → Checked (List Record)
-  left = recordsFrom (on .loaded .input) (chosenLetters (on .loaded)) contig places
+  left = recordsFrom (on .loaded .input) contig places
 
   -- an interval with a record is sound
-  pub interval-sound : (k : ℕ) → k + 1 < length places → inClip contig (on .loaded .input .clip) (here (on .loaded .input) (chosenLetters (on .loaded)) contig places k) ≡ true
+  pub interval-sound : (k : ℕ) → k + 1 < length places → inClip contig (on .loaded .input .clip) (here (on .loaded .input) contig places k) ≡ true
       → 0 < length (coveringSites (on .loaded .input .cohort) contig (getD places k 0))
-      → SoundInterval (here (on .loaded .input) (chosenLetters (on .loaded)) contig places k)
+      → SoundInterval (here (on .loaded .input) contig places k)
   unfolding recordIntervals clippedIntervals
   interval-sound k more inside covered =
-      every-member (filter-member _ _ (filter-member _ _ (subst (λ (l : List ℕ). here (on .loaded .input) (chosenLetters (on .loaded)) contig places k ∈ intervalsBetween l) (ready .all-places) (interval-in places k more)) inside)
+      every-member (filter-member _ _ (filter-member _ _ (subst (λ (l : List ℕ). here (on .loaded .input) contig places k ∈ intervalsBetween l) (ready .all-places) (interval-in places k more)) inside)
       (lt-ltb 0 _ covered))
       (intervals-sound (on .loaded .input) (on .loaded .sound) contig)
 
@@ -108,7 +108,7 @@ module _ {s rows : List ℕ} {samples : ℕ} {clipped : Bool} {clip : List ℕ} 
     pub record Walking (out held : List ℕ) (state : Stepped) (k : ℕ) : Type 0 where
       pub done : List Record
       pub waiting : Option Record
-      pub whole : finish done waiting (left k) ≡ mergedContig (on .loaded .input) (chosenLetters (on .loaded)) contig
+      pub whole : finish done waiting (left k) ≡ mergedContig (on .loaded .input) contig
       pub holds : Holds s rows samples reference contig held (state .pending) waiting
       pub progress : Progress d₀ (bytes ++ flatMap printedRecord done) (records + length done) out (state .at) (state .count)
 
@@ -118,25 +118,25 @@ module _ {s rows : List ℕ} {samples : ℕ} {clipped : Bool} {clip : List ℕ} 
     walking-start out held at count p = record {
       done = [];
       waiting = none;
-      whole = walk-start (on .loaded .input) (chosenLetters (on .loaded)) contig places (ready .all-places);
+      whole = walk-start (on .loaded .input) contig places (ready .all-places);
       holds = refl;
       progress = rw (append-nil bytes, add-zero records) p;
     }
 
     module _ (out held : List ℕ) (state : Stepped) (k : ℕ) (w : Walking out held state k) where
       pub refused-here : (row first last : ℕ) (out′ held′ : List ℕ) → k + 1 < length places → first ≡ getD places k 0 → last ≡ getD places (k + 1) 0 - 1
-          → Turns (on .loaded .input) (chosenLetters (on .loaded)) s rows samples reference contig held′ out′ first last (w .waiting) d₀
+          → Turns (on .loaded .input) s rows samples reference contig held′ out′ first last (w .waiting) d₀
           (bytes ++ flatMap printedRecord (w .done)) (records + length (w .done)) (turned.Refused row)
-          → RecordsWalked (mergedContig (on .loaded .input) (chosenLetters (on .loaded)) contig) d₀ bytes records out′ (walked.Refused row)
+          → RecordsWalked (mergedContig (on .loaded .input) contig) d₀ bytes records out′ (walked.Refused row)
       unfolding Turns RecordsWalked
       refused-here row first last out′ held′ more f l t = record {
-        merged = sym (w .whole) ∙ rw (walk-turn (on .loaded .input) (chosenLetters (on .loaded)) contig places k more, ← f, ← l) (t .refuses (w .done) (left (k + 1)));
+        merged = sym (w .whole) ∙ rw (walk-turn (on .loaded .input) contig places k more, ← f, ← l) (t .refuses (w .done) (left (k + 1)));
         list = w .done;
         laid = t .unlaid;
       }
 
       pub walking-next : (first last : ℕ) (out′ held′ : List ℕ) (step : Stepped) → k + 1 < length places → first ≡ getD places k 0 → last ≡ getD places (k + 1) 0 - 1
-          → Turns (on .loaded .input) (chosenLetters (on .loaded)) s rows samples reference contig held′ out′ first last (w .waiting) d₀
+          → Turns (on .loaded .input) s rows samples reference contig held′ out′ first last (w .waiting) d₀
           (bytes ++ flatMap printedRecord (w .done)) (records + length (w .done)) (turned.To step)
           → Walking out′ held′ step (k + 1)
       unfolding Turns
@@ -144,7 +144,7 @@ module _ {s rows : List ℕ} {samples : ℕ} {clipped : Bool} {clip : List ℕ} 
         done = w .done ++ t .laid;
         waiting = t .waits;
         whole = sym (t .turned (w .done) (left (k + 1)))
-            ∙ rw (f, l) (ap (finish (w .done) (w .waiting)) (sym (walk-turn (on .loaded .input) (chosenLetters (on .loaded)) contig places k more))) ∙ w .whole;
+            ∙ rw (f, l) (ap (finish (w .done) (w .waiting)) (sym (walk-turn (on .loaded .input) contig places k more))) ∙ w .whole;
         holds = t .holds;
         progress = rw (bytes-are (w .done) (t .laid), count-is (w .done) (t .laid)) (t .progress);
       }
@@ -153,7 +153,7 @@ module _ {s rows : List ℕ} {samples : ℕ} {clipped : Bool} {clip : List ℕ} 
 
       pub walking-end : length places ≤ k + 1 → (out′ : List ℕ) (end : ℕ)
           → Laid out (state .at) (pendingBytes s rows reference contig held (state .pending)) out′ end
-          → RecordsWalked (mergedContig (on .loaded .input) (chosenLetters (on .loaded)) contig) d₀ bytes records out′
+          → RecordsWalked (mergedContig (on .loaded .input) contig) d₀ bytes records out′
           (walked.To (min limit end) (pendingCount (state .pending) (state .count)))
       unfolding RecordsWalked finish ofOption
       walking-end past out′ end l = record {
@@ -165,8 +165,8 @@ module _ {s rows : List ℕ} {samples : ℕ} {clipped : Bool} {clip : List ℕ} 
       }
         where
           ended : (done : List Record) (waiting : Option Record) → finish done waiting (left k) ≡ accepted (done ++ ofOption waiting)
-          ended done none = rw (append-nil done) (at-end done (walk-end (on .loaded .input) (chosenLetters (on .loaded)) contig places k past))
-          ended done (some p) = at-end-pending done p (walk-end (on .loaded .input) (chosenLetters (on .loaded)) contig places k past)
+          ended done none = rw (append-nil done) (at-end done (walk-end (on .loaded .input) contig places k past))
+          ended done (some p) = at-end-pending done p (walk-end (on .loaded .input) contig places k past)
 
       -- ---- what a turn, and what the end, asks
 

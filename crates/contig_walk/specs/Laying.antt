@@ -12,7 +12,6 @@ use Rattle.coalescing.specs.declared.Pending.{Pending}
 use Rattle.coalescing.specs.declared.Stepped.{Stepped}
 use Rattle.covering_sites.specs.Ended.{Ended}
 use Rattle.definitions.specs.Checked.{Checked, refused}
-use Rattle.definitions.specs.ClipAndReference.{LetterChoice}
 use Rattle.definitions.specs.CombinedList.{Input}
 use Rattle.definitions.specs.CoveringSites.{coveringSites}
 use Rattle.definitions.specs.Intervals.{inClip}
@@ -88,24 +87,24 @@ pub record TurnReady (s rows : List ℕ) (samples : ℕ) (clipped : Bool) (clip 
   pub room : TurnRoom samples held fresh found owners alts
 
 -- the records that are laid now, and the one that waits: all goes on with them as it would have gone on with the interval
-pub record TurnTo (x : Input) (choose : LetterChoice) (s rows : List ℕ) (samples : ℕ) (reference contig held out : List ℕ) (first last : ℕ)
+pub record TurnTo (x : Input) (s rows : List ℕ) (samples : ℕ) (reference contig held out : List ℕ) (first last : ℕ)
     (waiting : Option Record) (d₀ bytes : List ℕ) (records : ℕ) (r : Stepped) : Type 0 where
   pub laid : List Record
   pub waits : Option Record
   pub holds : Holds s rows samples reference contig held (r .pending) waits
   pub progress : Progress d₀ (bytes ++ flatMap printedRecord laid) (records + length laid) out (r .at) (r .count)
   pub turned : (done : List Record) (later : Checked (List Record))
-      → finish done waiting (withInterval x choose contig (record { first = first; last = last }) later) ≡ finish (done ++ laid) waits later
+      → finish done waiting (withInterval x contig (record { first = first; last = last }) later) ≡ finish (done ++ laid) waits later
 
 -- or the interval's record is refused, and nothing is laid
-pub record TurnRefused (x : Input) (choose : LetterChoice) (contig out : List ℕ) (first last : ℕ) (waiting : Option Record)
+pub record TurnRefused (x : Input) (contig out : List ℕ) (first last : ℕ) (waiting : Option Record)
     (d₀ bytes : List ℕ) (row : ℕ) : Type 0 where
   pub unlaid : out ≡ sets d₀ 0 bytes
   pub refuses : (done : List Record) (later : Checked (List Record))
-      → finish done waiting (withInterval x choose contig (record { first = first; last = last }) later) ≡ refused row
+      → finish done waiting (withInterval x contig (record { first = first; last = last }) later) ≡ refused row
 
-unfoldable pub Turns : Input → LetterChoice → List ℕ → List ℕ → ℕ → List ℕ → List ℕ → List ℕ → List ℕ → ℕ → ℕ → Option Record → List ℕ → List ℕ → ℕ → Turned → Type 0
-Turns x choose s rows samples reference contig held out first last waiting d₀ bytes records (turned.To step) =
-    TurnTo x choose s rows samples reference contig held out first last waiting d₀ bytes records step
-Turns x choose s rows samples reference contig held out first last waiting d₀ bytes records (turned.Refused row) =
-    TurnRefused x choose contig out first last waiting d₀ bytes row
+unfoldable pub Turns : Input → List ℕ → List ℕ → ℕ → List ℕ → List ℕ → List ℕ → List ℕ → ℕ → ℕ → Option Record → List ℕ → List ℕ → ℕ → Turned → Type 0
+Turns x s rows samples reference contig held out first last waiting d₀ bytes records (turned.To step) =
+    TurnTo x s rows samples reference contig held out first last waiting d₀ bytes records step
+Turns x s rows samples reference contig held out first last waiting d₀ bytes records (turned.Refused row) =
+    TurnRefused x contig out first last waiting d₀ bytes row

@@ -8,7 +8,6 @@ ghost use Rattle.definitions.specs.Alleles.{isBlock};
 ghost use Rattle.definitions.specs.Intervals.{inClip};
 ghost use Rattle.definitions.specs.Lists.{onlyIf};
 ghost use Rattle.intervals.specs.InClip.{clipSpans, intervalOf};
-ghost use Rattle.merged_records.specs.Loaded.{chosenLetters};
 ghost use Rattle.merged_ref.specs.Answers.{refBytes};
 ghost use Rattle.record_laws.specs.Pending.{mergedContig};
 ghost use Rattle.contig_walk.specs.Laying.{LayReady, TurnReady, Turns, Underway, laidRecord};
@@ -206,7 +205,7 @@ fn walk_interval<'a>(
         × Underway (now s) (now rows) samples (now reference) (now contig) (now held) pending (now out) at count ⌝ }
     ensures { λ r. ⌜ ((ready : TurnReady (now (s .entry)) (now (rows .entry)) samples clipped (now (clip .entry)) referenced (now (reference .entry)) (now (contig .entry)) (now (chosen .entry)) (now (from .entry)) (now (bounds .entry)) (loc .start .0) (loc .end .0) pending (now (held .entry)) (now (fresh .entry)) (now (found .entry)) (now (owners .entry)) (now (alts .entry)) at)
         (way : Underway (now (s .entry)) (now (rows .entry)) samples (now (reference .entry)) (now (contig .entry)) (now (held .entry)) pending (now (out .entry)) at count)
-        → Turns (ready .runs .on .loaded .input) (chosenLetters (ready .runs .on .loaded)) (now (s .entry)) (now (rows .entry)) samples (now (reference .entry)) (now (contig .entry)) (now (held .exit)) (now (out .exit)) (loc .start .0) (loc .end .0)
+        → Turns (ready .runs .on .loaded .input) (now (s .entry)) (now (rows .entry)) samples (now (reference .entry)) (now (contig .entry)) (now (held .exit)) (now (out .exit)) (loc .start .0) (loc .end .0)
         (way .waiting) (way .begun .d₀) (way .begun .bytes) (way .begun .records) r) ⌝ }
 {
     let same = Stepped { pending, at, count };
@@ -282,7 +281,7 @@ pub fn walk_contig<'a>(
     requires { ⌜ WalkReady (now s) (now rows) samples clipped (now clip) referenced (now reference) (now contig) (now chosen) (now bounds) (now places) × Begun (now out) at count × WalkRoom (now held) (now fresh) (now alts) ⌝ }
     ensures { λ r. ⌜ ((ready : WalkReady (now (s .entry)) (now (rows .entry)) samples clipped (now (clip .entry)) referenced (now (reference .entry)) (now (contig .entry)) (now (chosen .entry)) (now (bounds .entry)) (now (places .entry)))
         (begun : Begun (now (out .entry)) at count)
-        → RecordsWalked (mergedContig (ready .runs .on .loaded .input) (chosenLetters (ready .runs .on .loaded)) (now (contig .entry))) (begun .d₀) (begun .bytes) (begun .records) (now (out .exit)) r) ⌝ }
+        → RecordsWalked (mergedContig (ready .runs .on .loaded .input) (now (contig .entry))) (begun .d₀) (begun .bytes) (begun .records) (now (out .exit)) r) ⌝ }
 {
     let mut found = [0usize; 64];
     let mut owners = [0usize; 64];

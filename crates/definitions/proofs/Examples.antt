@@ -15,7 +15,6 @@ use Rattle.definitions.specs.Bytes.{joinedBy, sameBytes, text}
 use Rattle.definitions.specs.CalledGenotypes.{LeastPls, gqFromLeastPls, gqFromPl, leastPls, withNextPl}
 use Rattle.definitions.specs.CalledList.{calledData}
 use Rattle.definitions.specs.Checked.{Checked, _>>=_, accepted, refused}
-use Rattle.definitions.specs.ClipAndReference.{LetterChoice}
 use Rattle.definitions.specs.CombinedList.{Texts, combinedList, combinedRecords, inputOf}
 use Rattle.definitions.specs.Genotypes.{SampleData, bestGenotype, genotypeIndex}
 use Rattle.definitions.specs.Likelihoods.{log10FromPl}
@@ -55,16 +54,12 @@ two = text "samples=2\nsample=S0\nsample=S1\n"
 
 -- ---- what is looked at
 
--- without a reference no letter is chosen, so any choice will do
-abbrev anyChoice : LetterChoice
-anyChoice contig position = 0
-
 -- a cohort, with no clip and no reference
 abbrev alone : List ℕ → Texts
 alone cohort = record { cohort = cohort; clip = none; reference = none }
 
 abbrev recordsOf : List ℕ → Checked (List Record)
-recordsOf cohort = inputOf (alone cohort) >>= λ x. combinedRecords x anyChoice 8192
+recordsOf cohort = inputOf (alone cohort) >>= λ x. combinedRecords x 8192
 
 -- the answers, one after the other, with `;` between
 abbrev shown : {A : Type 0} → (A → List ℕ) → Checked (List A) → List ℕ
@@ -85,9 +80,15 @@ allelesAndPl cohort =
 abbrev spans : List ℕ → List ℕ
 spans cohort = shown (λ (r : Record). decimal (r .pos) ++ text "-" ++ writtenOrMissing decimal (r .end)) (recordsOf cohort)
 
+-- REF of each record of a cohort with this clip and this reference
+abbrev refsIn : List ℕ → String → String → List ℕ
+refsIn cohort clip reference =
+    shown (λ (r : Record). r .alleles .ref)
+    (inputOf (record { cohort = cohort; clip = some (text clip); reference = some (text reference) }) >>= λ x. combinedRecords x 8192)
+
 -- what the whole call answers, with this much scratch and output
 abbrev answerWithin : ℕ → ℕ → Texts → List ℕ
-answerWithin scratchLength outLength t = printedAnswer (combinedList t scratchLength outLength anyChoice)
+answerWithin scratchLength outLength t = printedAnswer (combinedList t scratchLength outLength)
 
 abbrev answer : List ℕ → List ℕ
 answer cohort = answerWithin 8192 65536 (alone cohort)
@@ -164,7 +165,7 @@ refusals =
     ∷ (answerToSite "1" "2147483648" "A" "<NON_REF>" "." gives "refused=1\n")
     ∷ (answer one gives "samples=1\nsample=S0\nrecords=0\n")
     ∷ (trimmed "AT,AT" gives "refused=5\n")
-    ∷ (combineProgram none none none anyChoice gives "refused=1\n")
+    ∷ (combineProgram none none none gives "refused=1\n")
     ∷ (callProgram none gives "refused=1\n")
     ∷ []
 
@@ -176,6 +177,8 @@ slips =
     ∷ (spans (one ++ siteGroup "0" "10" "12" "A" "<NON_REF>" "7" "." ++ siteGroup "0" "13" "15" "A" "<NON_REF>" "8" ".") gives "10-12;13-15")
     ∷ (shown (λ (x : Float). decimal (toBits binary64 x)) (likelihoodSubset (map log10FromPl (40 ∷ 0 ∷ 50 ∷ 60 ∷ 70 ∷ 80 ∷ [])) 3 (2 ∷ 0 ∷ []) 136)
     gives "13839561654909534208;13835058055282163712;0")
+    ∷ (refsIn (one ++ block "10" "19" "A") "contig=c\nstart=13\nend=13\ncontig=c\nstart=14\nend=14\n"
+    "contig=c\nfirst=15\nbases=T\ncontig=c\nfirst=13\nbases=G\ncontig=c\nfirst=10\nbases=AAAAAAAAAA\n" gives "G;A")
     ∷ (answerToSite "10" "9" "A" "G,G" "." gives "refused=4\n")
     ∷ (answerToSite "10" "12" "A" "G,<NON_REF>" "0,30" gives "refused=7\n")
     ∷ (answer (one ++ withPl "0" "10" "10" "A" "<NON_REF>" "0,30" ++ bare "0" "010" "10" "A" "<NON_REF>") gives "refused=8\n")
@@ -238,7 +241,7 @@ exampleList =
     ++ text "gt=0/0\ngq=30\ndp=9\nad=9,0\npl=0,30,300\n"
     ++ text "gt=.\ngq=.\ndp=.\nad=.\npl=.\n"
 
-pub printed : combineProgram (some exampleCohort) none none anyChoice ≡ exampleList
+pub printed : combineProgram (some exampleCohort) none none ≡ exampleList
 unfolding evaluated
 printed = refl
 

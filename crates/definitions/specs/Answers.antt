@@ -7,7 +7,6 @@ use mathlib.Core.List.{List, [], _++_, map}
 use mathlib.Core.Option.{Option, Option·getD}
 use Rattle.definitions.specs.CalledList.{calledList}
 use Rattle.definitions.specs.Checked.{Checked, _>>_, _>>=_, accepted, refused, require}
-use Rattle.definitions.specs.ClipAndReference.{LetterChoice}
 use Rattle.definitions.specs.CombinedList.{combinedList}
 use Rattle.definitions.specs.Limits.{programBytes, programScratch}
 use Rattle.definitions.specs.Lines.{line}
@@ -58,16 +57,16 @@ fileText contents = do
   accepted contents
 
 -- the list of cohort.kv, clip.kv and reference.kv, by what the program takes of each; an absent cohort.kv is an empty text
-unfoldable pub combinedFiles : Checked (Option (List ℕ)) → Checked (Option (List ℕ)) → Checked (Option (List ℕ)) → LetterChoice → Checked (List ℕ)
-combinedFiles cohort clip reference choose = do
+unfoldable pub combinedFiles : Checked (Option (List ℕ)) → Checked (Option (List ℕ)) → Checked (Option (List ℕ)) → Checked (List ℕ)
+combinedFiles cohort clip reference = do
   c ← cohort
   l ← clip
   r ← reference
-  combinedList (record { cohort = Option·getD c []; clip = l; reference = r }) programScratch programBytes choose
+  combinedList (record { cohort = Option·getD c []; clip = l; reference = r }) programScratch programBytes
 
 -- `combine`, by the contents of its three files, each `none` if it is absent
-unfoldable pub combineProgram : Option (List ℕ) → Option (List ℕ) → Option (List ℕ) → LetterChoice → List ℕ
-combineProgram cohort clip reference choose = printedAnswer (combinedFiles (fileText cohort) (fileText clip) (fileText reference) choose)
+unfoldable pub combineProgram : Option (List ℕ) → Option (List ℕ) → Option (List ℕ) → List ℕ
+combineProgram cohort clip reference = printedAnswer (combinedFiles (fileText cohort) (fileText clip) (fileText reference))
 
 -- the called list of combined.kv, by what the program takes of it; absent, it is an empty text
 unfoldable pub calledFile : Checked (Option (List ℕ)) → Checked (List ℕ)

@@ -7,7 +7,6 @@ use mathlib.Core.List.{List}
 use mathlib.Core.Path.{_≡_, refl}
 use Rattle.definitions.specs.CalledList.{calledList, calledRecords, printedCalledList}
 use Rattle.definitions.specs.Checked.{Checked, _>>=_, _>>_, accepted, require, within}
-use Rattle.definitions.specs.ClipAndReference.{LetterChoice}
 use Rattle.definitions.specs.CombinedList.{Input, Texts, combinedList, fits, inputOf}
 use Rattle.definitions.specs.Limits.{maxTextLength}
 use Rattle.definitions.specs.ListReader.{WrittenList, listRead, writtenList}
@@ -18,10 +17,10 @@ use Rattle.demands.specs.AcceptedByCall.{AcceptedByCall}
 use Rattle.demands.proofs.ListWritten.{list-written, written-long}
 
 -- an accepted call was accepted with what each of its texts says
-input-read : (t : Texts) (scratchLength outLength : ℕ) (choose : LetterChoice) (list : List ℕ) (x : Input)
-    → combinedList t scratchLength outLength choose ≡ accepted list → InputFrom t x → inputOf t ≡ accepted x
+input-read : (t : Texts) (scratchLength outLength : ℕ) (list : List ℕ) (x : Input)
+    → combinedList t scratchLength outLength ≡ accepted list → InputFrom t x → inputOf t ≡ accepted x
 unfolding combinedList inputOf
-input-read t scratchLength outLength choose list x e from =
+input-read t scratchLength outLength list x e from =
     after-then _ _ e λ y p e. after-required _ _ _ p λ fit p.
     required _ _ _ fit (then _ _ (from .cohort-read) (then _ _ (from .clip-read) (then _ _ (from .reference-read) refl)))
 
@@ -44,12 +43,11 @@ called-list s n w outLength long e =
 pub accepted-by-call : AcceptedByCall
 accepted-by-call t scratch scratch′ out out′ n combined =
     let ok = list-written combined in
-    let l = list-read-back t (length scratch) (length out) (combined .choose) _ ok in
-    let back = l .read-back (combined .choice) in (
+    let l = list-read-back t (length scratch) (length out) _ ok in (
       l .input,
       l .records,
-      input-read t (length scratch) (length out) (combined .choose) _ (l .input) ok (l .from),
+      input-read t (length scratch) (length out) _ (l .input) ok (l .from),
       l .combined,
-      back,
-      λ outLength. called-list _ n _ outLength (written-long combined) back,
+      l .read-back,
+      λ outLength. called-list _ n _ outLength (written-long combined) (l .read-back),
     )

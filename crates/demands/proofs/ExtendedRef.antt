@@ -11,13 +11,13 @@ use native.Mathlib.Omega.{arith}
 use Rattle.definitions.specs.Alleles.{isBlock}
 use Rattle.definitions.specs.Bytes.{isPrefix}
 use Rattle.definitions.specs.Checked.{accepted}
-use Rattle.definitions.specs.ClipAndReference.{LetterChoice, ReferenceSegment}
+use Rattle.definitions.specs.ClipAndReference.{ReferenceSegment}
 use Rattle.definitions.specs.Cohort.{Site}
 use Rattle.definitions.specs.Lists.{allOf, anyOf, filterBy}
 use Rattle.definitions.specs.MergedRef.{firstRef, longest, mergedRef, refLetter, sharedRef, siteRef, startsAt}
 use Rattle.laws.proofs.Alleles.{block-is}
 use Rattle.laws.proofs.Bytes.{same-is}
-use Rattle.laws.proofs.Checked.{accepted-same, after-required}
+use Rattle.laws.proofs.Checked.{accepted-same, after-required, after-then}
 use Rattle.laws.proofs.Every.{every-member, every-passed}
 use Rattle.laws.proofs.Members.{_∈_, any-member, filter-member, member-any, member-filter, member-map}
 use Rattle.laws.proofs.MergedRefSound.{longest-in}
@@ -36,8 +36,8 @@ abbrev RefAmong : ℕ → List Site → List ℕ → Type 0
 RefAmong q covering ref = (ref ≡ []) ⊎ ((s : Site) × (s ∈ covering) × (startsAt q s ≡ true) × (ref ≡ siteRef s))
 
 -- REF of a record at a position.
-module _ (reference : Option (List ReferenceSegment)) (choose : LetterChoice) (g : List ℕ) (q : ℕ) (covering : List Site)
-    (ref : List ℕ) (made : mergedRef reference choose g q covering ≡ accepted ref) where
+module _ (reference : Option (List ReferenceSegment)) (g : List ℕ) (q : ℕ) (covering : List Site)
+    (ref : List ℕ) (made : mergedRef reference g q covering ≡ accepted ref) where
   -- the REFs of the sites that start there
   refs : List (List ℕ)
   refs = map siteRef (filterBy (startsAt q) covering)
@@ -47,7 +47,7 @@ module _ (reference : Option (List ReferenceSegment)) (choose : LetterChoice) (g
   unfolding mergedRef sharedRef refs
   shared e =
       let h : sharedRef refs ≡ accepted ref =
-      ap (λ (b : Bool). cond b (sharedRef refs) (refLetter reference choose g q covering)) (sym e) ∙ made in
+      ap (λ (b : Bool). cond b (sharedRef refs) (refLetter reference g q covering)) (sym e) ∙ made in
       after-required _ _ _ h λ t k. (t, accepted-same k)
 
   -- the REF of a site that starts there is a prefix
@@ -88,38 +88,38 @@ module _ (reference : Option (List ReferenceSegment)) (choose : LetterChoice) (g
           absurd (omega (arith, block-ref t n, length-append (siteRef t) u, ap length is, ap length z))
       started e (inr (t, n, starts, is)) = ap length is ∙ block-ref t n
 
-      letter : (o : Option (List ReferenceSegment)) → refLetter o choose g q covering ≡ accepted ref → length ref ≡ 1
+      letter : (o : Option (List ReferenceSegment)) → refLetter o g q covering ≡ accepted ref → length ref ≡ 1
       letter none h = sym (ap length (accepted-same h)) ∙ first-ref covering m block-ref
-      letter (some l) h = after-required _ _ _ h λ t k. ap length (sym (accepted-same k))
+      letter (some l) h = after-then _ _ h λ b p k. ap length (sym (accepted-same k))
 
       go : (b : Bool) → anyOf (startsAt q) covering ≡ b → length ref ≡ 1
       go true e = started e (ref-among e)
       go false e =
           let starting = map siteRef (filterBy (startsAt q) covering) in
           letter reference
-          (ap (λ (b : Bool). cond b (sharedRef starting) (refLetter reference choose g q covering)) (sym e) ∙ made)
+          (ap (λ (b : Bool). cond b (sharedRef starting) (refLetter reference g q covering)) (sym e) ∙ made)
 
 -- REF of an old and of a new record at one position: what starts there in the old one starts in the new one, so REF is extended.
-module _ (reference1 reference2 : Option (List ReferenceSegment)) (choose1 choose2 : LetterChoice) (g : List ℕ) (q : ℕ)
-    (covering1 covering2 : List Site) (ref1 ref2 : List ℕ) (made1 : mergedRef reference1 choose1 g q covering1 ≡ accepted ref1)
-    (made2 : mergedRef reference2 choose2 g q covering2 ≡ accepted ref2)
+module _ (reference1 reference2 : Option (List ReferenceSegment)) (g : List ℕ) (q : ℕ)
+    (covering1 covering2 : List Site) (ref1 ref2 : List ℕ) (made1 : mergedRef reference1 g q covering1 ≡ accepted ref1)
+    (made2 : mergedRef reference2 g q covering2 ≡ accepted ref2)
     (there : (s : Site) → s ∈ covering1 → (t : Site) × (t ∈ covering2) × (unnumbered s ≡ unnumbered t)) where
   prefix-extends : (s : Site) → s ∈ covering1 → startsAt q s ≡ true → (u : List ℕ) × (ref2 ≡ ref1 ++ u)
   unfolding unnumbered startsAt siteRef
-  prefix-extends s m h = go (ref-among reference1 choose1 g q covering1 ref1 made1 (member-any _ _ m h))
+  prefix-extends s m h = go (ref-among reference1 g q covering1 ref1 made1 (member-any _ _ m h))
     where
       go : RefAmong q covering1 ref1 → (u : List ℕ) × (ref2 ≡ ref1 ++ u)
       go (inl z) = (ref2, ap (λ (x : List ℕ). x ++ ref2) (sym z))
       go (inr (s′, n, starts, is)) =
           let (t, n′, e) = there s′ n in
-          let (u, is′) = starts-prefix reference2 choose2 g q covering2 ref2 made2 t n′ (sym (ap (startsAt q) e) ∙ starts) in
+          let (u, is′) = starts-prefix reference2 g q covering2 ref2 made2 t n′ (sym (ap (startsAt q) e) ∙ starts) in
           (u, is′ ∙ ap (λ (x : List ℕ). x ++ u) (sym (ap siteRef e) ∙ sym is))
 
   -- what the new REF has behind a site's own REF, by the old REF
   pub extends : (s : Site) → s ∈ covering1 → startsAt q s ≡ true → Extends (siteRef s) ref1 ref2
   unfolding Extends
   extends s m h =
-      let (t, e1) = starts-prefix reference1 choose1 g q covering1 ref1 made1 s m h in
+      let (t, e1) = starts-prefix reference1 g q covering1 ref1 made1 s m h in
       let (u, e2) = prefix-extends s m h in
       let n = length (siteRef s) in
       let l : n ≤ length ref1 = omega (arith, ap length e1, length-append (siteRef s) t) in

@@ -13,7 +13,7 @@ use Rattle.laws.proofs.Checked.{accepted-same, not-refused}
 
 module _ {t : Texts} {scratch scratch′ out out′ : List ℕ} {n : ℕ} (c : Combined t scratch scratch′ out out′ (Written n)) where
   abbrev answer : Checked (List ℕ)
-  answer = combinedList t (length scratch) (length out) (c .choose)
+  answer = combinedList t (length scratch) (length out)
 
   as-long : {list : List ℕ} → answer ≡ accepted list → n ≡ length list
   unfolding writtenOf

@@ -2,79 +2,46 @@
 use Prim.Native.Nat.{ℕ}
 use Prim.Native.String.{String}
 use lib.Dec.{T}
-use mathlib.Core.Bool.{true}
-use mathlib.Core.List.{List, [], _++_, map, reverse}
-use mathlib.Core.Option.{Option, Option·getD, none}
+use mathlib.Core.List.{List, [], _++_, map}
+use mathlib.Core.Option.{Option}
 use mathlib.Core.Path.{_∙_, _≡_, ap, refl, subst₂, sym}
 use Rattle.definitions.specs.Alleles.{allelesOf, writtenAlleles}
 use Rattle.definitions.specs.Bytes.{joinedBy, text}
 use Rattle.definitions.specs.Checked.{Checked, _>>=_, accepted, isAccepted, refused}
-use Rattle.definitions.specs.ClipAndReference.{ChoiceFrom, LetterChoice, ReferenceSegment, optionalGroups, segmentHolds, segmentOf}
 use Rattle.definitions.specs.Cohort.{Cohort, cohortOf}
-use Rattle.definitions.specs.CombinedList.{ChoiceFor, Texts, combinedList}
+use Rattle.definitions.specs.CombinedList.{Texts, combinedList}
 use Rattle.definitions.specs.ListReader.{WrittenList, listRead}
-use Rattle.definitions.specs.Lists.{anyOf}
 use Rattle.definitions.specs.Numbers.{decimal}
 use Rattle.definitions.specs.Records.{Record, recordEnd}
 use Rattle.definitions.proofs.Evaluated.{evaluated}
 use Rattle.laws.proofs.Checked.{valueOr}
 use Rattle.laws.proofs.CombinedListReadBack.{list-read-back}
-use Rattle.laws.proofs.Members.{any-member, member-any, member-reverse, reverse-member}
-use Rattle.laws.proofs.ReferenceLetter.{first-letter, firstLetter}
-use Rattle.laws.proofs.Tests.{so}
 use Rattle.demands.specs.Inserted.{Inserted, isOneOf, named, unnumbered}
 use Rattle.demands.specs.Preserved.{Preserved}
 use Rattle.demands.proofs.Demand3.{demand3}
 
--- two cohorts, and the clip and the reference that both calls are given
+-- two cohorts, the clip that both calls are given, and the reference of each
 pub record TwoCalls : Type 0 where
   pub old : List ℕ
   pub new : List ℕ
   pub clip : Option (List ℕ)
-  pub reference : Option (List ℕ)
+  pub oldReference : Option (List ℕ)
+  pub newReference : Option (List ℕ)
 
 abbrev oldTexts : TwoCalls → Texts
-oldTexts k = record { cohort = k .old; clip = k .clip; reference = k .reference }
+oldTexts k = record { cohort = k .old; clip = k .clip; reference = k .oldReference }
 
 abbrev pub newTexts : TwoCalls → Texts
-newTexts k = record { cohort = k .new; clip = k .clip; reference = k .reference }
-
--- ---- two choices of letters: of the first segment in the file that holds the position, and of the last
-
-unfoldable pub segmentsOf : Texts → List ReferenceSegment
-segmentsOf t = Option·getD (valueOr none (optionalGroups segmentOf (t .reference))) []
-
-unfoldable pub firstChoice : Texts → LetterChoice
-firstChoice t = firstLetter (segmentsOf t)
-
-unfoldable pub lastChoice : Texts → LetterChoice
-lastChoice t = firstLetter (reverse (segmentsOf t))
-
-first-choice : (t : Texts) → ChoiceFor t (firstChoice t)
-unfolding ChoiceFor firstChoice segmentsOf valueOr
-first-choice t reference e = rw e (first-letter reference)
-
-last-letter : (reference : List ReferenceSegment) → ChoiceFrom reference (firstLetter (reverse reference))
-unfolding ChoiceFrom
-last-letter reference contig position h =
-    let (g, m, holds) = any-member _ _ (so _ h) in
-    let held : anyOf (segmentHolds contig position) (reverse reference) ≡ true =
-    member-any _ _ (member-reverse reference m) holds in
-    let (last, m′, holds′, is) = first-letter (reverse reference) contig position (rw held tt) in
-    (last, reverse-member reference m′, holds′, is)
-
-pub last-choice : (t : Texts) → ChoiceFor t (lastChoice t)
-unfolding ChoiceFor lastChoice segmentsOf valueOr
-last-choice t reference e = rw e (last-letter reference)
+newTexts k = record { cohort = k .new; clip = k .clip; reference = k .newReference }
 
 -- ---- what the calls give
 
--- the first call chooses first letters, and the second last ones; each has its own scratch and output
+-- each call has its own scratch and output
 unfoldable pub oldList : TwoCalls → Checked (List ℕ)
-oldList k = combinedList (oldTexts k) 64 4096 (firstChoice (oldTexts k))
+oldList k = combinedList (oldTexts k) 64 4096
 
 unfoldable pub newList : TwoCalls → Checked (List ℕ)
-newList k = combinedList (newTexts k) 96 8192 (lastChoice (newTexts k))
+newList k = combinedList (newTexts k) 96 8192
 
 -- what a text says as a cohort, and a list as records
 unfoldable pub cohortIn : List ℕ → Cohort
@@ -87,11 +54,11 @@ unfoldable pub recordsIn : Checked (List ℕ) → List Record
 recordsIn list = readIn (list >>= listRead) .records
 
 -- an accepted call has read its cohort
-pub cohort-read : (t : Texts) (scratchLength outLength : ℕ) (choose : LetterChoice) (list : List ℕ)
-    → combinedList t scratchLength outLength choose ≡ accepted list → cohortOf (t .cohort) ≡ accepted (cohortIn (t .cohort))
+pub cohort-read : (t : Texts) (scratchLength outLength : ℕ) (list : List ℕ)
+    → combinedList t scratchLength outLength ≡ accepted list → cohortOf (t .cohort) ≡ accepted (cohortIn (t .cohort))
 unfolding cohortIn valueOr
-cohort-read t scratchLength outLength choose list ok =
-    let e = list-read-back t scratchLength outLength choose list ok .from .cohort-read in
+cohort-read t scratchLength outLength list ok =
+    let e = list-read-back t scratchLength outLength list ok .from .cohort-read in
     rw e
 
 -- and its list reads back as these records
@@ -123,12 +90,12 @@ unfolding oldList newList SaidAgain InsertedIn
 said-again k t1 t2 ins =
     let ok1 = accepted-value (oldList k) t1 in
     let ok2 = accepted-value (newList k) t2 in
-    let read1 = cohort-read (oldTexts k) 64 4096 _ _ ok1 in
-    let read2 = cohort-read (newTexts k) 96 8192 _ _ ok2 in
+    let read1 = cohort-read (oldTexts k) 64 4096 _ ok1 in
+    let read2 = cohort-read (newTexts k) 96 8192 _ ok2 in
     let (records1, records2, back1, back2, preserved) =
     demand3 (oldTexts k) (newTexts k) (cohortIn (k .old)) (cohortIn (k .new)) 64 96 4096 8192
-    (firstChoice (oldTexts k)) (lastChoice (newTexts k)) (valueOr [] (oldList k)) (valueOr [] (newList k))
-    refl read1 read2 (subst₂ InsertedIn read1 read2 ins) (first-choice (oldTexts k)) (last-choice (newTexts k)) ok1 ok2 in
+    (valueOr [] (oldList k)) (valueOr [] (newList k))
+    refl read1 read2 (subst₂ InsertedIn read1 read2 ins) ok1 ok2 in
     rw (← records-read _ _ _ ok1 back1, ← records-read _ _ _ ok2 back2) preserved
 
 -- ---- what is shown of two calls
@@ -153,6 +120,5 @@ worked k t1 t2 ins e1 e2 = record { old-list = e1; new-list = e2; again = said-a
 
 -- every definition opened by one name that the premises of `worked` are computed by
 unfoldable pub computed : TwoCalls → TwoCalls
-unfolding evaluated isOneOf named unnumbered valueOr firstLetter segmentsOf
-    firstChoice lastChoice oldList newList recordsIn isAccepted InsertedIn
+unfolding evaluated isOneOf named unnumbered valueOr oldList newList recordsIn isAccepted InsertedIn
 computed k = k

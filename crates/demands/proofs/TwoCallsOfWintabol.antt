@@ -24,8 +24,6 @@ as-written : {t : Texts} {scratch scratch′ out out′ : List ℕ} {n : ℕ} �
     → Combined t scratch scratch′ out out′ (Written n)
 as-written call =
     record {
-      choose = call .choose;
-      choice = call .choice;
       answer = zero-written _ (call .exported .accepts) (call .exported .numbers);
       output = call .exported .output;
       cleared = call .cleared;

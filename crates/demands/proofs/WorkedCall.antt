@@ -13,22 +13,20 @@ use Rattle.definitions.specs.Answers.{scratchAfter}
 use Rattle.definitions.specs.Bytes.{text}
 use Rattle.definitions.specs.CalledList.{calledList, calledRecords, printedCalledList}
 use Rattle.definitions.specs.Checked.{accepted, isAccepted, within}
-use Rattle.definitions.specs.ClipAndReference.{LetterChoice}
-use Rattle.definitions.specs.CombinedList.{ChoiceFor, Texts, combinedList}
+use Rattle.definitions.specs.CombinedList.{Texts, combinedList}
 use Rattle.definitions.specs.Limits.{maxTextLength}
 use Rattle.laws.proofs.Checked.{accepted-same, required, valueOr}
 use Rattle.laws.proofs.SoundInput.{input-sound}
 use Rattle.laws.proofs.Tests.{so}
 use Rattle.demands.proofs.AcceptedByCall.{accepted-by-call}
-use Rattle.demands.proofs.TwoCalls.{TwoCalls, accepted-value, cohort-read, cohortIn, last-choice, lastChoice, newList, newTexts, outline, records-read, recordsIn}
+use Rattle.demands.proofs.TwoCalls.{TwoCalls, accepted-value, cohort-read, cohortIn, newList, newTexts, outline, records-read, recordsIn}
 
 -- what the entry promises of a call that gives this list
-promised : {t : Texts} (choose : LetterChoice) {list : List ℕ} (scratch out : List ℕ) → ChoiceFor t choose
-    → combinedList t (length scratch) (length out) choose ≡ accepted list
+promised : {t : Texts} {list : List ℕ} (scratch out : List ℕ) → combinedList t (length scratch) (length out) ≡ accepted list
     → Combined t scratch (scratchAfter scratch) out (list ++ drop (length list) out) (Written (length list))
-promised choose scratch out choice e =
+promised scratch out e =
     let a = answered-written e refl refl in
-    record { choose = choose; choice = choice; answer = a .answer; output = a .output; cleared = refl }
+    record { answer = a .answer; output = a .output; cleared = refl }
 
 -- the records that are called, and that the second list is accepted and called as these, with any output
 pub record CalledAs (k : TwoCalls) (called : String) : Type 0 where
@@ -44,12 +42,12 @@ called-as k t short e =
     let list = valueOr [] (newList k) in
     let scratch : List ℕ = replicate 96 0 in
     let out : List ℕ = replicate 8192 0 in
-    let call = promised (lastChoice (newTexts k)) {list = list} scratch out (last-choice (newTexts k))
+    let call = promised {t = newTexts k} {list = list} scratch out
     (rw (length-replicate {A = ℕ} 96 0, length-replicate {A = ℕ} 8192 0) ok) in
     let (x, records, read, merged, back, called) = accepted-by-call (newTexts k) scratch (scratchAfter scratch) out _ (length list) call in
     let bytes = take-at list (drop (length list) out) (length list) refl in
     let cohort : x .cohort ≡ cohortIn (k .new) =
-    accepted-same (sym (input-sound (newTexts k) x read .cohort-read) ∙ cohort-read (newTexts k) 96 8192 _ _ ok) in
+    accepted-same (sym (input-sound (newTexts k) x read .cohort-read) ∙ cohort-read (newTexts k) 96 8192 _ ok) in
     let same : records ≡ recordsIn (newList k) = records-read _ _ _ ok (rw bytes at back) in
     record {
       called-list = e;

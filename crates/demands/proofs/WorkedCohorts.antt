@@ -43,22 +43,24 @@ refGrows = record {
   old = cohort ("S1" ∷ []) (snp "0" ∷ []);
   new = cohort ("S0" ∷ "S1" ∷ []) (deletion "0" ∷ snp "1" ∷ []);
   clip = none;
-  reference = none;
+  oldReference = none;
+  newReference = none;
 }
 
 ref-grows : Worked refGrows "10-10:A,G,<NON_REF>" "10-10:AT,GT,A,<NON_REF> 11-11:A,*,<NON_REF>"
 unfolding computed
 ref-grows = worked refGrows tt tt (record { names = refl; sites = refl }) refl refl
 
--- ---- a block of an old sample is cut by the new sample's site, in a clip that itself cuts the block. Each position has two
--- letters in the reference, and the two calls choose differently: REF is C in the first list and T in the second.
+-- ---- a block of an old sample is cut by the new sample's site, in a clip that itself cuts the block. The second call's
+-- reference has a corrected segment in front: REF is C in the first list and T in the second.
 
 abbrev blockCut : TwoCalls
 blockCut = record {
   old = cohort ("S0" ∷ []) (block "0" ∷ []);
   new = cohort ("S0" ∷ "S1" ∷ []) (block "0" ∷ insideBlock "1" ∷ []);
   clip = some (text "contig=c\nstart=11\nend=14\n");
-  reference = some (text "contig=c\nfirst=10\nbases=ACGCA\ncontig=c\nfirst=11\nbases=TTTTT\n");
+  oldReference = some (text "contig=c\nfirst=10\nbases=ACGCA\n");
+  newReference = some (text "contig=c\nfirst=11\nbases=TTTTT\n" ++ text "contig=c\nfirst=10\nbases=ACGCA\n");
 }
 
 block-cut : Worked blockCut "11-14:C,<NON_REF>" "11-11:T,<NON_REF> 12-12:C,T,<NON_REF> 13-14:T,<NON_REF>"
@@ -72,7 +74,8 @@ onAllSides = record {
   old = cohort ("S1" ∷ "S3" ∷ []) (block "1" ∷ snp "0" ∷ []);
   new = cohort ("S0" ∷ "S1" ∷ "S2" ∷ "S3" ∷ "S4" ∷ []) (insideBlock "4" ∷ block "3" ∷ snp "1" ∷ block "2" ∷ deletion "0" ∷ []);
   clip = none;
-  reference = none;
+  oldReference = none;
+  newReference = none;
 }
 
 on-all-sides : Worked onAllSides "10-10:A,G,<NON_REF> 11-16:A,<NON_REF>"
@@ -98,7 +101,8 @@ missingValues = record {
   old = cohort ("S0" ∷ "S1" ∷ []) (snpOfSome "0" ∷ blockOfSome "1" ∷ []);
   new = cohort ("S0" ∷ "S1" ∷ "S2" ∷ []) (snpOfSome "0" ∷ blockOfSome "1" ∷ deletion "2" ∷ []);
   clip = none;
-  reference = none;
+  oldReference = none;
+  newReference = none;
 }
 
 missing-values : Worked missingValues "10-10:A,G,<NON_REF> 11-16:A,<NON_REF>"

@@ -19,10 +19,10 @@ use Rattle.definitions.specs.Records.{Record}
 -- records is longer than that output; no other row refuses them, and what is given is that called list.
 abbrev pub AcceptedByCall : Type 0
 AcceptedByCall =
-    (t : Texts) (scratch scratch′ out out′ : List ℕ) (n : ℕ) (combined : Combined t scratch scratch′ out out′ (Written n))
+    (t : Texts) (scratch scratch′ out out′ : List ℕ) (n : ℕ) → Combined t scratch scratch′ out out′ (Written n)
     → (x : Input) × (records : List Record)
     × (inputOf t ≡ accepted x)
-    × (combinedRecords x (combined .choose) (length scratch) ≡ accepted records)
+    × (combinedRecords x (length scratch) ≡ accepted records)
     × (listRead (take n out′) ≡ accepted (record { names = x .cohort .names; records = records }))
     × ((outLength : ℕ) → calledList (take n out′) outLength ≡ (do
       require 2 (leb n maxTextLength)

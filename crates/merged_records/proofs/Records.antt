@@ -3,7 +3,7 @@ use Prim.Native.Nat.{_<_, _≤_, suc, ℕ}
 use borrow.Author.Tests.{le-leb, lt-leb}
 use lib.ListN.{drop, length, length-map, take}
 use lib.Seq.{length-take-le, sets, sets-eq, take-at}
-use mathlib.Core.Bool.{Bool, false, true}
+use mathlib.Core.Bool.{Bool}
 use mathlib.Core.List.{List, [], _∷_, map}
 use mathlib.Core.Path.{_∙_, _≡_, ap, refl, subst, sym}
 use native.Mathlib.Nat.{zero-add}
@@ -12,7 +12,6 @@ use Rattle.covering_sites.proofs.CoveringFound.{covering-found, found-few, foun
 use Rattle.covering_sites.specs.Covering.{Found, coveringSamples}
 use Rattle.definitions.specs.Alleles.{Allele, RefAlts}
 use Rattle.definitions.specs.Checked.{Checked, accepted, refused}
-use Rattle.definitions.specs.ClipAndReference.{ChoiceFrom}
 use Rattle.definitions.specs.CombinedList.{intervalRecord}
 use Rattle.definitions.specs.CoveringSites.{coveringSites}
 use Rattle.definitions.specs.Genotypes.{SampleData, dataOfSample}
@@ -22,9 +21,8 @@ use Rattle.definitions.specs.MergedAlleles.{mergedAlts}
 use Rattle.definitions.specs.MergedRef.{mergedRef}
 use Rattle.definitions.specs.Records.{Record, endOf, recordOf}
 use Rattle.laws.proofs.Checked.{not-required, required, then, then-refused}
-use Rattle.laws.proofs.Every.{Every, IfThere, every-of}
+use Rattle.laws.proofs.Every.{Every, every-of}
 use Rattle.laws.proofs.MergedRefSound.{RefFor, covering-sound, merged-ref-sound}
-use Rattle.laws.proofs.ReferenceLetter.{first-letter, firstLetter}
 use Rattle.laws.proofs.SoundInput.{SoundSite}
 use Rattle.laws.proofs.SoundValues.{Letters}
 use Rattle.merged_alleles.proofs.Sound.{found-sound}
@@ -36,7 +34,7 @@ use Rattle.merged_ref.specs.declared.RefAt.{RefAt}
 use Rattle.merged_ref.specs.declared.RefAt.the-variants as ref
 use Rattle.tables.specs.Tables.{column, siteAt}
 use Rattle.merged_records.specs.Found.{AltsFound, Over, RecordFound, RecordTo, covering}
-use Rattle.merged_records.specs.Loaded.{OnContig, chosenLetters, coveringNumbers, coveringOwners, runs}
+use Rattle.merged_records.specs.Loaded.{OnContig, coveringNumbers, coveringOwners, runs}
 use Rattle.merged_records.specs.declared.RecordAt.{RecordAt}
 use Rattle.merged_records.specs.declared.RecordAt.the-variants as answer
 
@@ -72,24 +70,15 @@ module _ {s rows : List ℕ} {samples : ℕ} {referenced : Bool} {reference cont
 
   -- ---- REF
 
-  -- the segments give the letters that are chosen
-  chosen-from : IfThere (λ r. ChoiceFrom r (chosenLetters (on .loaded))) (on .loaded .input .reference)
-  unfolding onlyIf
-  chosen-from = rw (on .loaded .reference-is) (go referenced)
-    where
-      go : (b : Bool) → IfThere (λ r. ChoiceFrom r (chosenLetters (on .loaded))) (onlyIf b (on .loaded .segments))
-      go true = first-letter (on .loaded .segments)
-      go false = tt
-
   module _ (some-site : 0 < length numbers) (ref : List ℕ)
-      (merged : mergedRef (on .loaded .input .reference) (chosenLetters (on .loaded)) contig position (covering on position) ≡ accepted ref) where
+      (merged : mergedRef (on .loaded .input .reference) contig position (covering on position) ≡ accepted ref) where
     some-covering : 0 < length (covering on position)
     some-covering = rw (← numbers-cover) (rw (length-map numbers (siteAt s rows)) some-site)
 
     ref-letters : Letters maxSiteLetters ref
-    ref-letters = merged-ref-sound (on .loaded .input .reference) (chosenLetters (on .loaded)) contig position (covering on position) ref some-covering
+    ref-letters = merged-ref-sound (on .loaded .input .reference) contig position (covering on position) ref some-covering
         (covering-sound (on .loaded .input .cohort) contig position (on .loaded .sound .cohort .sites))
-        (on .loaded .sound .reference) chosen-from merged .letters
+        (on .loaded .sound .reference) merged .letters
 
     pub sites-sound : SoundSites s rows numbers ref
     sites-sound = found-sound s rows (on .loaded .table) (on .loaded .sound .cohort .sites) numbers-known ref-letters
@@ -98,16 +87,16 @@ module _ {s rows : List ℕ} {samples : ℕ} {referenced : Bool} {reference cont
 
   module _ (last : ℕ) where
     abbrev here-record : Checked Record
-    here-record = intervalRecord (on .loaded .input) (chosenLetters (on .loaded)) contig (record { first = position; last = last })
+    here-record = intervalRecord (on .loaded .input) contig (record { first = position; last = last })
 
     pub ref-refused : (row : ℕ)
-        → mergedRef (on .loaded .input .reference) (chosenLetters (on .loaded)) contig position (covering on position) ≡ refused row
+        → mergedRef (on .loaded .input .reference) contig position (covering on position) ≡ refused row
         → here-record ≡ refused row
     unfolding intervalRecord recordOf
     ref-refused row e = then-refused _ _ e
 
     pub alts-refused : (ref : List ℕ)
-        → mergedRef (on .loaded .input .reference) (chosenLetters (on .loaded)) contig position (covering on position) ≡ accepted ref
+        → mergedRef (on .loaded .input .reference) contig position (covering on position) ≡ accepted ref
         → 15 < length (mergedAlts ref position (covering on position)) → here-record ≡ refused 13
     unfolding intervalRecord recordOf
     alts-refused ref e h = then _ _ e (not-required _ _ _ (lt-leb (suc (length (mergedAlts ref position (covering on position)))) 16 (omega arith)))
@@ -127,16 +116,16 @@ module _ {s rows : List ℕ} {samples : ℕ} {referenced : Bool} {reference cont
   module _ (sites : List ℕ) (here : sites ≡ numbers) where
     -- REF by the numbers of the found sites is REF of the covering sites
     pub as-merged : {c : Checked (List ℕ)}
-        → c ≡ mergedRef (onlyIf referenced (referenceSegments reference rows)) (firstLetter (referenceSegments reference rows)) contig position
+        → c ≡ mergedRef (onlyIf referenced (referenceSegments reference rows)) contig position
         (map (siteAt s rows) sites)
-        → mergedRef (on .loaded .input .reference) (chosenLetters (on .loaded)) contig position (covering on position) ≡ c
+        → mergedRef (on .loaded .input .reference) contig position (covering on position) ≡ c
     as-merged h =
         let l = on .loaded in
         sym (h ∙ by-segments reference rows referenced (l .segments) (l .segments-from) (l .segments-indexed) contig position _
         ∙ rw (here, numbers-cover, l .reference-is))
 
     module _ (at : RefAt) (some-site : 0 < length sites)
-        (merged : mergedRef (on .loaded .input .reference) (chosenLetters (on .loaded)) contig position (covering on position)
+        (merged : mergedRef (on .loaded .input .reference) contig position (covering on position)
         ≡ accepted (refBytes s rows reference at)) where
       pub found-sites-sound : SoundSites s rows sites (refBytes s rows reference at)
       found-sites-sound = rw here (sites-sound (rw here at some-site) (refBytes s rows reference at) merged)
@@ -238,7 +227,7 @@ module _ {s rows : List ℕ} {samples : ℕ} {referenced : Bool} {reference cont
   recordAlleles = record { ref = recordRef; alts = recordAlts }
 
   pub record-is : (last : ℕ)
-      → intervalRecord (on .loaded .input) (chosenLetters (on .loaded)) contig (record { first = position; last = last })
+      → intervalRecord (on .loaded .input) contig (record { first = position; last = last })
       ≡ accepted (record {
         contig = contig;
         pos = position;
@@ -260,6 +249,6 @@ module _ {s rows : List ℕ} {samples : ℕ} {referenced : Bool} {reference cont
 
   pub ref-for : RefFor position (covering on position) recordRef
   ref-for =
-      merged-ref-sound (on .loaded .input .reference) (chosenLetters (on .loaded)) contig position (covering on position) recordRef
+      merged-ref-sound (on .loaded .input .reference) contig position (covering on position) recordRef
       (rw (← to .sites) (rw (length-map found (siteAt s rows)) (omega (arith, to .all, to .some-site))))
-      sites-are-sound (on .loaded .sound .reference) (chosen-from on position) (to .ref)
+      sites-are-sound (on .loaded .sound .reference) (to .ref)

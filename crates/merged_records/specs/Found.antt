@@ -16,7 +16,7 @@ use Rattle.merged_alleles.specs.Alts.{AltsWritten}
 use Rattle.merged_ref.specs.Answers.{refBytes}
 use Rattle.merged_ref.specs.declared.RefAt.{RefAt}
 use Rattle.tables.specs.Tables.{siteAt}
-use Rattle.merged_records.specs.Loaded.{OnContig, chosenLetters, coveringNumbers}
+use Rattle.merged_records.specs.Loaded.{OnContig, coveringNumbers}
 use Rattle.merged_records.specs.declared.RecordAt.{RecordAt}
 use Rattle.merged_records.specs.declared.RecordAt.the-variants as answer
 
@@ -32,7 +32,7 @@ module _ {s rows : List ℕ} {samples : ℕ} {referenced : Bool} {reference cont
     pub all : n ≡ length found
     pub some-site : 0 < n
     pub few : n ≤ samples
-    pub ref : mergedRef (on .loaded .input .reference) (chosenLetters (on .loaded)) contig position covering
+    pub ref : mergedRef (on .loaded .input .reference) contig position covering
         ≡ accepted (refBytes s rows reference at)
     pub text : take len alts ≡ writtenAlleles (mergedAlts (refBytes s rows reference at) position covering)
     pub number : count ≡ length (mergedAlts (refBytes s rows reference at) position covering)
@@ -43,7 +43,7 @@ module _ {s rows : List ℕ} {samples : ℕ} {referenced : Bool} {reference cont
   RecordFound found alts answer.NoSites = covering ≡ []
   RecordFound found alts (answer.Refused row) =
       (0 < length covering)
-      × ((last : ℕ) → intervalRecord (on .loaded .input) (chosenLetters (on .loaded)) contig (record { first = position; last = last }) ≡ refused row)
+      × ((last : ℕ) → intervalRecord (on .loaded .input) contig (record { first = position; last = last }) ≡ refused row)
   RecordFound found alts (answer.Record n at len count) = RecordTo (found n) alts n at len count
 
 -- the ALTs over these sites with this REF are too many (row 13), or are laid

@@ -7,12 +7,11 @@ use mathlib.Core.Path.{_≡_}
 use Rattle.clip_and_reference.specs.Groups.{SegmentsFrom}
 use Rattle.covering_sites.specs.Covering.{contigSites, coveringRows}
 use Rattle.covering_sites.specs.Runs.{Runs}
-use Rattle.definitions.specs.ClipAndReference.{LetterChoice, ReferenceSegment}
+use Rattle.definitions.specs.ClipAndReference.{ReferenceSegment}
 use Rattle.definitions.specs.CombinedList.{Input}
 use Rattle.definitions.specs.Limits.{maxSamples}
 use Rattle.definitions.specs.Lists.{onlyIf}
 use Rattle.indexed_groups.specs.Indexed.{SegmentsIndexed}
-use Rattle.laws.proofs.ReferenceLetter.{firstLetter}
 use Rattle.laws.proofs.SoundInput.{SoundInput}
 use Rattle.tables.specs.Tables.{SiteRows, column, partAt}
 
@@ -27,10 +26,6 @@ pub record Loaded (s rows : List ℕ) (samples : ℕ) (referenced : Bool) (refer
   pub segments-indexed : referenced ≡ true → SegmentsIndexed reference rows
   pub reference-is : input .reference ≡ onlyIf referenced segments
   pub sound : SoundInput input
-
--- the letters that are chosen: those of the first segment that holds the position
-abbrev pub chosenLetters : {s rows : List ℕ} {samples : ℕ} {referenced : Bool} {reference : List ℕ} → Loaded s rows samples referenced reference → LetterChoice
-chosenLetters l = firstLetter (l .segments)
 
 -- a contig, by its name and its first site
 pub record OnContig (s rows : List ℕ) (samples : ℕ) (referenced : Bool) (reference contig : List ℕ) : Type 0 where

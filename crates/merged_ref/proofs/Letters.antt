@@ -4,17 +4,17 @@ use borrow.Author.Tests.{leb-true, ltb-true}
 use lib.Dec.{leb, ltb}
 use lib.ListN.{drop, getD, length, length-drop, length-take, take}
 use lib.Seq.{drop-cons, getD-drop, getD-take}
-use mathlib.Core.Bool.{Bool, _||_, cond, false, true}
+use mathlib.Core.Bool.{Bool, cond, false, true}
 use mathlib.Core.List.{List, [], _++_, _∷_}
-use mathlib.Core.Option.{none, some}
+use mathlib.Core.Option.{Option·map, none, some}
 use mathlib.Core.Path.{_∙_, _≡_, ap, refl, sym}
 use native.Mathlib.Omega.{arith}
 use Rattle.definitions.specs.Bytes.{sameBytes}
-use Rattle.definitions.specs.ClipAndReference.{ReferenceSegment, segmentHolds, segmentLetter}
-use Rattle.definitions.specs.Lists.{anyOf, firstWhere}
+use Rattle.definitions.specs.ClipAndReference.{ReferenceSegment, referenceLetter, segmentHolds, segmentLetter}
+use Rattle.definitions.specs.Lists.{firstWhere}
 use Rattle.kv_text.specs.Fields.{between}
-use Rattle.laws.proofs.ReferenceLetter.{firstLetter}
-use Rattle.laws.proofs.Tests.{all-three, not-none, some-same}
+use Rattle.laws.proofs.Members.{first-found}
+use Rattle.laws.proofs.Tests.{all-three, not-none}
 use Rattle.merged_ref.specs.declared.LetterAt.{LetterAt}
 use Rattle.merged_ref.specs.declared.LetterAt.the-variants.{Absent, At}
 
@@ -53,26 +53,6 @@ module _ {A : Type 0} (p : A → Bool) where
       go true e later = not-none (sym e)
       go false e later = later e
 
-  -- it is there and passes, and no element passes where none is found
-  first-passes : (l : List A) {a : A} → firstWhere p l ≡ some a → (anyOf p l ≡ true) × (p a ≡ true)
-  unfolding firstWhere anyOf
-  first-passes [] e = not-none e
-  first-passes (x ∷ l) {a} e = go (p x) refl e (first-passes l)
-    where
-      go : (b : Bool) → p x ≡ b → cond b (some x) (firstWhere p l) ≡ some a → (firstWhere p l ≡ some a → (anyOf p l ≡ true) × (p a ≡ true))
-          → (b || anyOf p l ≡ true) × (p a ≡ true)
-      go true t e later = (refl, ap p (sym (some-same e)) ∙ t)
-      go false t e later = later e
-
-  none-passes : (l : List A) → firstWhere p l ≡ none → anyOf p l ≡ false
-  unfolding firstWhere anyOf
-  none-passes [] e = refl
-  none-passes (x ∷ l) e = go (p x) e (none-passes l)
-    where
-      go : (b : Bool) → cond b (some x) (firstWhere p l) ≡ none → (firstWhere p l ≡ none → anyOf p l ≡ false) → b || anyOf p l ≡ false
-      go true e later = not-none (sym e)
-      go false e later = later e
-
 -- ---- the letter
 
 -- The offset is that of the letter at the position in the bases of the first segment that holds it, which stand in the reference text
@@ -97,19 +77,6 @@ module _ (reference contig : List ℕ) (position : ℕ) where
   abbrev holds : ReferenceSegment → Bool
   holds = segmentHolds contig position
 
-  -- the letter is that of the first segment that holds the position
-  first-gives : (segments : List ReferenceSegment) {g : ReferenceSegment} → firstWhere holds segments ≡ some g
-      → firstLetter segments contig position ≡ segmentLetter position g
-  unfolding firstWhere firstLetter
-  first-gives [] e = not-none e
-  first-gives (x ∷ segments) {g} e = go (holds x) e (first-gives segments)
-    where
-      go : (b : Bool) → cond b (some x) (firstWhere holds segments) ≡ some g
-          → (firstWhere holds segments ≡ some g → firstLetter segments contig position ≡ segmentLetter position g)
-          → cond b (segmentLetter position x) (firstLetter segments contig position) ≡ segmentLetter position g
-      go true e later = ap (segmentLetter position) (some-same e)
-      go false e later = later e
-
   in-bases : (g : ReferenceSegment) → holds g ≡ true → (g .first ≤ position) × (position < g .first + length (g .bases))
   unfolding segmentHolds
   in-bases g e =
@@ -117,15 +84,15 @@ module _ (reference contig : List ℕ) (position : ℕ) where
       (leb-true _ _ low, ltb-true _ _ high)
 
   pub letter-is : (segments : List ReferenceSegment) (i : ℕ) → Of segments (At i)
-      → (anyOf holds segments ≡ true) × (take 1 (drop i reference) ≡ firstLetter segments contig position ∷ [])
-  unfolding LetterFound segmentLetter
+      → (letter : ℕ) × (referenceLetter segments contig position ≡ some letter) × (take 1 (drop i reference) ≡ letter ∷ [])
+  unfolding LetterFound referenceLetter segmentLetter
   letter-is segments i f =
-      let (some-one, held) = first-passes holds segments (f .holding) in
-      let (low, high) = in-bases (f .segment) held in
+      let (low, high) = in-bases (f .segment) (first-found holds segments (f .holding) .1) in
       let inside : position - f .segment .first < length (between reference (f .basesAt) (f .basesEnd)) =
       omega (arith, low, high, ap length (f .bases)) in
-      (some-one, rw (f .offset, first-gives segments (f .holding), f .bases) (part-letter reference (f .basesAt) (f .basesEnd) _ inside))
+      let is = part-letter reference (f .basesAt) (f .basesEnd) _ inside in
+      (segmentLetter position (f .segment), ap (Option·map (segmentLetter position)) (f .holding), rw (f .offset, f .bases) is)
 
-  pub letter-lacks : (segments : List ReferenceSegment) → Of segments Absent → anyOf holds segments ≡ false
-  unfolding LetterFound
-  letter-lacks segments f = none-passes holds segments f
+  pub letter-lacks : (segments : List ReferenceSegment) → Of segments Absent → referenceLetter segments contig position ≡ none
+  unfolding LetterFound referenceLetter
+  letter-lacks segments f = ap (Option·map (segmentLetter position)) f

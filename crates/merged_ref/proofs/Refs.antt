@@ -2,19 +2,18 @@
 use Prim.Native.Nat.{ℕ}
 use mathlib.Core.Bool.{Bool, false, true}
 use mathlib.Core.List.{List}
-use mathlib.Core.Path.{_∙_, _≡_, refl, sym}
+use mathlib.Core.Path.{_∙_, _≡_, ap, refl, sym}
 use Rattle.clip_and_reference.proofs.Groups.{all-read}
 use Rattle.clip_and_reference.specs.Groups.{SegmentsFrom}
 use Rattle.definitions.specs.Bytes.{isPrefix}
-use Rattle.definitions.specs.Checked.{accepted}
+use Rattle.definitions.specs.Checked.{accepted, orRefuse}
 use Rattle.definitions.specs.ClipAndReference.{ReferenceSegment, segmentOf}
 use Rattle.definitions.specs.Cohort.{Site}
 use Rattle.definitions.specs.Lists.{allOf, onlyIf}
 use Rattle.definitions.specs.MergedRef.{firstRef, mergedRef, refLetter, sharedRef}
 use Rattle.indexed_groups.proofs.Storing.{segments-split}
 use Rattle.indexed_groups.specs.Indexed.{SegmentsIndexed}
-use Rattle.laws.proofs.Checked.{not-required, required}
-use Rattle.laws.proofs.ReferenceLetter.{firstLetter}
+use Rattle.laws.proofs.Checked.{not-required, or-refused, required, then, then-refused}
 use Rattle.tables.specs.Tables.{partAt}
 use Rattle.merged_ref.specs.Answers.{letterBytes, refAnswer, refBytes, referenceSegments, sitesAt, startingRefs}
 use Rattle.merged_ref.proofs.Letters.{LetterFound, letter-is, letter-lacks}
@@ -40,39 +39,39 @@ module _ (s rows reference contig : List ℕ) (position : ℕ) (found : List ℕ
   -- ---- a letter
 
   pub not-referenced : referenced ≡ false → (site : ℕ) → partAt 9 10 s rows site ≡ firstRef covering
-      → refAnswer s rows reference (answer.Letter (Cohort site)) ≡ refLetter (onlyIf referenced segments) (firstLetter segments) contig position covering
+      → refAnswer s rows reference (answer.Letter (Cohort site)) ≡ refLetter (onlyIf referenced segments) contig position covering
   unfolding refAnswer refBytes letterBytes refLetter onlyIf
   not-referenced h site e = rw (h, e)
 
   pub letter-there : referenced ≡ true → (i : ℕ) → LetterFound reference contig position segments (letterAt.At i)
-      → refAnswer s rows reference (answer.Letter (Reference i)) ≡ refLetter (onlyIf referenced segments) (firstLetter segments) contig position covering
+      → refAnswer s rows reference (answer.Letter (Reference i)) ≡ refLetter (onlyIf referenced segments) contig position covering
   unfolding refAnswer refBytes letterBytes refLetter onlyIf
   letter-there h i f =
-      let (some-one, is) = letter-is reference contig position segments i f in
-      rw (h, is) (sym (required 11 _ _ some-one refl))
+      let (letter, first, is) = letter-is reference contig position segments i f in
+      rw (h, is) (sym (then _ _ (or-refused 11 _ first) refl))
 
   pub letter-lacking : referenced ≡ true → LetterFound reference contig position segments letterAt.Absent
-      → refAnswer s rows reference (answer.Refused 11) ≡ refLetter (onlyIf referenced segments) (firstLetter segments) contig position covering
-  unfolding refAnswer refLetter onlyIf
-  letter-lacking h f = rw h (sym (not-required 11 _ _ (letter-lacks reference contig position segments f)))
+      → refAnswer s rows reference (answer.Refused 11) ≡ refLetter (onlyIf referenced segments) contig position covering
+  unfolding refAnswer refLetter onlyIf orRefuse
+  letter-lacking h f = rw h (sym (then-refused _ _ (ap (orRefuse 11) (letter-lacks reference contig position segments f))))
 
   -- ---- REF
 
   pub by-letter : LongestFound s rows position found longestAt.NoneStarts
-      → refLetter (onlyIf referenced segments) (firstLetter segments) contig position covering
-      ≡ mergedRef (onlyIf referenced segments) (firstLetter segments) contig position covering
+      → refLetter (onlyIf referenced segments) contig position covering
+      ≡ mergedRef (onlyIf referenced segments) contig position covering
   unfolding mergedRef LongestFound
   by-letter f = rw f
 
   module _ (site : ℕ) (f : LongestFound s rows position found (longestAt.Site site)) {agree : Bool}
       (e : agree ≡ allOf (λ ref. isPrefix ref (partAt 9 10 s rows site)) (startingRefs position covering)) where
     pub shared : agree ≡ true
-        → refAnswer s rows reference (answer.Site site) ≡ mergedRef (onlyIf referenced segments) (firstLetter segments) contig position covering
+        → refAnswer s rows reference (answer.Site site) ≡ mergedRef (onlyIf referenced segments) contig position covering
     unfolding refAnswer refBytes mergedRef sharedRef LongestFound startingRefs
     shared h = rw (f .0, ← f .1) (sym (required 12 _ _ (sym e ∙ h) refl))
 
     pub conflict : agree ≡ false
-        → refAnswer s rows reference (answer.Refused 12) ≡ mergedRef (onlyIf referenced segments) (firstLetter segments) contig position covering
+        → refAnswer s rows reference (answer.Refused 12) ≡ mergedRef (onlyIf referenced segments) contig position covering
     unfolding refAnswer mergedRef sharedRef LongestFound startingRefs
     conflict h = rw (f .0, ← f .1) (sym (not-required 12 _ _ (sym e ∙ h)))
 
@@ -86,8 +85,8 @@ all-segments reference rows x from = sym (segments-split reference rows x) ∙ a
 pub by-segments : (reference rows : List ℕ) (referenced : Bool) (segments : List ReferenceSegment)
     → (referenced ≡ true → SegmentsFrom reference 0 segments) → (referenced ≡ true → SegmentsIndexed reference rows)
     → (contig : List ℕ) (position : ℕ) (covering : List Site)
-    → mergedRef (onlyIf referenced (referenceSegments reference rows)) (firstLetter (referenceSegments reference rows)) contig position covering
-    ≡ mergedRef (onlyIf referenced segments) (firstLetter segments) contig position covering
+    → mergedRef (onlyIf referenced (referenceSegments reference rows)) contig position covering
+    ≡ mergedRef (onlyIf referenced segments) contig position covering
 unfolding mergedRef refLetter onlyIf
 by-segments reference rows true segments from indexed contig position covering = rw (all-segments reference rows (indexed refl) (from refl))
 by-segments reference rows false segments from indexed contig position covering = refl

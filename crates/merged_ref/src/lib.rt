@@ -9,7 +9,6 @@ ghost use Rattle.definitions.specs.Bytes.{isPrefix};
 ghost use Rattle.definitions.specs.Lists.{allOf, onlyIf};
 ghost use Rattle.definitions.specs.MergedRef.{firstRef, mergedRef, refLetter};
 ghost use Rattle.indexed_groups.specs.Indexed.{placedAt};
-ghost use Rattle.laws.proofs.ReferenceLetter.{firstLetter};
 ghost use Rattle.tables.specs.Tables.{partAt};
 ghost use Rattle.merged_ref.specs.Answers.{letterBytes, letterOffset, letterPlace, longerSite, longestSite, placedBy, placedIn, refAnswer, refBytes, referencePlaced, referenceSegments, sitesAt, startingRefs};
 use bio_ids::GenomePosition;
@@ -281,7 +280,7 @@ fn ref_letter(
     position: GenomePosition,
 ) -> RefAt
     ensures { λ r. ⌜ ((s : List ℕ) → refAnswer s (now (rows .entry)) (now (reference .entry)) r
-        ≡ refLetter (onlyIf referenced (referenceSegments (now (reference .entry)) (now (rows .entry)))) (firstLetter (referenceSegments (now (reference .entry)) (now (rows .entry))))
+        ≡ refLetter (onlyIf referenced (referenceSegments (now (reference .entry)) (now (rows .entry))))
         (now (contig .entry)) (position .0) (sitesAt s (now (rows .entry)) (now (found .entry)))) ⌝ }
 {
     if !referenced {
@@ -305,7 +304,7 @@ pub fn determine_reference_allele(
     position: GenomePosition,
 ) -> RefAt
     ensures { λ r. ⌜ refAnswer (now (s .entry)) (now (rows .entry)) (now (reference .entry)) r
-        ≡ mergedRef (onlyIf referenced (referenceSegments (now (reference .entry)) (now (rows .entry)))) (firstLetter (referenceSegments (now (reference .entry)) (now (rows .entry))))
+        ≡ mergedRef (onlyIf referenced (referenceSegments (now (reference .entry)) (now (rows .entry))))
         (now (contig .entry)) (position .0) (sitesAt (now (s .entry)) (now (rows .entry)) (now (found .entry))) ⌝ }
 {
     let longest = longest_ref(s, rows, found, position);

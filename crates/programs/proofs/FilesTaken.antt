@@ -2,20 +2,19 @@
 use Prim.Native.Nat.{ℕ}
 use lib.ListN.{take}
 use mathlib.Core.Bool.{Bool, _||_, false, true}
-use mathlib.Core.List.{List}
-use mathlib.Core.Option.{Option, none, some}
+use mathlib.Core.List.{List, []}
+use mathlib.Core.Option.{Option, Option·getD, none, some}
 use mathlib.Core.Path.{_≡_, refl}
 use Rattle.combine_gvcfs.specs.Combined.{textsOf}
 use Rattle.definitions.specs.Answers.{combinedFiles}
 use Rattle.definitions.specs.Checked.{Checked, _>>=_, accepted, refused}
-use Rattle.definitions.specs.ClipAndReference.{LetterChoice}
-use Rattle.definitions.specs.CombinedList.{combinedList}
+use Rattle.definitions.specs.CombinedList.{Texts, combinedList}
 use Rattle.definitions.specs.Limits.{programBytes, programScratch}
 use Rattle.files.proofs.FileTexts.{taken-long, taken-whole, text-or-empty}
 use Rattle.files.specs.FileTexts.{hasText, readText, textLength, tooLong}
 use Rattle.files.specs.declared.FileRead.{FileRead}
 use Rattle.files.specs.declared.FileRead.the-variants.{Absent, Failed, Text, TooLong}
-use Rattle.programs.specs.Programs.{anyTooLong, takenTexts}
+use Rattle.programs.specs.Programs.{anyTooLong}
 
 -- tests one after the other
 pub or-first : (p q : Bool) → p ≡ true → true ≡ (p || q)
@@ -32,15 +31,23 @@ or-right : (p q : Bool) → (p || q) ≡ false → q ≡ false
 or-right true q e = let z : _≡_ {A = Bool} true false = e in cc
 or-right false q e = e
 
--- the list of three files is that of their texts
-pub by-texts : (cohort clip reference : Checked (Option (List ℕ))) (choose : LetterChoice)
-    → combinedFiles cohort clip reference choose
-    ≡ (takenTexts cohort clip reference >>= λ t. combinedList t programScratch programBytes choose)
+-- the texts of the three files, by what is taken of each
+unfoldable pub takenTexts : Checked (Option (List ℕ)) → Checked (Option (List ℕ)) → Checked (Option (List ℕ)) → Checked Texts
+takenTexts cohort clip reference = do
+  c ← cohort
+  l ← clip
+  r ← reference
+  accepted (record { cohort = Option·getD c []; clip = l; reference = r })
+
+-- the list of the files is that of these texts
+pub by-texts : (cohort clip reference : Checked (Option (List ℕ)))
+    → combinedFiles cohort clip reference
+    ≡ (takenTexts cohort clip reference >>= λ t. combinedList t programScratch programBytes)
 unfolding combinedFiles takenTexts _>>=_
-by-texts (refused n) clip reference choose = refl
-by-texts (accepted c) (refused n) reference choose = refl
-by-texts (accepted c) (accepted l) (refused n) choose = refl
-by-texts (accepted c) (accepted l) (accepted r) choose = refl
+by-texts (refused n) clip reference = refl
+by-texts (accepted c) (refused n) reference = refl
+by-texts (accepted c) (accepted l) (refused n) = refl
+by-texts (accepted c) (accepted l) (accepted r) = refl
 
 -- one of them is too long
 third-long : (c l : Option (List ℕ)) (third : FileRead) (buffer : List ℕ) → tooLong third ≡ true

@@ -4,7 +4,7 @@ use lib.ListN.{length, take}
 use mathlib.Core.Bool.{Bool, false, true}
 use mathlib.Core.List.{List}
 use mathlib.Core.Option.{Option}
-use mathlib.Core.Path.{_∙_, _≡_, sym}
+use mathlib.Core.Path.{_∙_, _≡_}
 use Rattle.answers.proofs.Answers.{answered-refused}
 use Rattle.answers.specs.Answered.{Answered}
 use Rattle.answers.specs.declared.Outcome.{Outcome}
@@ -13,7 +13,6 @@ use Rattle.combine_gvcfs.specs.Combined.{Combined, textsOf}
 use Rattle.definitions.specs.Answers.{calledFile, combinedFiles, printedAnswer, scratchAfter}
 use Rattle.definitions.specs.CalledList.{calledList}
 use Rattle.definitions.specs.Checked.{Checked, accepted}
-use Rattle.definitions.specs.ClipAndReference.{LetterChoice}
 use Rattle.definitions.specs.CombinedList.{combinedList}
 use Rattle.definitions.specs.Limits.{programBytes, programScratch}
 use Rattle.files.proofs.FileTexts.{taken-long, taken-whole, text-or-empty}
@@ -21,9 +20,9 @@ use Rattle.files.proofs.Printing.{answered-printed}
 use Rattle.files.specs.FileTexts.{hasText, readText, textLength, tooLong}
 use Rattle.files.specs.Printing.{Printed, writtenValues}
 use Rattle.files.specs.declared.FileRead.{FileRead}
-use Rattle.laws.proofs.Checked.{accepted-same, not-refused, then, then-refused}
-use Rattle.programs.proofs.FilesTaken.{by-texts, texts-long, texts-taken}
-use Rattle.programs.specs.Programs.{CombinePrinted, FilesCombined, anyTooLong, takenTexts}
+use Rattle.laws.proofs.Checked.{then, then-refused}
+use Rattle.programs.proofs.FilesTaken.{by-texts, takenTexts, texts-long, texts-taken}
+use Rattle.programs.specs.Programs.{CombinePrinted, FilesCombined, anyTooLong}
 
 -- ---- combine
 
@@ -32,13 +31,7 @@ pub files-refused : (first second third : FileRead) (r s t : List ℕ) {scratch 
     → FilesCombined (readText first r) (readText second s) (readText third t) scratch scratch′ list list′ (outcome.Refused 2)
 files-refused first second third r s t e same cleared =
     let long = texts-long first second third r s t e in
-    let choose : LetterChoice = λ _ _. 0 in
-    record {
-      choose = choose;
-      choice = λ texts taken. not-refused (sym long ∙ taken);
-      answered = answered-refused (by-texts _ _ _ choose ∙ then-refused _ _ long) same;
-      cleared = cleared;
-    }
+    record { answered = answered-refused (by-texts _ _ _ ∙ then-refused _ _ long) same; cleared = cleared }
 
 module _ (first second third : FileRead) (r s t : List ℕ) where
   pub files-combined : {cohort clip reference scratch scratch′ list list′ : List ℕ} {clipped referenced : Bool} {o : Outcome}
@@ -48,27 +41,22 @@ module _ (first second third : FileRead) (r s t : List ℕ) where
       → Combined (textsOf cohort clipped clip referenced reference) scratch scratch′ list list′ o
       → FilesCombined (readText first r) (readText second s) (readText third t) scratch scratch′ list list′ o
   files-combined {cohort} {clip} {reference} {scratch} {scratch′} {list} {list′} {clipped} {referenced} {o} e e₁ e₂ e₃ e₄ e₅ places bytes m =
-      record {
-        choose = m .choose;
-        choice = λ texts taken. rw (accepted-same (sym whole ∙ taken)) at (m .choice);
-        answered = rw same (record { answer = m .answer; output = m .output });
-        cleared = m .cleared;
-      }
+      record { answered = rw same (record { answer = m .answer; output = m .output }); cleared = m .cleared }
     where
       whole : takenTexts (readText first r) (readText second s) (readText third t)
           ≡ accepted (textsOf cohort clipped clip referenced reference)
       whole = rw (e₁, e₂, e₃, e₄, e₅) (texts-taken first second third r s t e)
 
-      same : combinedFiles (readText first r) (readText second s) (readText third t) (m .choose)
-          ≡ combinedList (textsOf cohort clipped clip referenced reference) (length scratch) (length list) (m .choose)
-      same = by-texts _ _ _ (m .choose) ∙ then _ _ whole (rw (places, bytes))
+      same : combinedFiles (readText first r) (readText second s) (readText third t)
+          ≡ combinedList (textsOf cohort clipped clip referenced reference) (length scratch) (length list)
+      same = by-texts _ _ _ ∙ then _ _ whole (rw (places, bytes))
 
 -- what it prints
 pub combine-printed : (cohort clip reference : Checked (Option (List ℕ))) {scratch scratch′ list list′ list″ : List ℕ} (o : Outcome) {r : ℕ}
     → FilesCombined cohort clip reference scratch scratch′ list list′ o → Printed (printedAnswer (writtenValues o list′)) list′ list″ r
     → CombinePrinted cohort clip reference scratch scratch′ list list″ r
 combine-printed cohort clip reference o m p =
-    record { choose = m .choose; choice = m .choice; printed = answered-printed _ o (m .answered) p; cleared = m .cleared }
+    record { printed = answered-printed _ o (m .answered) p; cleared = m .cleared }
 
 -- ---- call
 

@@ -1,15 +1,13 @@
 -- What `combine` and `call` make of the files that were read, up to the bytes that they print.
 use Prim.Native.Nat.{ℕ}
 use mathlib.Core.Bool.{Bool, _||_}
-use mathlib.Core.List.{List, []}
-use mathlib.Core.Option.{Option, Option·getD}
+use mathlib.Core.List.{List}
+use mathlib.Core.Option.{Option}
 use mathlib.Core.Path.{_≡_}
 use Rattle.answers.specs.Answered.{Answered}
 use Rattle.answers.specs.declared.Outcome.{Outcome}
 use Rattle.definitions.specs.Answers.{combinedFiles, printedAnswer, scratchAfter}
-use Rattle.definitions.specs.Checked.{Checked, _>>=_, accepted}
-use Rattle.definitions.specs.ClipAndReference.{LetterChoice}
-use Rattle.definitions.specs.CombinedList.{ChoiceFor, Texts}
+use Rattle.definitions.specs.Checked.{Checked}
 use Rattle.files.specs.FileTexts.{tooLong}
 use Rattle.files.specs.declared.FileRead.{FileRead}
 use Rattle.files.specs.Printing.{Printed}
@@ -18,29 +16,13 @@ use Rattle.files.specs.Printing.{Printed}
 abbrev pub anyTooLong : FileRead → FileRead → FileRead → Bool
 anyTooLong first second third = tooLong first || (tooLong second || tooLong third)
 
--- the texts of the three files, by what is taken of each
-unfoldable pub takenTexts : Checked (Option (List ℕ)) → Checked (Option (List ℕ)) → Checked (Option (List ℕ)) → Checked Texts
-takenTexts cohort clip reference = do
-  c ← cohort
-  l ← clip
-  r ← reference
-  accepted (record { cohort = Option·getD c []; clip = l; reference = r })
-
--- the letters that a call chooses are letters of the reference, if the files are taken
-abbrev pub ChoiceOf : Checked Texts → LetterChoice → Type 0
-ChoiceOf taken choose = (texts : Texts) → taken ≡ accepted texts → ChoiceFor texts choose
-
 module _ (cohort clip reference : Checked (Option (List ℕ))) (scratch scratch′ list list′ : List ℕ) where
-  -- the answer is that of the three files, with some choice of reference letters, and so is what the list's buffer holds
+  -- the answer is that of the three files, and so is what the list's buffer holds
   pub record FilesCombined (r : Outcome) : Type 0 where
-    pub choose : LetterChoice
-    pub choice : ChoiceOf (takenTexts cohort clip reference) choose
-    pub answered : Answered (combinedFiles cohort clip reference choose) list list′ r
+    pub answered : Answered (combinedFiles cohort clip reference) list list′ r
     pub cleared : scratch′ ≡ scratchAfter scratch
 
   -- the first r bytes of the buffer are what `combine` prints
   pub record CombinePrinted (r : ℕ) : Type 0 where
-    pub choose : LetterChoice
-    pub choice : ChoiceOf (takenTexts cohort clip reference) choose
-    pub printed : Printed (printedAnswer (combinedFiles cohort clip reference choose)) list list′ r
+    pub printed : Printed (printedAnswer (combinedFiles cohort clip reference)) list list′ r
     pub cleared : scratch′ ≡ scratchAfter scratch

@@ -16,8 +16,8 @@ abbrev pub CombineWhole : Type 0
 CombineWhole =
     (cohort clip reference : Option (List ℕ)) (first second third : FileRead) (r s t scratch scratch′ list list′ : List ℕ) (n : ℕ)
     → ReadWhole cohort first r → ReadWhole clip second s → ReadWhole reference third t
-    → (m : CombinePrinted (readText first r) (readText second s) (readText third t) scratch scratch′ list list′ n)
-    → take n list′ ≡ combineProgram cohort clip reference (m .choose)
+    → CombinePrinted (readText first r) (readText second s) (readText third t) scratch scratch′ list list′ n
+    → take n list′ ≡ combineProgram cohort clip reference
 
 -- from the contract of `call_program`
 abbrev pub CallWhole : Type 0

@@ -11,7 +11,6 @@ use mathlib.Core.Path.{_∙_, _≡_, ap, refl, sym}
 use native.Mathlib.Numerals.{add-one}
 use native.Mathlib.Omega.{arith}
 use Rattle.definitions.specs.Checked.{Checked, _>>=_, accepted, inOrder}
-use Rattle.definitions.specs.ClipAndReference.{LetterChoice}
 use Rattle.definitions.specs.CombinedList.{Input, intervalRecord, recordIntervals}
 use Rattle.definitions.specs.Cohort.{Site}
 use Rattle.definitions.specs.CoveringSites.{coveringSites}
@@ -21,20 +20,20 @@ use Rattle.definitions.specs.Records.{Record, coalesceBlocks}
 use Rattle.record_laws.proofs.Coalescing.{at-start, in-order-cons}
 use Rattle.record_laws.specs.Pending.{andLater, finish, mergedContig}
 
-module _ (x : Input) (choose : LetterChoice) (contig : List ℕ) where
+module _ (x : Input) (contig : List ℕ) where
   covered : Interval → Bool
   covered i = ltb 0 (length (coveringSites (x .cohort) contig (i .first)))
 
   -- the records of these intervals
   recordsOf : List Interval → Checked (List Record)
-  recordsOf l = inOrder (map (intervalRecord x choose contig) (filterBy covered (filterBy (inClip contig (x .clip)) l)))
+  recordsOf l = inOrder (map (intervalRecord x contig) (filterBy covered (filterBy (inClip contig (x .clip)) l)))
 
   -- those from a breakpoint on
   pub recordsFrom : List ℕ → ℕ → Checked (List Record)
   recordsFrom places k = recordsOf (intervalsBetween (drop k places))
 
   pub walk-start : (places : List ℕ) → places ≡ breakpoints (x .cohort .sites) (x .clip) contig
-      → finish [] none (recordsFrom places 0) ≡ mergedContig x choose contig
+      → finish [] none (recordsFrom places 0) ≡ mergedContig x contig
   unfolding mergedContig recordsFrom recordsOf covered recordIntervals clippedIntervals
   walk-start places e = sym (at-start _) ∙ rw e
 
@@ -67,16 +66,16 @@ module _ (x : Input) (choose : LetterChoice) (contig : List ℕ) where
         walk-bare e = rw (first-interval, in-clip, e)
 
         pub walk-record : 0 < length (coveringSites (x .cohort) contig (getD places k 0))
-            → recordsFrom places k ≡ andLater (intervalRecord x choose contig here) (recordsFrom places (k + 1))
+            → recordsFrom places k ≡ andLater (intervalRecord x contig here) (recordsFrom places (k + 1))
         unfolding recordsFrom recordsOf filterBy covered
         walk-record e =
-            rw (first-interval, in-clip, lt-ltb 0 _ e) (in-order-cons (intervalRecord x choose contig here) _)
+            rw (first-interval, in-clip, lt-ltb 0 _ e) (in-order-cons (intervalRecord x contig here) _)
 
   -- an interval in front of what comes later
   unfoldable pub withInterval : Interval → Checked (List Record) → Checked (List Record)
   withInterval i later =
       cond (inClip contig (x .clip) i)
-      (cond (ltb 0 (length (coveringSites (x .cohort) contig (i .first)))) (andLater (intervalRecord x choose contig i) later) later)
+      (cond (ltb 0 (length (coveringSites (x .cohort) contig (i .first)))) (andLater (intervalRecord x contig i) later) later)
       later
 
   pub walk-turn : (places : List ℕ) (k : ℕ) → k + 1 < length places
@@ -86,7 +85,7 @@ module _ (x : Input) (choose : LetterChoice) (contig : List ℕ) where
     where
       go : (b : Bool) → inClip contig (x .clip) (here places k) ≡ b → (sites : List Site) → coveringSites (x .cohort) contig (getD places k 0) ≡ sites
           → recordsFrom places k
-          ≡ cond b (cond (ltb 0 (length sites)) (andLater (intervalRecord x choose contig (here places k)) (recordsFrom places (k + 1))) (recordsFrom places (k + 1))) (recordsFrom places (k + 1))
+          ≡ cond b (cond (ltb 0 (length sites)) (andLater (intervalRecord x contig (here places k)) (recordsFrom places (k + 1))) (recordsFrom places (k + 1))) (recordsFrom places (k + 1))
       go false e sites c = walk-clipped places k more e
       go true e [] c = walk-bare places k more e c
       go true e (z ∷ sites) c = walk-record places k more e (rw c (omega arith)) ∙ rw (lt-ltb 0 (length (z ∷ sites)) (omega arith))

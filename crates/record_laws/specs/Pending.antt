@@ -5,7 +5,6 @@ use mathlib.Core.List.{List, [], _++_, _∷_, map}
 use mathlib.Core.Option.{Option, none, some}
 use Rattle.definitions.specs.Alleles.{nonRef}
 use Rattle.definitions.specs.Checked.{Checked, _>>=_, accepted, inOrder}
-use Rattle.definitions.specs.ClipAndReference.{LetterChoice}
 use Rattle.definitions.specs.CombinedList.{Input, intervalRecord, recordIntervals}
 use Rattle.definitions.specs.Genotypes.{SampleData}
 use Rattle.definitions.specs.Lists.{onlyIf}
@@ -25,9 +24,9 @@ abbrev pub andLater : Checked Record → Checked (List Record) → Checked (List
 andLater first c = first >>= λ r. c >>= λ rs. accepted (r ∷ rs)
 
 -- the records of a contig, behind row 10
-unfoldable pub mergedContig : Input → LetterChoice → List ℕ → Checked (List Record)
-mergedContig x choose contig =
-    inOrder (map (intervalRecord x choose contig) (recordIntervals x contig)) >>= λ records. accepted (coalesceBlocks records)
+unfoldable pub mergedContig : Input → List ℕ → Checked (List Record)
+mergedContig x contig =
+    inOrder (map (intervalRecord x contig) (recordIntervals x contig)) >>= λ records. accepted (coalesceBlocks records)
 
 -- a block record from a first to a last position; END only if it has more than one
 unfoldable pub blockRecord : List ℕ → ℕ → ℕ → List ℕ → List SampleData → Record

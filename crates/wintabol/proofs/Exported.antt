@@ -59,9 +59,7 @@ pub exported-list : {texts : Texts} {scratch scratch′ out out′ : List ℕ} {
     → ExportedList texts scratch scratch′ out out′ number written
 exported-list {texts = texts} {scratch = scratch} {out = out} {r = r} c e =
     record {
-      choose = c .choose;
-      choice = c .choice;
-      exported = exported {r = r} (list-numbered texts (length scratch) (length out) (c .choose)) (record { answer = c .answer; output = c .output }) e;
+      exported = exported {r = r} (list-numbered texts (length scratch) (length out)) (record { answer = c .answer; output = c .output }) e;
       cleared = c .cleared;
     }
 

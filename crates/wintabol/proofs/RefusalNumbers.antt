@@ -13,7 +13,7 @@ use Rattle.definitions.specs.AlleleSubset.{alleleCountFits, altFields, assigned
 use Rattle.definitions.specs.Bytes.{comma, fieldsOf}
 use Rattle.definitions.specs.CalledList.{calledList}
 use Rattle.definitions.specs.Checked.{Checked, _>>=_, _>>_, accepted, inOrder, orRefuse, readEach, refused, refusedAs, require, within}
-use Rattle.definitions.specs.ClipAndReference.{LetterChoice, ReferenceSegment, optionalGroups, segmentOf, spanOf}
+use Rattle.definitions.specs.ClipAndReference.{ReferenceSegment, optionalGroups, segmentOf, spanOf}
 use Rattle.definitions.specs.Cohort.{Site, SiteText, checkedSite, cohortOf, sampleName, samplesOf, siteOf, siteTextOf}
 use Rattle.definitions.specs.CombinedList.{Input, Texts, combinedList, combinedRecords, contigRecords, inputOf, intervalRecord, listOf, recordIntervals}
 use Rattle.definitions.specs.Intervals.{Interval, contigsOf}
@@ -117,48 +117,48 @@ input-numbered t = required-numbered 2 _ (omega arith) (then-numbered (cohort-nu
 
 -- ---- records
 
-letter-numbered : (reference : Option (List ReferenceSegment)) (choose : LetterChoice) (contig : List ℕ) (position : ℕ) (covering : List Site)
-    → Numbered (refLetter reference choose contig position covering)
+letter-numbered : (reference : Option (List ReferenceSegment)) (contig : List ℕ) (position : ℕ) (covering : List Site)
+    → Numbered (refLetter reference contig position covering)
 unfolding refLetter
-letter-numbered none choose contig position covering = well _
-letter-numbered (some segments) choose contig position covering = required-numbered 11 _ (omega arith) (well _)
+letter-numbered none contig position covering = well _
+letter-numbered (some segments) contig position covering = then-numbered (or-numbered 11 _ (omega arith)) λ letter. well _
 
 shared-numbered : (refs : List (List ℕ)) → Numbered (sharedRef refs)
 unfolding sharedRef
 shared-numbered refs = required-numbered 12 _ (omega arith) (well _)
 
-ref-numbered : (reference : Option (List ReferenceSegment)) (choose : LetterChoice) (contig : List ℕ) (position : ℕ) (covering : List Site)
-    → Numbered (mergedRef reference choose contig position covering)
+ref-numbered : (reference : Option (List ReferenceSegment)) (contig : List ℕ) (position : ℕ) (covering : List Site)
+    → Numbered (mergedRef reference contig position covering)
 unfolding mergedRef
-ref-numbered reference choose contig position covering =
+ref-numbered reference contig position covering =
     either-numbered (anyOf (startsAt position) covering) (shared-numbered (map siteRef (filterBy (startsAt position) covering)))
-    (letter-numbered reference choose contig position covering)
+    (letter-numbered reference contig position covering)
 
-of-numbered : (reference : Option (List ReferenceSegment)) (choose : LetterChoice) (samples : ℕ) (contig : List ℕ) (i : Interval) (covering : List Site)
-    → Numbered (recordOf reference choose samples contig i covering)
+of-numbered : (reference : Option (List ReferenceSegment)) (samples : ℕ) (contig : List ℕ) (i : Interval) (covering : List Site)
+    → Numbered (recordOf reference samples contig i covering)
 unfolding recordOf
-of-numbered reference choose samples contig i covering =
-    then-numbered (ref-numbered reference choose contig (i .first) covering) λ ref. required-numbered 13 _ (omega arith) (well _)
+of-numbered reference samples contig i covering =
+    then-numbered (ref-numbered reference contig (i .first) covering) λ ref. required-numbered 13 _ (omega arith) (well _)
 
-record-numbered : (x : Input) (choose : LetterChoice) (contig : List ℕ) (i : Interval) → Numbered (intervalRecord x choose contig i)
+record-numbered : (x : Input) (contig : List ℕ) (i : Interval) → Numbered (intervalRecord x contig i)
 unfolding intervalRecord
-record-numbered x choose contig i = of-numbered (x .reference) choose _ contig i _
+record-numbered x contig i = of-numbered (x .reference) _ contig i _
 
-contig-numbered : (x : Input) (choose : LetterChoice) (scratch : ℕ) (contig : List ℕ) → Numbered (contigRecords x choose scratch contig)
+contig-numbered : (x : Input) (scratch : ℕ) (contig : List ℕ) → Numbered (contigRecords x scratch contig)
 unfolding contigRecords
-contig-numbered x choose scratch contig =
-    required-numbered 10 _ (omega arith) (then-numbered (order-numbered (intervalRecord x choose contig) (record-numbered x choose contig) (recordIntervals x contig)) λ records. well (coalesceBlocks records))
+contig-numbered x scratch contig =
+    required-numbered 10 _ (omega arith) (then-numbered (order-numbered (intervalRecord x contig) (record-numbered x contig) (recordIntervals x contig)) λ records. well (coalesceBlocks records))
 
-records-numbered : (x : Input) (choose : LetterChoice) (scratch : ℕ) → Numbered (combinedRecords x choose scratch)
+records-numbered : (x : Input) (scratch : ℕ) → Numbered (combinedRecords x scratch)
 unfolding combinedRecords
-records-numbered x choose scratch =
-    then-numbered (order-numbered (contigRecords x choose scratch) (contig-numbered x choose scratch) (contigsOf (x .cohort .sites))) λ records. well (flatten records)
+records-numbered x scratch =
+    then-numbered (order-numbered (contigRecords x scratch) (contig-numbered x scratch) (contigsOf (x .cohort .sites))) λ records. well (flatten records)
 
-pub list-numbered : (t : Texts) (scratch out : ℕ) (choose : LetterChoice) → Numbered (combinedList t scratch out choose)
+pub list-numbered : (t : Texts) (scratch out : ℕ) → Numbered (combinedList t scratch out)
 unfolding combinedList listOf
-list-numbered t scratch out choose =
+list-numbered t scratch out =
     then-numbered (input-numbered t) λ x.
-    then-numbered (then-numbered (records-numbered x choose scratch) λ records. well (printedList (x .cohort .names) records)) λ list.
+    then-numbered (then-numbered (records-numbered x scratch) λ records. well (printedList (x .cohort .names) records)) λ list.
     within-numbered out list
 
 -- ---- a list read back, and called

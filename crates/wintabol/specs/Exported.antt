@@ -12,8 +12,7 @@ use Rattle.answers.specs.declared.Outcome.the-variants as outcome
 use Rattle.definitions.specs.AlleleSubset.{UnusedAltSubset}
 use Rattle.definitions.specs.Answers.{Answer, answerOf, outputAfter, scratchAfter}
 use Rattle.definitions.specs.Checked.{Checked, accepted, isAccepted, refused}
-use Rattle.definitions.specs.ClipAndReference.{LetterChoice}
-use Rattle.definitions.specs.CombinedList.{ChoiceFor, Texts, combinedList}
+use Rattle.definitions.specs.CombinedList.{Texts, combinedList}
 
 abbrev pub answer : ℕ → ℕ → Answer
 answer number written = record { number = number; written = written }
@@ -30,11 +29,9 @@ pub record Exported {A : Type 0} (values : Checked (List A)) (out out′ : List 
   pub accepts : eqb number 0 ≡ isAccepted values
   pub output : out′ ≡ outputAfter values out
 
--- the same for the combined list of these texts, with some choice of reference letters; scratch is zero at the end
+-- the same for the combined list of these texts; scratch is zero at the end
 pub record ExportedList (texts : Texts) (scratch scratch′ out out′ : List ℕ) (number written : ℕ) : Type 0 where
-  pub choose : LetterChoice
-  pub choice : ChoiceFor texts choose
-  pub exported : Exported (combinedList texts (length scratch) (length out) choose) out out′ number written
+  pub exported : Exported (combinedList texts (length scratch) (length out)) out out′ number written
   pub cleared : scratch′ ≡ scratchAfter scratch
 
 -- ---- three outputs

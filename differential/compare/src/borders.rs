@@ -76,6 +76,16 @@ fn many_groups(count: u64) -> Lent {
     call
 }
 
+/// So many reference groups that hold no needed position, and behind them two that hold all of them and disagree everywhere.
+fn two_that_disagree(others: u64) -> Lent {
+    let mut call = many_groups(others + 4);
+    let group = |at: u64, bases: &str| Stretch { contig: "chromosome_of_thirty_two_bytes_5".to_string(), first: at, bases: bases.repeat(16) };
+    let reference = call.reference.get_or_insert_default();
+    reference.truncate(others as usize);
+    reference.extend([group(100_002, "AC"), group(100_000, "GT")]);
+    call
+}
+
 /// Calls that the scope accepts.
 fn accepted() -> Vec<(String, Lent)> {
     let positions = |n: u64| (0..n).map(|i| block((i % 64) as usize, 1 + i / 64 * 2, 1 + i / 64 * 2)).collect();
@@ -94,6 +104,9 @@ fn accepted() -> Vec<(String, Lent)> {
     ];
     for count in [1023, 1024, 1025, 1026, 5000] {
         all.push((format!("{count} reference groups and clip spans"), many_groups(count)));
+    }
+    for others in [0, 1022, 1023, 1024] {
+        all.push((format!("two groups that disagree behind {others} others"), two_that_disagree(others)));
     }
     all
 }

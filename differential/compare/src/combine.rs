@@ -43,6 +43,15 @@ pub fn sort_of(i: u64) -> &'static generate::Profile {
     profile
 }
 
+/// The i-th call: of the sort whose turn it is, and in every second round with reference groups that overlap and disagree.
+pub fn lent_of(i: u64, seed: u64) -> Lent {
+    let lent = generate::lent(sort_of(i), seed);
+    if i / generate::PROFILES.len() as u64 % 2 == 0 {
+        return lent;
+    }
+    generate::patched(&lent, seed)
+}
+
 /// The library's lists of a call against the Rust's: with just enough of output and scratch and a little more, with too little of one,
 /// and with none. Gives back the records and the bytes of the list.
 pub fn hold(library: &mut Library, lent: &Lent, more: usize) -> Result<(usize, usize), String> {
@@ -71,10 +80,9 @@ pub fn compare(seed: u64, count: u64) -> Result<String, String> {
     let mut library = Library::new();
     let (mut records, mut bytes) = (0, 0);
     for i in 0..count {
-        let profile = sort_of(i);
-        let lent = generate::lent(profile, rng::mix(seed ^ rng::mix(i)));
+        let lent = lent_of(i, rng::mix(seed ^ rng::mix(i)));
         let (r, n) = hold(&mut library, &lent, (i % 3) as usize * 7)
-            .map_err(|what| format!("seed {seed}, cohort {i}, sort {}: {what}", profile.name))?;
+            .map_err(|what| format!("seed {seed}, cohort {i}, sort {}: {what}", sort_of(i).name))?;
         records += r;
         bytes += n;
     }

@@ -1,12 +1,11 @@
 //! Demand 3 on the bytes that the compiled library writes: samples put into a cohort change nothing that its list said.
 
-use crate::combine::{breakpoints, sort_of, Texts};
+use crate::combine::{breakpoints, lent_of, Texts};
 use crate::ours::Library;
 use oracle::cohort::{Cohort, Lent};
 use oracle::list::{read_combined, List, ListRecord, ListSample};
 use oracle::rng::{mix, Rng};
 use oracle::text::Rules;
-use oracle::generate;
 
 /// The cohort without the samples that are struck.
 fn without(cohort: &Cohort, struck: &[bool]) -> Cohort {
@@ -98,7 +97,7 @@ pub fn check(seed: u64, count: u64) -> Result<String, String> {
     let (mut pairs, mut records, mut i) = (0, 0, 0);
     while pairs < count {
         let mut rng = Rng::new(mix(seed ^ mix(i)));
-        let second = generate::lent(sort_of(i), rng.any());
+        let second = lent_of(i, rng.any());
         i += 1;
         let samples = second.cohort.samples.len();
         let struck: Vec<bool> = (0..samples).map(|_| rng.chance(40)).collect();

@@ -1,6 +1,7 @@
 //! cohort.kv, clip.kv and reference.kv: read and written.
 
 use crate::text::*;
+use std::collections::BTreeMap;
 use std::fs;
 use std::path::Path;
 
@@ -198,6 +199,30 @@ fn read_clip_span(lines: &mut Lines, rules: Rules) -> Result<ClipSpan, Refusal> 
         return refuse(9, format!("span {} to {}", span.start, span.end));
     }
     Ok(span)
+}
+
+/// The reference with one letter for each position that some group holds, that of the first group in the file: stretches that do not
+/// overlap, by contig and position. The Rust's lookup knows one sequence for each contig, so this is what it is fed.
+pub fn flattened(reference: &[Stretch]) -> Vec<Stretch> {
+    let mut contigs: BTreeMap<&str, BTreeMap<u64, Stretch>> = BTreeMap::new();
+    for group in reference {
+        let parts = contigs.entry(&group.contig).or_default();
+        let behind = group.first + group.bases.len() as u64;
+        let mut at = group.first;
+        while at < behind {
+            // a part that an earlier group gave, up to its end; else a part of this group, up to the next one
+            let before = parts.range(..=at).next_back().map(|(_, p)| p.first + p.bases.len() as u64);
+            if let Some(end) = before.filter(|&end| at < end) {
+                at = end;
+                continue;
+            }
+            let end = parts.range(at..).next().map_or(behind, |(&first, _)| first.min(behind));
+            let bases = &group.bases[(at - group.first) as usize..(end - group.first) as usize];
+            parts.insert(at, Stretch { contig: group.contig.clone(), first: at, bases: bases.to_string() });
+            at = end;
+        }
+    }
+    contigs.into_values().flat_map(BTreeMap::into_values).collect()
 }
 
 pub fn read_reference(text: &str) -> Result<Vec<Stretch>, Refusal> {

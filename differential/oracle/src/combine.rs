@@ -1,6 +1,6 @@
 //! The Rust's `combine_loaded_gvcfs` over the project's texts.
 
-use crate::cohort::{Cohort, Lent, Site};
+use crate::cohort::{flattened, Cohort, Lent, Site};
 use crate::list::{List, ListRecord, ListSample};
 use crate::text::MAX_NUMBER;
 use gatk_haplotypecaller::combine_gvcfs::{combine_loaded_gvcfs, GvcfSite, LoadedGvcf, Span};
@@ -22,7 +22,7 @@ pub fn combine(lent: &Lent) -> Result<List, String> {
         }
         map
     });
-    stand_ins::reference::lend(lent.reference.as_deref().unwrap_or_default());
+    stand_ins::reference::lend(&flattened(lent.reference.as_deref().unwrap_or_default()));
     let path = lent.reference.as_ref().map(|_| Path::new("reference.kv"));
     let records = combine_loaded_gvcfs(&inputs, path, clip.as_ref())
         .map_err(|e| format!("the Rust gives an error: {e}"))?;

@@ -1,7 +1,7 @@
 //! What the scope refuses and the Rust does not: a plain walk over intervals, written from the
 //! scope's rules, that says whether a call is one on which both are compared.
 
-use crate::cohort::{Lent, Site};
+use crate::cohort::{Lent, Site, Stretch};
 use crate::text::*;
 use std::collections::BTreeSet;
 
@@ -88,7 +88,7 @@ fn kept(lent: &Lent, contig: &str, start: u64, end: u64) -> bool {
     }
 }
 
-/// Refusals 11 to 13, and (number 0) reference groups that disagree at a needed position.
+/// Refusals 11 to 13.
 pub fn check(lent: &Lent) -> Result<(), Refusal> {
     for contig in contigs(lent) {
         for interval in intervals(lent, contig) {
@@ -111,25 +111,16 @@ fn check_letter(lent: &Lent, interval: &Interval) -> Result<(), Refusal> {
     if !interval.needs_letter() {
         return Ok(());
     }
-    let letters: BTreeSet<u8> = stretches
-        .iter()
-        .filter(|s| s.contig == interval.contig && s.first <= interval.start)
-        .filter_map(|s| {
-            s.bases
-                .as_bytes()
-                .get((interval.start - s.first) as usize)
-                .copied()
-        })
-        .collect();
-    let place = format!("{}:{}", interval.contig, interval.start);
-    match letters.len() {
-        0 => refuse(11, format!("no reference letter at {place}")),
-        1 => Ok(()),
-        _ => refuse(
-            0,
-            format!("reference groups disagree at {place}: not compared"),
-        ),
+    let holds = |s: &Stretch| {
+        s.contig == interval.contig
+            && s.first <= interval.start
+            && interval.start < s.first + s.bases.len() as u64
+    };
+    if stretches.iter().any(holds) {
+        return Ok(());
     }
+    let place = format!("{}:{}", interval.contig, interval.start);
+    refuse(11, format!("no reference letter at {place}"))
 }
 
 fn check_refs(interval: &Interval) -> Result<(), Refusal> {

@@ -30,6 +30,8 @@ pub struct Profile {
     palette: u64,
     clip: u64,
     reference: u64,
+    /// Reference groups overlap and disagree where a letter is needed.
+    patched: bool,
 }
 
 const PLAIN: Profile = Profile {
@@ -50,9 +52,10 @@ const PLAIN: Profile = Profile {
     palette: 0,
     clip: 30,
     reference: 40,
+    patched: false,
 };
 
-pub const PROFILES: [Profile; 17] = [
+pub const PROFILES: [Profile; 18] = [
     Profile {
         name: "tiny",
         samples: (1, 2),
@@ -193,21 +196,63 @@ pub const PROFILES: [Profile; 17] = [
         tracks: 100,
         ..PLAIN
     },
+    Profile {
+        name: "patched",
+        reference: 100,
+        kinds: [60, 5, 5, 25, 5],
+        patched: true,
+        ..PLAIN
+    },
 ];
 
 pub fn profile(name: &str) -> Option<&'static Profile> {
     PROFILES.iter().find(|p| p.name == name)
 }
 
-/// A call of this sort from the seed. A draw outside the domain is thrown away.
+/// A call of this sort from the seed. A draw outside the domain is thrown away, and so is a patched one that needs no reference letter.
 pub fn lent(profile: &Profile, seed: u64) -> Lent {
     let mut rng = Rng::new(seed);
     loop {
         let drawn = draw(profile, &mut rng);
-        if domain::check(&drawn).is_ok() {
+        if domain::check(&drawn).is_err() {
+            continue;
+        }
+        if !profile.patched {
             return drawn;
         }
+        let more = patched(&drawn, rng.any());
+        if more != drawn {
+            return more;
+        }
     }
+}
+
+/// The same call with up to four groups of any letters put anywhere among those of its reference, most of them over a position whose letter
+/// is needed: then the groups that hold it disagree.
+pub fn patched(lent: &Lent, seed: u64) -> Lent {
+    let mut rng = Rng::new(seed);
+    let mut more = lent.clone();
+    let Some(reference) = &mut more.reference else {
+        return more;
+    };
+    for contig in domain::contigs(lent) {
+        let needed: Vec<u64> = domain::intervals(lent, contig)
+            .iter()
+            .filter(|i| i.needs_letter())
+            .map(|i| i.start)
+            .collect();
+        if needed.is_empty() {
+            continue;
+        }
+        for _ in 0..rng.range(1, 4) {
+            let first = rng.pick(&needed).saturating_sub(rng.below(3)).max(1);
+            let length = rng.range(1, 5).min(MAX_NUMBER - first + 1);
+            let place = rng.below(reference.len() as u64 + 1) as usize;
+            let bases = word(&mut rng, length);
+            reference.insert(place, Stretch { contig: contig.to_string(), first, bases });
+        }
+    }
+    more
 }
 
 fn draw(p: &Profile, rng: &mut Rng) -> Lent {

@@ -14,7 +14,7 @@ use std::fs;
 use std::path::{Path, PathBuf};
 
 /// How many calls of each sort are recorded. "largest" is too large for the recorded files.
-const COHORT_COUNTS: [(&str, usize); 16] = [
+const COHORT_COUNTS: [(&str, usize); 17] = [
     ("tiny", 30),
     ("plain", 50),
     ("contigs", 25),
@@ -31,6 +31,7 @@ const COHORT_COUNTS: [(&str, usize); 16] = [
     ("broad", 8),
     ("wide", 5),
     ("deep", 5),
+    ("patched", 4),
 ];
 const GENERATED_LISTS: usize = 130;
 const GROUPS_OF_EACH: usize = 150;
