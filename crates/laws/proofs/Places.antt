@@ -1,0 +1,303 @@
+-- Places: a number of 64 bits that holds a position above and, in its lower 32 bits, 2^31 with the change of depth there. Places of one
+-- position are joined into one, their changes added. Sorted and joined they are `places` (`join-sorted`): for each position in ascending
+-- order the place with all changes there. Joining some of them earlier changes nothing (`places-again`), nor does leaving out positions
+-- before or after (`places-filter`).
+use Prim.Native.Nat.{Ordering, Ordering·eq, Ordering·gt, Ordering·lt, _*_, _+_, _-_, _/_, _%_, _<_, _≤_, compare, suc, ℕ}
+use borrow.Author.Tests.{eq-eqb, eqb-false, eqb-true, ne-eqb}
+use lib.Dec.{eqb, leb}
+use lib.ListN.{length}
+use mathlib.Core.Bool.{Bool, cond, false, true}
+use mathlib.Core.List.{List, List·Memᴰ·head, List·Memᴰ·not-nil, List·Memᴰ·tail, Memᴰ·map, [], _++_, _∷_, foldr, map}
+use mathlib.Core.Path.{_∙_, _≡_, ap, refl, subst, sym}
+use native.Mathlib.Omega.{arith}
+use Rattle.definitions.specs.Lists.{anyOf, ascending, byOrder, filterBy, insertNew}
+use Rattle.laws.proofs.Every.{Every, Pairwise, alone, also, before-all, every-all, every-map, every-member, every-of, every-of-map, map-every, nothing, pairwise-head}
+use Rattle.laws.proofs.Members.{_∈_, cons-cases, filter-map, member-map}
+use Rattle.laws.proofs.Orders.{ascending-member, ascending-numbers, ascending-same, compare-eq, compare-gt, compare-lt, every-ascending, filter-ascending, member-ascending}
+use Rattle.laws.proofs.Sorted.{insert, member-sorted, sorted, sorted-ascends, sorted-member}
+
+-- the lower part of a place where the depth does not change: 2^31
+abbrev pub noChange : ℕ
+noChange = 2147483648
+
+-- the position of a place
+abbrev pub position : ℕ → ℕ
+position e = e / 4294967296
+
+-- 2^31 and the change of depth there
+abbrev pub lowPart : ℕ → ℕ
+lowPart e = e % 4294967296
+
+-- the place of a position with this lower part
+abbrev pub placeAt : ℕ → ℕ → ℕ
+placeAt p low = p * 4294967296 + low
+
+-- a place with the change of another of its position added
+abbrev pub joined : ℕ → ℕ → ℕ
+joined a b = a + lowPart b - noChange
+
+-- a place in front of joined ones
+unfoldable pub joinFirst : ℕ → List ℕ → List ℕ
+joinFirst a [] = a ∷ []
+joinFirst a (b ∷ l) = cond (eqb (position a) (position b)) (joined a b ∷ l) (a ∷ b ∷ l)
+
+-- the places, neighbours of one position joined
+unfoldable pub joinPlaces : List ℕ → List ℕ
+joinPlaces = foldr joinFirst []
+
+-- 2^31 and all changes at a position
+unfoldable pub lowAt : ℕ → List ℕ → ℕ
+lowAt p = foldr (λ e low. cond (eqb (position e) p) (low + lowPart e - noChange) low) noChange
+
+-- for each position in ascending order, the place with all changes there
+unfoldable pub places : List ℕ → List ℕ
+places es = map (λ p. placeAt p (lowAt p es)) (ascending compare (map position es))
+
+-- how much a place changes the depth, up or down
+abbrev pub weight : ℕ → ℕ
+weight e = (lowPart e - noChange) + (noChange - lowPart e)
+
+-- how much all of them could change it; below 2^31 no sum of changes leaves the lower part
+unfoldable pub weights : List ℕ → ℕ
+weights = foldr (λ e w. weight e + w) 0
+
+-- ---- the parts of a place
+
+pub position-at : (p low : ℕ) → low < 4294967296 → position (placeAt p low) ≡ p
+position-at p low h = omega arith
+
+pub low-part-at : (p low : ℕ) → low < 4294967296 → lowPart (placeAt p low) ≡ low
+low-part-at p low h = omega arith
+
+pub parts : (e : ℕ) → placeAt (position e) (lowPart e) ≡ e
+parts e = omega arith
+
+position-up : (a b : ℕ) → a ≤ b → position a ≤ position b
+position-up a b h = omega arith
+
+-- ---- all changes at a position
+
+low-here : (p e : ℕ) (es : List ℕ) → position e ≡ p → lowAt p (e ∷ es) ≡ lowAt p es + lowPart e - noChange
+unfolding lowAt
+low-here p e es h = rw (eq-eqb (position e) p h)
+
+low-other : (p e : ℕ) (es : List ℕ) → (position e ≡ p → ⊥) → lowAt p (e ∷ es) ≡ lowAt p es
+unfolding lowAt
+low-other p e es h = rw (ne-eqb (position e) p h)
+
+-- it is not farther from 2^31 than the weight of all
+pub low-near : (p : ℕ) (es : List ℕ) → (lowAt p es ≤ noChange + weights es) × (noChange ≤ lowAt p es + weights es)
+unfolding lowAt weights
+low-near p [] = (omega arith, omega arith)
+low-near p (e ∷ es) = go (eqb (position e) p) (low-near p es)
+  where
+    go : (b : Bool) → (lowAt p es ≤ noChange + weights es) × (noChange ≤ lowAt p es + weights es)
+        → let low = cond b (lowAt p es + lowPart e - noChange) (lowAt p es) in
+        (low ≤ noChange + (weight e + weights es)) × (noChange ≤ low + (weight e + weights es))
+    go true (h, k) = (omega arith, omega arith)
+    go false (h, k) = (omega arith, omega arith)
+
+-- where no place is, the depth does not change
+pub low-absent : (p : ℕ) (es : List ℕ) → Every (λ e. position e ≡ p → ⊥) es → lowAt p es ≡ noChange
+unfolding lowAt
+low-absent p [] h = refl
+low-absent p (e ∷ es) (also h hs) = low-other p e es h ∙ low-absent p es hs
+
+-- with a weight below 2^31 nothing is lost in taking 2^31 away
+enough : (low part w : ℕ) → noChange ≤ low + w → (part - noChange) + (noChange - part) + w < noChange → noChange ≤ low + part
+enough low part w h k = omega arith
+
+swapped : (low a b : ℕ) → noChange ≤ low + a → noChange ≤ low + b
+    → low + b - noChange + a - noChange ≡ low + a - noChange + b - noChange
+swapped low a b h k = omega arith
+
+-- two places in the other order
+low-swap : (p a b : ℕ) (es : List ℕ) → weights (a ∷ b ∷ es) < noChange → lowAt p (a ∷ b ∷ es) ≡ lowAt p (b ∷ a ∷ es)
+unfolding lowAt weights
+low-swap p a b es h = go (eqb (position a) p) (eqb (position b) p) (low-near p es)
+  where
+    low : ℕ
+    low = lowAt p es
+
+    go : (s t : Bool) → (low ≤ noChange + weights es) × (noChange ≤ low + weights es)
+        → let l = cond t (low + lowPart b - noChange) low in
+        let m = cond s (low + lowPart a - noChange) low in
+        cond s (l + lowPart a - noChange) l ≡ cond t (m + lowPart b - noChange) m
+    go true true (u, v) =
+        swapped low (lowPart a) (lowPart b)
+        (enough low (lowPart a) (weights es) v (omega arith)) (enough low (lowPart b) (weights es) v (omega arith))
+    go true false (u, v) = refl
+    go false true (u, v) = refl
+    go false false (u, v) = refl
+
+weights-append : (l m : List ℕ) → weights (l ++ m) ≡ weights l + weights m
+unfolding weights
+weights-append [] m = omega arith
+weights-append (e ∷ l) m = omega (arith, weights-append l m)
+
+weights-insert : (x : ℕ) (l : List ℕ) → weights (insert x l) ≡ weights (x ∷ l)
+unfolding weights insert
+weights-insert x [] = refl
+weights-insert x (y ∷ l) = go (leb x y) (weights-insert x l)
+  where
+    go : (b : Bool) → weights (insert x l) ≡ weight x + weights l
+        → weights (cond b (x ∷ y ∷ l) (y ∷ insert x l)) ≡ weight x + (weight y + weights l)
+    go true e = refl
+    go false e = omega arith
+
+pub weights-sorted : (l : List ℕ) → weights (sorted l) ≡ weights l
+unfolding sorted weights
+weights-sorted [] = refl
+weights-sorted (x ∷ l) = weights-insert x (sorted l) ∙ ap (λ (w : ℕ). weight x + w) (weights-sorted l)
+
+-- each with the same place in front
+low-under : (p e : ℕ) (l m : List ℕ) → lowAt p l ≡ lowAt p m → lowAt p (e ∷ l) ≡ lowAt p (e ∷ m)
+unfolding lowAt
+low-under p e l m h = ap (λ (low : ℕ). cond (eqb (position e) p) (low + lowPart e - noChange) low) h
+
+low-insert : (p x : ℕ) (l : List ℕ) → weights (x ∷ l) < noChange → lowAt p (insert x l) ≡ lowAt p (x ∷ l)
+unfolding insert
+low-insert p x [] h = refl
+low-insert p x (y ∷ l) h = go (leb x y) (low-insert p x l (unfold weights in omega arith))
+  where
+    go : (b : Bool) → lowAt p (insert x l) ≡ lowAt p (x ∷ l)
+        → lowAt p (cond b (x ∷ y ∷ l) (y ∷ insert x l)) ≡ lowAt p (x ∷ y ∷ l)
+    go true e = refl
+    go false e = low-under p y (insert x l) (x ∷ l) e ∙ low-swap p y x l (unfold weights in omega arith)
+
+low-sorted : (p : ℕ) (es : List ℕ) → weights es < noChange → lowAt p (sorted es) ≡ lowAt p es
+unfolding sorted
+low-sorted p [] h = refl
+low-sorted p (x ∷ l) h =
+    low-insert p x (sorted l) (unfold weights in omega (arith, weights-sorted l))
+    ∙ low-under p x (sorted l) l (low-sorted p l (unfold weights in omega arith))
+
+-- ---- places by position
+
+-- the place of a position, with all changes of these places
+abbrev of : List ℕ → ℕ → ℕ
+of es p = placeAt p (lowAt p es)
+
+module _ (es : List ℕ) (light : weights es < noChange) where
+  low-fits : (p : ℕ) → lowAt p es < 4294967296
+  low-fits p = let (h, k) = low-near p es in omega arith
+
+  position-of : (p : ℕ) → position (of es p) ≡ p
+  position-of p = position-at p (lowAt p es) (low-fits p)
+
+  low-of : (p : ℕ) → lowPart (of es p) ≡ lowAt p es
+  low-of p = low-part-at p (lowAt p es) (low-fits p)
+
+  positions-of : (ps : List ℕ) → map position (map (of es) ps) ≡ ps
+  positions-of [] = refl
+  positions-of (p ∷ ps) = rw (position-of p) (ap (λ (l : List ℕ). p ∷ l) (positions-of ps))
+
+-- places with the same positions and the same changes
+pub places-same : (es fs : List ℕ) → ((p : ℕ) → p ∈ map position es → p ∈ map position fs)
+    → ((p : ℕ) → p ∈ map position fs → p ∈ map position es) → ((p : ℕ) → lowAt p es ≡ lowAt p fs)
+    → places es ≡ places fs
+unfolding places
+places-same es fs f g h =
+    map-every (every-all (λ p. ap (placeAt p) (h p)) (ascending compare (map position es)))
+    ∙ ap (map (of fs)) (ascending-same (map position es) (map position fs) f g)
+
+-- ---- one place more
+
+module _ (a : ℕ) (l : List ℕ) (light : weights (a ∷ l) < noChange) where
+  behind-light : weights l < noChange
+  behind-light = unfold weights in omega arith
+
+  -- it changes nothing at other positions
+  others : {ps : List ℕ} → Every (λ p. position a ≡ p → ⊥) ps → map (of l) ps ≡ map (of (a ∷ l)) ps
+  others h = map-every (every-map (λ p k. ap (placeAt p) (sym (low-other p a l k))) h)
+
+  -- alone at its position it is the place there
+  alone-of : Every (λ e. position e ≡ position a → ⊥) l → of (a ∷ l) (position a) ≡ a
+  alone-of h =
+      let none-there = low-absent (position a) l h in
+      let low : lowAt (position a) (a ∷ l) ≡ lowPart a = low-here (position a) a l refl ∙ omega arith in
+      ap (placeAt (position a)) low ∙ parts a
+
+  -- with those of its position
+  joined-of : joined a (of l (position a)) ≡ of (a ∷ l) (position a)
+  joined-of =
+      let (h, k) = low-near (position a) l in
+      let room = enough (lowAt (position a) l) (lowPart a) (weights l) k (unfold weights in omega arith) in
+      rw (low-of l behind-light (position a), low-here (position a) a l refl) (omega (arith, parts a))
+
+  -- behind it stand places of its position or later ones
+  module _ (up : Every (λ e. position a ≤ position e) l) where
+    join-front : joinFirst a (map (of l) (ascending compare (map position l)))
+        ≡ map (of (a ∷ l)) (insertNew compare (position a) (ascending compare (map position l)))
+    unfolding joinFirst insertNew byOrder
+    join-front = go (ascending compare (map position l)) (ascending-numbers (map position l))
+        (every-ascending compare _ (every-of-map position up))
+        (every-of l (λ e m. ascending-member compare compare-eq _ (Memᴰ·map position m)))
+      where
+        joins : (q : ℕ) (r : List ℕ) → Pairwise _<_ (q ∷ r) → position a ≤ q → Every (λ e. position e ∈ q ∷ r) l
+            → (o : Ordering) → compare (position a) q ≡ o
+            → joinFirst a (map (of l) (q ∷ r)) ≡ map (of (a ∷ l)) (byOrder o (position a ∷ q ∷ r) (q ∷ r) (q ∷ insertNew compare (position a) r))
+        joins q r k h there Ordering·lt e =
+            let less = compare-lt (position a) q e in
+            let past : Every (λ p. position a < p) (q ∷ r) = also less (every-map (λ p m. omega arith) (pairwise-head k)) in
+            let apart : Every (λ e. position e ≡ position a → ⊥) l =
+            every-map (λ e m same. let f = every-member m past in omega arith) there in
+            rw (position-of l behind-light q, ne-eqb (position a) q (λ same. omega arith))
+            (ap (λ (z : ℕ). z ∷ map (of l) (q ∷ r)) (sym (alone-of apart))
+            ∙ ap (λ (z : List ℕ). of (a ∷ l) (position a) ∷ z) (others (every-map (λ p m same. omega arith) past)))
+        joins q r k h there Ordering·eq e =
+            let same = compare-eq (position a) q e in
+            let first : joined a (of l q) ≡ of (a ∷ l) q = rw (← same) joined-of in
+            rw (position-of l behind-light q, eq-eqb (position a) q same)
+            (ap (λ (z : ℕ). z ∷ map (of l) r) first
+            ∙ ap (λ (z : List ℕ). of (a ∷ l) q ∷ z) (others (every-map (λ p m same. omega arith) (pairwise-head k))))
+        joins q r k h there Ordering·gt e = let b = compare-gt (position a) q e in absurd (omega arith)
+
+        go : (qs : List ℕ) → Pairwise _<_ qs → Every (λ q. position a ≤ q) qs → Every (λ e. position e ∈ qs) l
+            → joinFirst a (map (of l) qs) ≡ map (of (a ∷ l)) (insertNew compare (position a) qs)
+        go [] k h there = ap (λ (z : ℕ). z ∷ []) (sym (alone-of (every-map (λ e m same. List·Memᴰ·not-nil m) there)))
+        go (q ∷ r) k (also h hs) there = joins q r k h there (compare (position a) q) refl
+
+-- ---- sorted and joined
+
+pub join-ascending : {l : List ℕ} → Pairwise _≤_ l → weights l < noChange → joinPlaces l ≡ places l
+unfolding joinPlaces places ascending
+join-ascending alone light = refl
+join-ascending (before-all {x = a} {xs = l} h hs) light =
+    ap (joinFirst a) (join-ascending hs (behind-light a l light)) ∙ join-front a l light (every-map (position-up a) h)
+
+-- positions of places
+position-member : (l m : List ℕ) → ((e : ℕ) → e ∈ l → e ∈ m) → (p : ℕ) → p ∈ map position l → p ∈ map position m
+position-member l m f p n =
+    let (e, k, same) = member-map position l n in
+    subst (λ (q : ℕ). q ∈ map position m) (sym same) (Memᴰ·map position (f e k))
+
+pub places-sorted : (es : List ℕ) → weights es < noChange → places (sorted es) ≡ places es
+places-sorted es light =
+    places-same (sorted es) es (position-member (sorted es) es (λ e. member-sorted es)) (position-member es (sorted es) (λ e. sorted-member es))
+    (λ p. low-sorted p es light)
+
+-- places that are sorted and joined
+pub join-sorted : (es : List ℕ) → weights es < noChange → joinPlaces (sorted es) ≡ places es
+join-sorted es light =
+    let still : weights (sorted es) < noChange = rw (weights-sorted es) light in
+    join-ascending (sorted-ascends es) still ∙ places-sorted es light
+
+-- ---- joined again, with more
+
+low-append : (p : ℕ) (l m : List ℕ) → weights (l ++ m) < noChange → lowAt p (l ++ m) + noChange ≡ lowAt p l + lowAt p m
+unfolding lowAt
+low-append p [] m light = omega arith
+low-append p (e ∷ l) m light = go (eqb (position e) p) (low-append p l m (behind-light e (l ++ m) light))
+  where
+    go : (b : Bool) → lowAt p (l ++ m) + noChange ≡ lowAt p l + lowAt p m
+        → cond b (lowAt p (l ++ m) + lowPart e - noChange) (lowAt p (l ++ m)) + noChange
+        ≡ cond b (lowAt p l + lowPart e - noChange) (lowAt p l) + lowAt p m
+    go true h =
+        let (s, t) = low-near p (l ++ m) in
+        let (u, v) = low-near p l in
+        let all = weights-append l m in
+        let a = enough (lowAt p (l ++ m)) (lowPart e) (weights (l ++ m)) t (unfold weights in omega arith) in
+        let b = enough (lowAt p l) (lowPart e) (weights l) v (unfold weights in omega arith) in
+        omega arith
+    go false h = h
