@@ -7,14 +7,17 @@ use borrow.Author.Tests.{eq-eqb, eqb-false, eqb-true, ne-eqb}
 use lib.Dec.{eqb, leb}
 use lib.ListN.{length}
 use mathlib.Core.Bool.{Bool, cond, false, true}
-use mathlib.Core.List.{List, List·Memᴰ·head, List·Memᴰ·not-nil, List·Memᴰ·tail, Memᴰ·map, [], _++_, _∷_, foldr, map}
+use mathlib.Core.List.{List, List·Memᴰ·append-cases, List·Memᴰ·not-nil, Memᴰ·append-left, Memᴰ·append-right, Memᴰ·map, [], _++_, _∷_, foldr, map, map-append}
+use mathlib.Core.Logic.{⊎-elim}
 use mathlib.Core.Path.{_∙_, _≡_, ap, refl, subst, sym}
+use native.Mathlib.Decide.{ℕ-discrete}
 use native.Mathlib.Omega.{arith}
 use Rattle.definitions.specs.Lists.{anyOf, ascending, byOrder, filterBy, insertNew}
-use Rattle.laws.proofs.Every.{Every, Pairwise, alone, also, before-all, every-all, every-map, every-member, every-of, every-of-map, map-every, nothing, pairwise-head}
-use Rattle.laws.proofs.Members.{_∈_, cons-cases, filter-map, member-map}
+use Rattle.laws.proofs.Every.{Every, Pairwise, alone, also, before-all, every-all, every-fails, every-map, every-member, every-of, every-of-map, every-of-map-back, filter-passes, map-every, nothing, pairwise-head}
+use Rattle.laws.proofs.Members.{_∈_, any-member, cons-cases, filter-map, filter-no, filter-same, filter-yes, member-map}
 use Rattle.laws.proofs.Orders.{ascending-member, ascending-numbers, ascending-same, compare-eq, compare-gt, compare-lt, every-ascending, filter-ascending, member-ascending}
 use Rattle.laws.proofs.Sorted.{insert, member-sorted, sorted, sorted-ascends, sorted-member}
+use Rattle.laws.proofs.Tests.{told-apart}
 
 -- the lower part of a place where the depth does not change: 2^31
 abbrev pub noChange : ℕ
@@ -301,3 +304,141 @@ low-append p (e ∷ l) m light = go (eqb (position e) p) (low-append p l m (behi
         let b = enough (lowAt p l) (lowPart e) (weights l) v (unfold weights in omega arith) in
         omega arith
     go false h = h
+
+-- at each position the changes of all places are those of the joined ones
+module _ (p : ℕ) (es : List ℕ) (light : weights es < noChange) where
+  low-of-all : {qs : List ℕ} → Pairwise _<_ qs → p ∈ qs → lowAt p (map (of es) qs) ≡ lowAt p es
+  low-of-all alone m = absurd (List·Memᴰ·not-nil m)
+  low-of-all (before-all {x = q} {xs = r} h hs) m = cons-cases m here (λ n. other n (low-of-all hs n))
+    where
+      here : p ≡ q → lowAt p (of es q ∷ map (of es) r) ≡ lowAt p es
+      here same =
+          let apart : Every (λ e. position e ≡ p → ⊥) (map (of es) r) =
+          every-of-map (of es) (every-map (λ b k at. let is = position-of es light b in omega arith) h) in
+          let at-q : position (of es q) ≡ p = position-of es light q ∙ sym same in
+          low-here p (of es q) (map (of es) r) at-q
+          ∙ omega (arith, low-absent p (map (of es) r) apart, low-of es light q, ap (λ (b : ℕ). lowAt b es) same)
+
+      other : p ∈ r → lowAt p (map (of es) r) ≡ lowAt p es → lowAt p (of es q ∷ map (of es) r) ≡ lowAt p es
+      other n below =
+          let k = every-member n h in
+          low-other p (of es q) (map (of es) r) (λ at. let is = position-of es light q in omega arith) ∙ below
+
+  pub low-places : lowAt p (places es) ≡ lowAt p es
+  unfolding places
+  low-places = go (anyOf (eqb p) (map position es)) refl
+    where
+      qs : List ℕ
+      qs = ascending compare (map position es)
+
+      go : (b : Bool) → anyOf (eqb p) (map position es) ≡ b → lowAt p (map (of es) qs) ≡ lowAt p es
+      go true e =
+          let (a, m, same) = any-member (eqb p) (map position es) e in
+          low-of-all (ascending-numbers (map position es))
+          (subst (λ (b : ℕ). b ∈ qs) (sym (eqb-true p a same)) (ascending-member compare compare-eq _ m))
+      go false e =
+          let apart : Every (λ b. b ≡ p → ⊥) (map position es) =
+          every-map (λ b k at. eqb-false p b k (sym at)) (every-fails (eqb p) (map position es) e) in
+          low-absent p (map (of es) qs) (every-of-map (of es) (every-map (λ b k at. k (sym (position-of es light b) ∙ at))
+          (every-ascending compare _ apart)))
+          ∙ sym (low-absent p es (every-of-map-back position es apart))
+
+-- two changes together are no more than each by itself
+together : (x y z : ℕ) → z + noChange ≡ x + y
+    → (z - noChange) + (noChange - z) ≤ ((y - noChange) + (noChange - y)) + ((x - noChange) + (noChange - x))
+together x y z h = omega arith
+
+weights-none : (qs : List ℕ) → weights (map (of []) qs) ≡ 0
+unfolding weights lowAt
+weights-none [] = refl
+weights-none (q ∷ qs) = omega (arith, weights-none qs, low-part-at q noChange (omega arith))
+
+-- one place more
+weights-one : (a : ℕ) (l : List ℕ) → weights (a ∷ l) < noChange → {qs : List ℕ} → Pairwise _<_ qs
+    → weights (map (of (a ∷ l)) qs) ≤ weight a + weights (map (of l) qs)
+unfolding weights
+weights-one a l light alone = omega arith
+weights-one a l light (before-all {x = q} {xs = r} h hs) = go (ℕ-discrete (position a) q) (weights-one a l light hs)
+  where
+    go : Dec (position a ≡ q) → weights (map (of (a ∷ l)) r) ≤ weight a + weights (map (of l) r)
+        → weight (of (a ∷ l) q) + weights (map (of (a ∷ l)) r) ≤ weight a + (weight (of l q) + weights (map (of l) r))
+    go (yes same) below =
+        let rest : map (of l) r ≡ map (of (a ∷ l)) r = others a l light (every-map (λ p k at. omega arith) h) in
+        let (u, v) = low-near q l in
+        let room = enough (lowAt q l) (lowPart a) (weights l) v (omega arith) in
+        let sum : lowPart (of (a ∷ l) q) + noChange ≡ lowPart (of l q) + lowPart a =
+        omega (arith, low-of (a ∷ l) light q, low-here q a l same, low-of l (behind-light a l light) q) in
+        rw (← rest) (omega (arith, together (lowPart (of l q)) (lowPart a) (lowPart (of (a ∷ l) q)) sum))
+    go (no apart) below = rw (low-other q a l apart) (omega arith)
+
+weights-of : (es : List ℕ) → weights es < noChange → {qs : List ℕ} → Pairwise _<_ qs → weights (map (of es) qs) ≤ weights es
+unfolding weights
+weights-of [] light {qs} h = omega (arith, weights-none qs)
+weights-of (a ∷ l) light h = omega (arith, weights-one a l light h, weights-of l (behind-light a l light) h)
+
+-- joined places weigh no more
+pub weights-places : (es : List ℕ) → weights es < noChange → weights (places es) ≤ weights es
+unfolding places
+weights-places es light = weights-of es light (ascending-numbers (map position es))
+
+-- the positions of joined places
+pub places-positions : (es : List ℕ) → weights es < noChange → map position (places es) ≡ ascending compare (map position es)
+unfolding places
+places-positions es light = positions-of es light (ascending compare (map position es))
+
+-- joining some of the places first changes nothing
+pub places-again : (l r : List ℕ) → weights (l ++ r) < noChange → places (places l ++ r) ≡ places (l ++ r)
+places-again l r light = places-same (places l ++ r) (l ++ r) forth back low
+  where
+    light-l : weights l < noChange
+    light-l = omega (arith, weights-append l r)
+
+    light-again : weights (places l ++ r) < noChange
+    light-again = omega (arith, weights-append l r, weights-append (places l) r, weights-places l light-l)
+
+    forth : (p : ℕ) → p ∈ map position (places l ++ r) → p ∈ map position (l ++ r)
+    forth p m = rw (map-append position l r)
+        (⊎-elim (λ (n : p ∈ map position (places l)).
+        Memᴰ·append-left _ (member-ascending compare _ (subst (λ (k : List ℕ). p ∈ k) (places-positions l light-l) n)))
+        (λ (n : p ∈ map position r). Memᴰ·append-right (map position l) n)
+        (List·Memᴰ·append-cases (map position (places l)) (subst (λ (k : List ℕ). p ∈ k) (map-append position (places l) r) m)))
+
+    back : (p : ℕ) → p ∈ map position (l ++ r) → p ∈ map position (places l ++ r)
+    back p m = rw (map-append position (places l) r, places-positions l light-l)
+        (⊎-elim (λ (n : p ∈ map position l). Memᴰ·append-left _ (ascending-member compare compare-eq _ n))
+        (λ (n : p ∈ map position r). Memᴰ·append-right (ascending compare (map position l)) n)
+        (List·Memᴰ·append-cases (map position l) (subst (λ (k : List ℕ). p ∈ k) (map-append position l r) m)))
+
+    low : (p : ℕ) → lowAt p (places l ++ r) ≡ lowAt p (l ++ r)
+    low p = omega (arith, low-append p (places l) r light-again, low-append p l r light, low-places p l light-l)
+
+-- ---- positions left out
+
+-- the changes at a position that is kept
+low-filter : (q : ℕ → Bool) (p : ℕ) (es : List ℕ) → q p ≡ true → lowAt p (filterBy (λ e. q (position e)) es) ≡ lowAt p es
+low-filter q p [] h = unfold filterBy in refl
+low-filter q p (e ∷ es) h = go (q (position e)) refl (low-filter q p es h)
+  where
+    kept : List ℕ → List ℕ
+    kept = filterBy (λ e. q (position e))
+
+    go : (b : Bool) → q (position e) ≡ b → lowAt p (kept es) ≡ lowAt p es → lowAt p (kept (e ∷ es)) ≡ lowAt p (e ∷ es)
+    go true k r = rw (filter-yes (λ e. q (position e)) e es k) (low-under p e (kept es) es r)
+    go false k r =
+        rw (filter-no (λ e. q (position e)) e es k) (r ∙ sym (low-other p e es (λ at. told-apart q h k (sym at))))
+
+-- positions left out before or after joining
+pub places-filter : (q : ℕ → Bool) (es : List ℕ) → weights es < noChange
+    → filterBy (λ e. q (position e)) (places es) ≡ places (filterBy (λ e. q (position e)) es)
+unfolding places
+places-filter q es light =
+    let test : ℕ → Bool = λ e. q (position e) in
+    let kept = filterBy test es in
+    let ps = ascending compare (map position es) in
+    let left : filterBy (λ p. q (position (of es p))) ps ≡ ascending compare (map position kept) =
+    filter-same (λ p. q (position (of es p))) q ps (λ p m. ap q (position-of es light p))
+    ∙ filter-ascending q (map position es) ∙ ap (ascending compare) (filter-map position q es) in
+    let passed : Every (λ p. q p ≡ true) (ascending compare (map position kept)) =
+    every-ascending compare _ (every-of-map position (filter-passes test es)) in
+    filter-map (of es) test ps ∙ ap (map (of es)) left
+    ∙ map-every (every-map (λ p h. ap (placeAt p) (sym (low-filter q p es h))) passed)
