@@ -43,7 +43,7 @@ Bounded all = Every (λ c. (c .start ∈ all) × (suc (c .end) ∈ all))
 -- ---- counts
 
 -- 1 for a test that passes
-abbrev one : Bool → ℕ
+abbrev pub one : Bool → ℕ
 one b = cond b 1 0
 
 module _ {A : Type 0} where
@@ -58,7 +58,7 @@ module _ {A : Type 0} where
       go true r = sym (lt-ltb 0 (suc (length (filterBy p l))) (omega arith))
       go false r = r
 
-  count-cons : (p : A → Bool) (x : A) (l : List A) → length (filterBy p (x ∷ l)) ≡ one (p x) + length (filterBy p l)
+  pub count-cons : (p : A → Bool) (x : A) (l : List A) → length (filterBy p (x ∷ l)) ≡ one (p x) + length (filterBy p l)
   unfolding filterBy
   count-cons p x l = go (p x)
     where

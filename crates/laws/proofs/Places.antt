@@ -88,6 +88,11 @@ low-other : (p e : ℕ) (es : List ℕ) → (position e ≡ p → ⊥) → lowAt
 unfolding lowAt
 low-other p e es h = rw (ne-eqb (position e) p h)
 
+pub low-place : (p b low : ℕ) (es : List ℕ) → low < 4294967296
+    → lowAt p (placeAt b low ∷ es) ≡ cond (eqb b p) (lowAt p es + low - noChange) (lowAt p es)
+unfolding lowAt
+low-place p b low es h = rw (position-at b low h, low-part-at b low h)
+
 -- it is not farther from 2^31 than the weight of all
 pub low-near : (p : ℕ) (es : List ℕ) → (lowAt p es ≤ noChange + weights es) × (noChange ≤ lowAt p es + weights es)
 unfolding lowAt weights
@@ -133,7 +138,7 @@ low-swap p a b es h = go (eqb (position a) p) (eqb (position b) p) (low-near p e
     go false true (u, v) = refl
     go false false (u, v) = refl
 
-weights-append : (l m : List ℕ) → weights (l ++ m) ≡ weights l + weights m
+pub weights-append : (l m : List ℕ) → weights (l ++ m) ≡ weights l + weights m
 unfolding weights
 weights-append [] m = omega arith
 weights-append (e ∷ l) m = omega (arith, weights-append l m)
@@ -288,7 +293,7 @@ join-sorted es light =
 
 -- ---- joined again, with more
 
-low-append : (p : ℕ) (l m : List ℕ) → weights (l ++ m) < noChange → lowAt p (l ++ m) + noChange ≡ lowAt p l + lowAt p m
+pub low-append : (p : ℕ) (l m : List ℕ) → weights (l ++ m) < noChange → lowAt p (l ++ m) + noChange ≡ lowAt p l + lowAt p m
 unfolding lowAt
 low-append p [] m light = omega arith
 low-append p (e ∷ l) m light = go (eqb (position e) p) (low-append p l m (behind-light e (l ++ m) light))
