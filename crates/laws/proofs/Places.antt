@@ -7,7 +7,7 @@ use borrow.Author.Tests.{eq-eqb, eqb-false, eqb-true, ne-eqb}
 use lib.Dec.{eqb, leb}
 use lib.ListN.{length}
 use mathlib.Core.Bool.{Bool, cond, false, true}
-use mathlib.Core.List.{List, List·Memᴰ·append-cases, List·Memᴰ·not-nil, Memᴰ·append-left, Memᴰ·append-right, Memᴰ·map, [], _++_, _∷_, foldr, map, map-append}
+use mathlib.Core.List.{List, List·Memᴰ·append-cases, List·Memᴰ·not-nil, Memᴰ·append-left, Memᴰ·append-right, Memᴰ·map, [], _++_, _∷_, append-nil, foldr, map, map-append}
 use mathlib.Core.Logic.{⊎-elim}
 use mathlib.Core.Path.{_∙_, _≡_, ap, refl, subst, sym}
 use native.Mathlib.Decide.{ℕ-discrete}
@@ -391,6 +391,9 @@ pub places-positions : (es : List ℕ) → weights es < noChange → map positio
 unfolding places
 places-positions es light = positions-of es light (ascending compare (map position es))
 
+pub join-ascends : (es : List ℕ) → weights es < noChange → Pairwise _<_ (map position (joinPlaces (sorted es)))
+join-ascends es light = rw (join-sorted es light, places-positions es light) (ascending-numbers (map position es))
+
 -- joining some of the places first changes nothing
 pub places-again : (l r : List ℕ) → weights (l ++ r) < noChange → places (places l ++ r) ≡ places (l ++ r)
 places-again l r light = places-same (places l ++ r) (l ++ r) forth back low
@@ -416,6 +419,11 @@ places-again l r light = places-same (places l ++ r) (l ++ r) forth back low
 
     low : (p : ℕ) → lowAt p (places l ++ r) ≡ lowAt p (l ++ r)
     low p = omega (arith, low-append p (places l) r light-again, low-append p l r light, low-places p l light-l)
+
+pub places-places : (es : List ℕ) → weights es < noChange → places (places es) ≡ places es
+places-places es light =
+    let same : weights (es ++ []) < noChange = rw (append-nil es) light in
+    ap places (sym (append-nil (places es))) ∙ places-again es [] same ∙ ap places (append-nil es)
 
 -- ---- positions left out
 
