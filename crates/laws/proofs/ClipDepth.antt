@@ -11,7 +11,8 @@ use mathlib.Core.Path.{_∙_, _≡_, ap, refl, sym}
 use native.Mathlib.Decide.{decLt, ℕ-discrete}
 use native.Mathlib.Omega.{arith}
 use Rattle.definitions.specs.ClipAndReference.{Span}
-use Rattle.definitions.specs.Intervals.{inClip, spanBreakpoints, spansOn}
+use Rattle.definitions.specs.Cohort.{Site}
+use Rattle.definitions.specs.Intervals.{breakpoints, inClip, siteBreakpoints, sitesOn, spanBreakpoints, spansOn}
 use Rattle.definitions.specs.Lists.{anyOf, ascending, filterBy, isThere}
 use Rattle.laws.proofs.Every.{Every, IfThere, Pairwise, also, every-both, every-filter, every-map, every-member, every-of, nothing}
 use Rattle.laws.proofs.Members.{_∈_, filter-none, filter-same, flatMap-member}
@@ -189,6 +190,11 @@ spans-bounded bs spans =
     bound : (c : Span) → c ∈ spans → (p : ℕ) → p ∈ spanBreakpoints c → p ∈ ascending compare (bs ++ flatMap spanBreakpoints spans)
     bound c m p n =
         ascending-member compare compare-eq _ (Memᴰ·append-right bs (flatMap-member spanBreakpoints spans m n))
+
+pub breakpoints-bounded : (sites : List Site) (clip : Option (List Span)) (contig : List ℕ)
+    → Bounded (breakpoints sites clip contig) (spansOn contig clip)
+unfolding breakpoints
+breakpoints-bounded sites clip contig = spans-bounded (flatMap siteBreakpoints (sitesOn contig sites)) (spansOn contig clip)
 
 -- each span of sound input has its start up to its end
 pub spans-whole : (contig : List ℕ) (clip : Option (List Span)) → IfThere (Every SoundSpan) clip

@@ -6,16 +6,16 @@ use borrow.Author.Tests.{le-ltb, lt-ltb, ltb-true}
 use lib.Dec.{eqb, ltb}
 use lib.ListN.{getD, length, take}
 use mathlib.Core.Bool.{Bool, _&&_, cond, false, true}
-use mathlib.Core.List.{List, Memᴰ·map, [], _++_, _∷_, append-assoc, append-nil, flatMap, map, map-append, map-map}
+use mathlib.Core.List.{List, Memᴰ·map, [], _++_, _∷_, append-nil, flatMap, map, map-append}
 use mathlib.Core.Path.{_∙_, _≡_, ap, refl, subst, sym}
 use native.Mathlib.Omega.{arith}
 use Rattle.definitions.specs.ClipAndReference.{Span}
 use Rattle.definitions.specs.Intervals.{spanBreakpoints}
 use Rattle.definitions.specs.Lists.{ascending, filterBy}
 use Rattle.laws.proofs.ClipDepth.{Bounded, begun, count-cons, depth, depth-step, ended, one}
-use Rattle.laws.proofs.Every.{Every, Pairwise, alone, also, before-all, every-all, every-at, every-map, every-member, every-of, every-of-map-back, map-every, nothing}
+use Rattle.laws.proofs.Every.{Every, Pairwise, before-all, every-all, every-at, every-member, every-of, every-of-map-back, map-every}
 use Rattle.laws.proofs.Members.{_∈_, cons-cases, filter-append, filter-both, filter-few, filter-map, filter-no, filter-none, filter-same, filter-within, filter-yes, map-flatMap, member-filter, member-map}
-use Rattle.laws.proofs.Orders.{ascending-member, ascending-numbers, compare-eq, member-ascending}
+use Rattle.laws.proofs.Orders.{ascending-member, compare-eq, member-ascending}
 use Rattle.laws.proofs.Places.{join-ascends, join-sorted, joinPlaces, low-append, lowAt, lowPart, low-part-at, low-place, noChange, placeAt, places, places-again, places-filter, places-places, places-positions, position, position-at, weight, weights, weights-append, weights-places}
 use Rattle.laws.proofs.Sorted.{sorted}
 use Rattle.laws.proofs.Tests.{both, both-of}

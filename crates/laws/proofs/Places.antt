@@ -2,20 +2,20 @@
 -- position are joined into one, their changes added. Sorted and joined they are `places` (`join-sorted`): for each position in ascending
 -- order the place with all changes there. Joining some of them earlier changes nothing (`places-again`), nor does leaving out positions
 -- before or after (`places-filter`).
-use Prim.Native.Nat.{Ordering, Ordering·eq, Ordering·gt, Ordering·lt, _*_, _+_, _-_, _/_, _%_, _<_, _≤_, compare, suc, ℕ}
+use Prim.Native.Nat.{_*_, _+_, _-_, _/_, _%_, _<_, _≤_, compare, ℕ}
 use borrow.Author.Tests.{eq-eqb, eqb-false, eqb-true, ne-eqb}
 use lib.Dec.{eqb, leb}
-use lib.ListN.{length}
+use lib.ListN.{length, length-map}
 use mathlib.Core.Bool.{Bool, cond, false, true}
-use mathlib.Core.List.{List, List·Memᴰ·append-cases, List·Memᴰ·not-nil, Memᴰ·append-left, Memᴰ·append-right, Memᴰ·map, [], _++_, _∷_, append-nil, foldr, map, map-append}
+use mathlib.Core.List.{List, List·Memᴰ·append-cases, List·Memᴰ·head, List·Memᴰ·not-nil, List·Memᴰ·tail, Memᴰ·append-left, Memᴰ·append-right, Memᴰ·map, [], _++_, _∷_, append-nil, foldr, map, map-append}
 use mathlib.Core.Logic.{⊎-elim}
 use mathlib.Core.Path.{_∙_, _≡_, ap, refl, subst, sym}
 use native.Mathlib.Decide.{ℕ-discrete}
 use native.Mathlib.Omega.{arith}
 use Rattle.definitions.specs.Lists.{anyOf, ascending, byOrder, filterBy, insertNew}
-use Rattle.laws.proofs.Every.{Every, Pairwise, alone, also, before-all, every-all, every-fails, every-map, every-member, every-of, every-of-map, every-of-map-back, filter-passes, map-every, nothing, pairwise-head}
-use Rattle.laws.proofs.Members.{_∈_, any-member, cons-cases, filter-map, filter-no, filter-same, filter-yes, member-map}
-use Rattle.laws.proofs.Orders.{ascending-member, ascending-numbers, ascending-same, compare-eq, compare-gt, compare-lt, every-ascending, filter-ascending, member-ascending}
+use Rattle.laws.proofs.Every.{Every, Pairwise, alone, also, before-all, every-all, every-fails, every-map, every-member, every-of-map, every-of-map-back, filter-passes, map-every, nothing, pairwise-map}
+use Rattle.laws.proofs.Members.{_∈_, any-member, at-member, cons-cases, filter-map, filter-no, filter-same, filter-yes, member-map}
+use Rattle.laws.proofs.Orders.{ascending-few, ascending-member, ascending-numbers, ascending-same, compare-eq, every-ascending, filter-ascending, lt-compare, member-ascending}
 use Rattle.laws.proofs.Sorted.{insert, member-sorted, sorted, sorted-ascends, sorted-member}
 use Rattle.laws.proofs.Tests.{told-apart}
 
@@ -39,14 +39,18 @@ placeAt p low = p * 4294967296 + low
 abbrev pub joined : ℕ → ℕ → ℕ
 joined a b = a + lowPart b - noChange
 
--- a place in front of joined ones
-unfoldable pub joinFirst : ℕ → List ℕ → List ℕ
-joinFirst a [] = a ∷ []
-joinFirst a (b ∷ l) = cond (eqb (position a) (position b)) (joined a b ∷ l) (a ∷ b ∷ l)
+-- a place and those behind it, neighbours of one position joined
+unfoldable pub joinFrom : ℕ → List ℕ → List ℕ
+joinFrom a [] = a ∷ []
+joinFrom a (b ∷ l) =
+    let one = joinFrom (joined a b) l in
+    let two = a ∷ joinFrom b l in
+    cond (eqb (position a) (position b)) one two
 
 -- the places, neighbours of one position joined
 unfoldable pub joinPlaces : List ℕ → List ℕ
-joinPlaces = foldr joinFirst []
+joinPlaces [] = []
+joinPlaces (a ∷ l) = joinFrom a l
 
 -- 2^31 and all changes at a position
 unfoldable pub lowAt : ℕ → List ℕ → ℕ
@@ -200,6 +204,10 @@ module _ (es : List ℕ) (light : weights es < noChange) where
   positions-of [] = refl
   positions-of (p ∷ ps) = rw (position-of p) (ap (λ (l : List ℕ). p ∷ l) (positions-of ps))
 
+places-none : places [] ≡ []
+unfolding places ascending
+places-none = refl
+
 -- places with the same positions and the same changes
 pub places-same : (es fs : List ℕ) → ((p : ℕ) → p ∈ map position es → p ∈ map position fs)
     → ((p : ℕ) → p ∈ map position fs → p ∈ map position es) → ((p : ℕ) → lowAt p es ≡ lowAt p fs)
@@ -226,53 +234,114 @@ module _ (a : ℕ) (l : List ℕ) (light : weights (a ∷ l) < noChange) where
       let low : lowAt (position a) (a ∷ l) ≡ lowPart a = low-here (position a) a l refl ∙ omega arith in
       ap (placeAt (position a)) low ∙ parts a
 
-  -- with those of its position
-  joined-of : joined a (of l (position a)) ≡ of (a ∷ l) (position a)
-  joined-of =
-      let (h, k) = low-near (position a) l in
-      let room = enough (lowAt (position a) l) (lowPart a) (weights l) k (unfold weights in omega arith) in
-      rw (low-of l behind-light (position a), low-here (position a) a l refl) (omega (arith, parts a))
+  -- in front of later ones it stands first
+  first-of : Every (λ e. position a < position e) l → places (a ∷ l) ≡ a ∷ places l
+  unfolding places ascending
+  first-of later = go (ascending compare (map position l)) (every-ascending compare _ (every-of-map position later))
+    where
+      first : (qs : List ℕ) → Every (λ q. position a < q) qs → insertNew compare (position a) qs ≡ position a ∷ qs
+      first [] h = unfold insertNew in refl
+      first (q ∷ qs) (also h hs) = unfold insertNew byOrder in rw (lt-compare (position a) q h)
 
-  -- behind it stand places of its position or later ones
-  module _ (up : Every (λ e. position a ≤ position e) l) where
-    join-front : joinFirst a (map (of l) (ascending compare (map position l)))
-        ≡ map (of (a ∷ l)) (insertNew compare (position a) (ascending compare (map position l)))
-    unfolding joinFirst insertNew byOrder
-    join-front = go (ascending compare (map position l)) (ascending-numbers (map position l))
-        (every-ascending compare _ (every-of-map position up))
-        (every-of l (λ e m. ascending-member compare compare-eq _ (Memᴰ·map position m)))
-      where
-        joins : (q : ℕ) (r : List ℕ) → Pairwise _<_ (q ∷ r) → position a ≤ q → Every (λ e. position e ∈ q ∷ r) l
-            → (o : Ordering) → compare (position a) q ≡ o
-            → joinFirst a (map (of l) (q ∷ r)) ≡ map (of (a ∷ l)) (byOrder o (position a ∷ q ∷ r) (q ∷ r) (q ∷ insertNew compare (position a) r))
-        joins q r k h there Ordering·lt e =
-            let less = compare-lt (position a) q e in
-            let past : Every (λ p. position a < p) (q ∷ r) = also less (every-map (λ p m. omega arith) (pairwise-head k)) in
-            let apart : Every (λ e. position e ≡ position a → ⊥) l =
-            every-map (λ e m same. let f = every-member m past in omega arith) there in
-            rw (position-of l behind-light q, ne-eqb (position a) q (λ same. omega arith))
-            (ap (λ (z : ℕ). z ∷ map (of l) (q ∷ r)) (sym (alone-of apart))
-            ∙ ap (λ (z : List ℕ). of (a ∷ l) (position a) ∷ z) (others (every-map (λ p m same. omega arith) past)))
-        joins q r k h there Ordering·eq e =
-            let same = compare-eq (position a) q e in
-            let first : joined a (of l q) ≡ of (a ∷ l) q = rw (← same) joined-of in
-            rw (position-of l behind-light q, eq-eqb (position a) q same)
-            (ap (λ (z : ℕ). z ∷ map (of l) r) first
-            ∙ ap (λ (z : List ℕ). of (a ∷ l) q ∷ z) (others (every-map (λ p m same. omega arith) (pairwise-head k))))
-        joins q r k h there Ordering·gt e = let b = compare-gt (position a) q e in absurd (omega arith)
+      go : (qs : List ℕ) → Every (λ q. position a < q) qs → map (of (a ∷ l)) (insertNew compare (position a) qs) ≡ a ∷ map (of l) qs
+      go qs h =
+          ap (map (of (a ∷ l))) (first qs h)
+          ∙ ap (λ (z : ℕ). z ∷ map (of (a ∷ l)) qs) (alone-of (every-map (λ e k same. omega arith) later))
+          ∙ ap (λ (z : List ℕ). a ∷ z) (sym (others (every-map (λ q k same. omega arith) h)))
 
-        go : (qs : List ℕ) → Pairwise _<_ qs → Every (λ q. position a ≤ q) qs → Every (λ e. position e ∈ qs) l
-            → joinFirst a (map (of l) qs) ≡ map (of (a ∷ l)) (insertNew compare (position a) qs)
-        go [] k h there = ap (λ (z : ℕ). z ∷ []) (sym (alone-of (every-map (λ e m same. List·Memᴰ·not-nil m) there)))
-        go (q ∷ r) k (also h hs) there = joins q r k h there (compare (position a) q) refl
+-- ---- two places joined
+
+-- the changes of two light places fit into the lower part
+two-fit : (x y : ℕ) → (x - noChange) + (noChange - x) + ((y - noChange) + (noChange - y)) < noChange
+    → (noChange ≤ x + y) × (x + y - noChange < 4294967296)
+two-fit x y h = (omega arith, omega arith)
+
+module _ (a b : ℕ) (light : weight a + weight b < noChange) where
+  joined-parts : joined a b ≡ placeAt (position a) (lowPart a + lowPart b - noChange)
+  joined-parts = let (h, k) = two-fit (lowPart a) (lowPart b) light in omega (arith, parts a)
+
+  position-joined : position (joined a b) ≡ position a
+  position-joined =
+      ap (λ (e : ℕ). position e) joined-parts ∙ position-at (position a) (lowPart a + lowPart b - noChange) (two-fit (lowPart a) (lowPart b) light .1)
+
+  low-joined : lowPart (joined a b) + noChange ≡ lowPart a + lowPart b
+  low-joined =
+      let (h, k) = two-fit (lowPart a) (lowPart b) light in
+      let low : lowPart (joined a b) ≡ lowPart a + lowPart b - noChange =
+      ap (λ (e : ℕ). lowPart e) joined-parts ∙ low-part-at (position a) (lowPart a + lowPart b - noChange) k in
+      omega arith
+
+-- two changes together are no more than each by itself
+together : (x y z : ℕ) → z + noChange ≡ x + y
+    → (z - noChange) + (noChange - z) ≤ ((x - noChange) + (noChange - x)) + ((y - noChange) + (noChange - y))
+together x y z h = omega arith
+
+module _ (a b : ℕ) (l : List ℕ) (same : position a ≡ position b) (light : weights (a ∷ b ∷ l) < noChange) where
+  two-light : weight a + weight b < noChange
+  two-light = unfold weights in omega arith
+
+  joined-light : weights (joined a b ∷ l) ≤ weights (a ∷ b ∷ l)
+  unfolding weights
+  joined-light = omega (arith, together (lowPart a) (lowPart b) (lowPart (joined a b)) (low-joined a b two-light))
+
+  -- a place in the stead of two
+  joined-places : places (joined a b ∷ l) ≡ places (a ∷ b ∷ l)
+  joined-places = places-same (joined a b ∷ l) (a ∷ b ∷ l) forth back low
+    where
+      at : position (joined a b) ≡ position a
+      at = position-joined a b two-light
+
+      forth : (p : ℕ) → p ∈ map position (joined a b ∷ l) → p ∈ map position (a ∷ b ∷ l)
+      forth p m = cons-cases m (λ q. List·Memᴰ·head (q ∙ at)) (λ n. List·Memᴰ·tail (List·Memᴰ·tail n))
+
+      back : (p : ℕ) → p ∈ map position (a ∷ b ∷ l) → p ∈ map position (joined a b ∷ l)
+      back p m =
+          cons-cases m (λ q. List·Memᴰ·head (q ∙ sym at))
+          (λ n. cons-cases n (λ q. List·Memᴰ·head (q ∙ sym same ∙ sym at)) (λ k. List·Memᴰ·tail k))
+
+      low : (p : ℕ) → lowAt p (joined a b ∷ l) ≡ lowAt p (a ∷ b ∷ l)
+      low p = go (ℕ-discrete (position a) p)
+        where
+          go : Dec (position a ≡ p) → lowAt p (joined a b ∷ l) ≡ lowAt p (a ∷ b ∷ l)
+          go (yes here) =
+              let (u, v) = low-near p l in
+              let room = enough (lowAt p l) (lowPart b) (weights l) v (unfold weights in omega arith) in
+              low-here p (joined a b) l (at ∙ here)
+              ∙ omega (arith, low-joined a b two-light, low-here p a (b ∷ l) here, low-here p b l (sym same ∙ here))
+          go (no other) =
+              low-other p (joined a b) l (λ q. other (sym at ∙ q))
+              ∙ sym (low-other p a (b ∷ l) other ∙ low-other p b l (λ q. other (same ∙ q)))
 
 -- ---- sorted and joined
 
+join-from : (a : ℕ) (l : List ℕ) → Every (λ e. position a ≤ position e) l → Pairwise (λ a b. position a ≤ position b) l
+    → weights (a ∷ l) < noChange → joinFrom a l ≡ places (a ∷ l)
+unfolding joinFrom
+join-from a [] h k light = sym (first-of a [] light nothing ∙ ap (λ (l : List ℕ). a ∷ l) places-none)
+join-from a (b ∷ l) (also h hs) (before-all k ks) light =
+    go (eqb (position a) (position b)) refl (λ up. join-from (joined a b) l up ks) (join-from b l k ks (behind-light a (b ∷ l) light))
+  where
+    Joins : ℕ → Type 0
+    Joins c = joinFrom c l ≡ places (c ∷ l)
+
+    go : (t : Bool) → eqb (position a) (position b) ≡ t
+        → (Every (λ e. position (joined a b) ≤ position e) l → weights (joined a b ∷ l) < noChange → Joins (joined a b)) → Joins b
+        → cond t (joinFrom (joined a b) l) (a ∷ joinFrom b l) ≡ places (a ∷ b ∷ l)
+    go true e both one =
+        let same = eqb-true (position a) (position b) e in
+        let at = position-joined a b (two-light a b l same light) in
+        both (every-map (λ c q. omega arith) hs) (omega (arith, joined-light a b l same light)) ∙ joined-places a b l same light
+    go false e both one =
+        let apart = eqb-false (position a) (position b) e in
+        let less : position a < position b = omega arith in
+        ap (λ (l : List ℕ). a ∷ l) one
+        ∙ sym (first-of a (b ∷ l) light (also less (every-map (λ c q. omega arith) k)))
+
 pub join-ascending : {l : List ℕ} → Pairwise _≤_ l → weights l < noChange → joinPlaces l ≡ places l
-unfolding joinPlaces places ascending
-join-ascending alone light = refl
+unfolding joinPlaces
+join-ascending alone light = sym places-none
 join-ascending (before-all {x = a} {xs = l} h hs) light =
-    ap (joinFirst a) (join-ascending hs (behind-light a l light)) ∙ join-front a l light (every-map (position-up a) h)
+    join-from a l (every-map (position-up a) h) (pairwise-map position-up hs) light
 
 -- positions of places
 position-member : (l m : List ℕ) → ((e : ℕ) → e ∈ l → e ∈ m) → (p : ℕ) → p ∈ map position l → p ∈ map position m
@@ -348,11 +417,6 @@ module _ (p : ℕ) (es : List ℕ) (light : weights es < noChange) where
           (every-ascending compare _ apart)))
           ∙ sym (low-absent p es (every-of-map-back position es apart))
 
--- two changes together are no more than each by itself
-together : (x y z : ℕ) → z + noChange ≡ x + y
-    → (z - noChange) + (noChange - z) ≤ ((y - noChange) + (noChange - y)) + ((x - noChange) + (noChange - x))
-together x y z h = omega arith
-
 weights-none : (qs : List ℕ) → weights (map (of []) qs) ≡ 0
 unfolding weights lowAt
 weights-none [] = refl
@@ -393,6 +457,21 @@ places-positions es light = positions-of es light (ascending compare (map positi
 
 pub join-ascends : (es : List ℕ) → weights es < noChange → Pairwise _<_ (map position (joinPlaces (sorted es)))
 join-ascends es light = rw (join-sorted es light, places-positions es light) (ascending-numbers (map position es))
+
+-- they are no more than the places
+pub places-few : (es : List ℕ) → length (places es) ≤ length es
+unfolding places
+places-few es =
+    omega (arith, length-map (ascending compare (map position es)) (of es), ascending-few compare (map position es), length-map es position)
+
+-- and some, where there is a place
+pub places-some : (es : List ℕ) → 0 < length es → 0 < length (places es)
+unfolding places
+places-some [] h = absurd (omega arith)
+places-some (e ∷ es) h =
+    let qs = ascending compare (map position (e ∷ es)) in
+    let (k, below, at) = at-member qs (ascending-member compare compare-eq _ (List·Memᴰ·head refl)) in
+    omega (arith, below, length-map qs (of (e ∷ es)))
 
 -- joining some of the places first changes nothing
 pub places-again : (l r : List ℕ) → weights (l ++ r) < noChange → places (places l ++ r) ≡ places (l ++ r)

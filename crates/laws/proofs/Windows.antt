@@ -5,13 +5,14 @@ use borrow.Author.Tests.{le-leb, le-ltb, leb-false, leb-true, lt-leb, lt-ltb, lt
 use lib.Dec.{leb, ltb}
 use lib.ListN.{length}
 use mathlib.Core.Bool.{Bool, _&&_, false, true}
-use mathlib.Core.List.{List, List·Memᴰ·head, [], _++_, _∷_}
+use mathlib.Core.List.{List, List·Memᴰ·append-cases, List·Memᴰ·head, [], _++_, _∷_}
+use mathlib.Core.Logic.{⊎-elim}
 use mathlib.Core.Path.{_∙_, _≡_, ap, refl, sym}
 use native.Mathlib.Omega.{arith}
 use Rattle.definitions.specs.Intervals.{Interval, intervalsBetween}
 use Rattle.definitions.specs.Lists.{filterBy}
 use Rattle.laws.proofs.Every.{Every, Pairwise, alone, also, before-all, every-map, every-member, filter-passes, pairwise-filter, pairwise-head, pairwise-tail}
-use Rattle.laws.proofs.Members.{_∈_, cons-cases, filter-all, filter-both, filter-member, filter-no, filter-none, filter-within, filter-yes, member-filter}
+use Rattle.laws.proofs.Members.{_∈_, cons-cases, filter-all, filter-both, filter-member, filter-no, filter-none, filter-within, filter-yes, member-filter, member-some}
 use Rattle.laws.proofs.Tests.{both-of}
 
 -- the numbers past a position and below a limit
@@ -135,6 +136,19 @@ module _ {all : List ℕ} (ordered : Pairwise _<_ all) where
     last-window h =
         sym (window-behind past (window past limit all) _ split)
         ∙ filter-none (leb limit) _ (λ b m. lt-leb limit b (every-member (member-filter (ltb past) all m .0) h))
+
+    -- with a limit that is itself one of them, something does
+    pub limit-behind : limit ∈ all → past < limit
+        → ltb 0 (length (filterBy (ltb (windowEnd past (window past limit all))) all)) ≡ true
+    unfolding window
+    limit-behind m h =
+        let behind = filterBy (ltb (windowEnd past (window past limit all))) all in
+        let there : limit ∈ window past limit all ++ behind = rw windows at (filter-member (ltb past) all m (lt-ltb past limit h)) in
+        member-some behind (⊎-elim
+        (λ (n : limit ∈ window past limit all).
+        let in-limit = both-of (ltb past limit) (ltb limit limit) (member-filter _ all n .1) .1 in
+        absurd (omega (arith, ltb-true limit limit in-limit)))
+        (λ (n : limit ∈ behind). n) (List·Memᴰ·append-cases (window past limit all) there))
 
     -- the first of a window is the next number, and what stands behind it is the window past that
     pub window-step : (b : ℕ) (w : List ℕ) → window past limit all ≡ b ∷ w
