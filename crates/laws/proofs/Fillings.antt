@@ -11,15 +11,15 @@ use mathlib.Core.Path.{_∙_, _≡_, ap, refl, subst, sym}
 use native.Mathlib.Omega.{arith}
 use Rattle.definitions.specs.ClipAndReference.{Span}
 use Rattle.definitions.specs.Intervals.{spanBreakpoints}
-use Rattle.definitions.specs.Lists.{ascending, filterBy}
-use Rattle.laws.proofs.ClipDepth.{Bounded, begun, count-cons, depth, depth-step, ended, one}
+use Rattle.definitions.specs.Lists.{ascending, byOrder, filterBy, insertNew}
+use Rattle.laws.proofs.ClipDepth.{Bounded, begun, count-cons, covers, depth, depth-step, ended, one}
 use Rattle.laws.proofs.Every.{Every, Pairwise, before-all, every-all, every-at, every-member, every-of, every-of-map-back, map-every}
 use Rattle.laws.proofs.Members.{_∈_, cons-cases, filter-append, filter-both, filter-few, filter-map, filter-no, filter-none, filter-same, filter-within, filter-yes, map-flatMap, member-filter, member-map}
 use Rattle.laws.proofs.Orders.{ascending-member, compare-eq, member-ascending}
-use Rattle.laws.proofs.Places.{join-ascends, join-sorted, joinPlaces, low-append, lowAt, lowPart, low-part-at, low-place, noChange, placeAt, places, places-again, places-filter, places-places, places-positions, position, position-at, weight, weights, weights-append, weights-places}
-use Rattle.laws.proofs.Sorted.{sorted}
+use Rattle.laws.proofs.Places.{join-ascends, join-sorted, joinFrom, joinPlaces, low-append, lowAt, lowPart, low-part-at, low-place, noChange, placeAt, places, places-again, places-filter, places-places, places-positions, position, position-at, weight, weights, weights-append, weights-places}
+use Rattle.laws.proofs.Sorted.{insert, sorted}
 use Rattle.laws.proofs.Tests.{both, both-of}
-use Rattle.laws.proofs.Windows.{window}
+use Rattle.laws.proofs.Windows.{window, window-step}
 
 -- what a clip span gives: a place where the depth goes up, and behind its end one where it goes down
 unfoldable pub spanPlaces : Span → List ℕ
@@ -144,14 +144,42 @@ module _ (spans : List Span) (light : 2 * length spans < noChange) (b : ℕ) whe
   unfolding placeOf
   low-of-place = low-part-at b (noChange + begun spans b - ended spans b) low-fits
 
--- the depth at the next breakpoint, from its place
-pub depth-by-place : {all : List ℕ} → Pairwise _<_ all → {spans : List Span} → Bounded all spans
-    → Every (λ (c : Span). c .start ≤ c .end) spans → 2 * length spans < noChange
-    → (past b : ℕ) (l : List ℕ) → filterBy (ltb past) all ≡ b ∷ l
-    → depth spans b + noChange ≡ depth spans past + lowPart (placeOf spans b)
-unfolding ended
-depth-by-place ordered {spans} bounded whole light past b l next =
-    omega (arith, low-of-place spans light b, depth-step ordered bounded past b l next whole, filter-few (λ c. eqb (suc (c .end)) b) spans)
+  -- a place fits into 64 bits
+  pub place-fits : b < 4294967296 → placeOf spans b < 18446744073709551616
+  unfolding placeOf
+  place-fits h = omega (arith, low-fits)
+
+-- ---- going through a window
+
+-- from a position to the first place of its window
+pub record PlaceStep (all : List ℕ) (spans : List Span) (past limit e : ℕ) (es : List ℕ) : Type 0 where
+  pub next : filterBy (ltb past) all ≡ position e ∷ filterBy (ltb (position e)) all
+  pub rest : es ≡ map (placeOf spans) (window (position e) limit all)
+  pub deeper : depth spans (position e) + noChange ≡ depth spans past + lowPart e
+
+module _ {all : List ℕ} (ordered : Pairwise _<_ all) {spans : List Span} (bounded : Bounded all spans)
+    (whole : Every (λ (c : Span). c .start ≤ c .end) spans) (light : 2 * length spans < noChange) where
+  -- the depth at the next breakpoint, from its place
+  pub depth-by-place : (past b : ℕ) (l : List ℕ) → filterBy (ltb past) all ≡ b ∷ l
+      → depth spans b + noChange ≡ depth spans past + lowPart (placeOf spans b)
+  unfolding ended
+  depth-by-place past b l next =
+      omega (arith, low-of-place spans light b, depth-step ordered bounded past b l next whole, filter-few (λ c. eqb (suc (c .end)) b) spans)
+
+  -- the first place of a window: the next breakpoint, what stands behind it, and the depth there
+  pub place-step : (past limit e : ℕ) (es : List ℕ) → map (placeOf spans) (window past limit all) ≡ e ∷ es
+      → PlaceStep all spans past limit e es
+  place-step past limit e es stored = go (window past limit all) refl stored
+    where
+      go : (w : List ℕ) → window past limit all ≡ w → map (placeOf spans) w ≡ e ∷ es → PlaceStep all spans past limit e es
+      go [] q k = absurd (omega (arith, ap length k))
+      go (b ∷ w) q k =
+          let first : placeOf spans b ≡ e = cc in
+          let behind : map (placeOf spans) w ≡ es = cc in
+          let at : position e ≡ b = ap (λ (e : ℕ). position e) (sym first) ∙ position-of-place spans light b in
+          let (next, rest) = window-step ordered past limit b w q in
+          let deep = depth-by-place past b (filterBy (ltb b) all) next in
+          record { next = rw at next; rest = rw at (sym behind ∙ ap (map (placeOf spans)) rest); deeper = rw (at, ← first) deep }
 
 -- ---- one filling
 
@@ -350,3 +378,23 @@ filled past limit bs spans light f =
     ∙ filter-map (placeOf spans) (λ e. within past limit (position e)) all
     ∙ ap (map (placeOf spans)) (filter-same (λ b. within past limit (position (placeOf spans b))) (within past limit) all
     (λ b m. ap (within past limit) (position-of-place spans light b)))
+
+-- ---- an example
+
+-- a block from 10 to 12, and two clip spans: from 11 to 12, and from 13 to 20
+example-spans : List Span
+example-spans = record { contig = []; start = 11; end = 12 } ∷ record { contig = []; start = 13; end = 20 } ∷ []
+
+example-joined : joinPlaces (sorted (givenPlaces (10 ∷ 13 ∷ []) example-spans))
+    ≡ placeAt 10 2147483648 ∷ placeAt 11 2147483649 ∷ placeAt 13 2147483648 ∷ placeAt 21 2147483647 ∷ []
+unfolding joinPlaces joinFrom sorted insert givenPlaces spanPlaces flatMap example-spans
+example-joined = refl
+
+example-depths : map (depth example-spans) (10 ∷ 11 ∷ 13 ∷ 21 ∷ []) ≡ 0 ∷ 1 ∷ 1 ∷ 0 ∷ []
+unfolding depth covers filterBy example-spans
+example-depths = refl
+
+example-window : map (placeOf example-spans) (window 10 21 (ascending compare ((10 ∷ 13 ∷ []) ++ flatMap spanBreakpoints example-spans)))
+    ≡ placeAt 11 2147483649 ∷ placeAt 13 2147483648 ∷ []
+unfolding placeOf begun ended window filterBy ascending insertNew byOrder example-spans flatMap spanBreakpoints
+example-window = refl

@@ -2,10 +2,10 @@
 -- position are joined into one, their changes added. Sorted and joined they are `places` (`join-sorted`): for each position in ascending
 -- order the place with all changes there. Joining some of them earlier changes nothing (`places-again`), nor does leaving out positions
 -- before or after (`places-filter`).
-use Prim.Native.Nat.{_*_, _+_, _-_, _/_, _%_, _<_, _≤_, compare, ℕ}
+use Prim.Native.Nat.{_*_, _+_, _-_, _/_, _%_, _<_, _≤_, compare, suc, ℕ}
 use borrow.Author.Tests.{eq-eqb, eqb-false, eqb-true, ne-eqb}
 use lib.Dec.{eqb, leb}
-use lib.ListN.{length, length-map}
+use lib.ListN.{length}
 use mathlib.Core.Bool.{Bool, cond, false, true}
 use mathlib.Core.List.{List, List·Memᴰ·append-cases, List·Memᴰ·head, List·Memᴰ·not-nil, List·Memᴰ·tail, Memᴰ·append-left, Memᴰ·append-right, Memᴰ·map, [], _++_, _∷_, append-nil, foldr, map, map-append}
 use mathlib.Core.Logic.{⊎-elim}
@@ -14,8 +14,8 @@ use native.Mathlib.Decide.{ℕ-discrete}
 use native.Mathlib.Omega.{arith}
 use Rattle.definitions.specs.Lists.{anyOf, ascending, byOrder, filterBy, insertNew}
 use Rattle.laws.proofs.Every.{Every, Pairwise, alone, also, before-all, every-all, every-fails, every-map, every-member, every-of-map, every-of-map-back, filter-passes, map-every, nothing, pairwise-map}
-use Rattle.laws.proofs.Members.{_∈_, any-member, at-member, cons-cases, filter-map, filter-no, filter-same, filter-yes, member-map}
-use Rattle.laws.proofs.Orders.{ascending-few, ascending-member, ascending-numbers, ascending-same, compare-eq, every-ascending, filter-ascending, lt-compare, member-ascending}
+use Rattle.laws.proofs.Members.{_∈_, any-member, cons-cases, filter-map, filter-no, filter-same, filter-yes, member-map}
+use Rattle.laws.proofs.Orders.{ascending-member, ascending-numbers, ascending-same, compare-eq, every-ascending, filter-ascending, lt-compare, member-ascending}
 use Rattle.laws.proofs.Sorted.{insert, member-sorted, sorted, sorted-ascends, sorted-member}
 use Rattle.laws.proofs.Tests.{told-apart}
 
@@ -67,6 +67,31 @@ weight e = (lowPart e - noChange) + (noChange - lowPart e)
 -- how much all of them could change it; below 2^31 no sum of changes leaves the lower part
 unfoldable pub weights : List ℕ → ℕ
 weights = foldr (λ e w. weight e + w) 0
+
+-- ---- how many are left
+
+join-from-few : (a : ℕ) (l : List ℕ) → (0 < length (joinFrom a l)) × (length (joinFrom a l) ≤ suc (length l))
+unfolding joinFrom
+join-from-few a [] = (omega arith, omega arith)
+join-from-few a (b ∷ l) = go (eqb (position a) (position b)) (join-from-few (joined a b) l) (join-from-few b l)
+  where
+    Few : List ℕ → Type 0
+    Few k = (0 < length k) × (length k ≤ suc (length l))
+
+    go : (t : Bool) → Few (joinFrom (joined a b) l) → Few (joinFrom b l)
+        → let k = cond t (joinFrom (joined a b) l) (a ∷ joinFrom b l) in (0 < length k) × (length k ≤ suc (suc (length l)))
+    go true (h, k) other = (h, omega arith)
+    go false other (h, k) = (omega arith, omega arith)
+
+pub join-few : (l : List ℕ) → length (joinPlaces l) ≤ length l
+unfolding joinPlaces
+join-few [] = omega arith
+join-few (a ∷ l) = join-from-few a l .1
+
+pub join-some : (l : List ℕ) → 0 < length l → 0 < length (joinPlaces l)
+unfolding joinPlaces
+join-some [] h = absurd (omega arith)
+join-some (a ∷ l) h = join-from-few a l .0
 
 -- ---- the parts of a place
 
@@ -457,21 +482,6 @@ places-positions es light = positions-of es light (ascending compare (map positi
 
 pub join-ascends : (es : List ℕ) → weights es < noChange → Pairwise _<_ (map position (joinPlaces (sorted es)))
 join-ascends es light = rw (join-sorted es light, places-positions es light) (ascending-numbers (map position es))
-
--- they are no more than the places
-pub places-few : (es : List ℕ) → length (places es) ≤ length es
-unfolding places
-places-few es =
-    omega (arith, length-map (ascending compare (map position es)) (of es), ascending-few compare (map position es), length-map es position)
-
--- and some, where there is a place
-pub places-some : (es : List ℕ) → 0 < length es → 0 < length (places es)
-unfolding places
-places-some [] h = absurd (omega arith)
-places-some (e ∷ es) h =
-    let qs = ascending compare (map position (e ∷ es)) in
-    let (k, below, at) = at-member qs (ascending-member compare compare-eq _ (List·Memᴰ·head refl)) in
-    omega (arith, below, length-map qs (of (e ∷ es)))
 
 -- joining some of the places first changes nothing
 pub places-again : (l r : List ℕ) → weights (l ++ r) < noChange → places (places l ++ r) ≡ places (l ++ r)

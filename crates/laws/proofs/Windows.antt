@@ -3,7 +3,7 @@
 use Prim.Native.Nat.{_-_, _<_, _≤_, ℕ}
 use borrow.Author.Tests.{le-leb, le-ltb, leb-false, leb-true, lt-leb, lt-ltb, ltb-true}
 use lib.Dec.{leb, ltb}
-use lib.ListN.{length}
+use lib.ListN.{length, length-append}
 use mathlib.Core.Bool.{Bool, _&&_, false, true}
 use mathlib.Core.List.{List, List·Memᴰ·append-cases, List·Memᴰ·head, [], _++_, _∷_}
 use mathlib.Core.Logic.{⊎-elim}
@@ -12,8 +12,8 @@ use native.Mathlib.Omega.{arith}
 use Rattle.definitions.specs.Intervals.{Interval, intervalsBetween}
 use Rattle.definitions.specs.Lists.{filterBy}
 use Rattle.laws.proofs.Every.{Every, Pairwise, alone, also, before-all, every-map, every-member, filter-passes, pairwise-filter, pairwise-head, pairwise-tail}
-use Rattle.laws.proofs.Members.{_∈_, cons-cases, filter-all, filter-both, filter-member, filter-no, filter-none, filter-within, filter-yes, member-filter, member-some}
-use Rattle.laws.proofs.Tests.{both-of}
+use Rattle.laws.proofs.Members.{_∈_, cons-cases, filter-all, filter-both, filter-member, filter-no, filter-none, filter-same, filter-within, filter-yes, member-filter, member-some}
+use Rattle.laws.proofs.Tests.{bool-ext, both, both-of}
 
 -- the numbers past a position and below a limit
 unfoldable pub window : ℕ → ℕ → List ℕ → List ℕ
@@ -131,7 +131,20 @@ module _ {all : List ℕ} (ordered : Pairwise _<_ all) where
         go (b ∷ w) rest h e =
             omega (arith, next-later past b (w ++ rest) e, end-from b w rest (sym (next-past past b (w ++ rest) e)))
 
-    -- with a limit past all numbers, nothing stands behind a window
+    -- where a window holds a number, there is one past the position
+    pub window-some : 0 < length (window past limit all) → 0 < length (filterBy (ltb past) all)
+    window-some h =
+        let end = windowEnd past (window past limit all) in
+        rw windows (omega (arith, length-append (window past limit all) (filterBy (ltb end) all)))
+
+    -- with a limit past all numbers, a window holds all past the position
+    pub whole-window : Every (λ b. b < limit) all → window past limit all ≡ filterBy (ltb past) all
+    unfolding window
+    whole-window h =
+        filter-same _ (ltb past) all (λ b m. bool-ext _ _
+        (λ e. both-of (ltb past b) (ltb b limit) e .0) (λ e. both e (lt-ltb b limit (every-member m h))))
+
+    -- and nothing stands behind it
     pub last-window : Every (λ b. b < limit) all → filterBy (ltb (windowEnd past (window past limit all))) all ≡ []
     last-window h =
         sym (window-behind past (window past limit all) _ split)
