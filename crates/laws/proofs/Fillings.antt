@@ -19,42 +19,42 @@ use Rattle.laws.proofs.Orders.{ascending-member, compare-eq, member-asc
 use Rattle.laws.proofs.Places.{join-ascends, join-sorted, joinFrom, joinPlaces, low-append, lowAt, lowPart, low-part-at, low-place, noChange, placeAt, places, places-again, places-filter, places-places, places-positions, position, position-at, weight, weights, weights-append, weights-places}
 use Rattle.laws.proofs.Sorted.{insert, sorted}
 use Rattle.laws.proofs.Tests.{both, both-of}
-use Rattle.laws.proofs.Windows.{window, window-step}
+use Rattle.laws.proofs.Windows.{window, window-step, within}
 
 -- what a clip span gives: a place where the depth goes up, and behind its end one where it goes down
 unfoldable pub spanPlaces : Span → List ℕ
 spanPlaces c = placeAt (c .start) 2147483649 ∷ placeAt (suc (c .end)) 2147483647 ∷ []
 
--- all that is given: breakpoints of sites, where the depth does not change, and those of spans
+-- a place where the depth does not change
+abbrev pub plainPlace : ℕ → ℕ
+plainPlace b = placeAt b noChange
+
+-- all that is given: a plain place for each breakpoint of a site, and what spans give
 unfoldable pub givenPlaces : List ℕ → List Span → List ℕ
-givenPlaces bs spans = map (λ b. placeAt b noChange) bs ++ flatMap spanPlaces spans
+givenPlaces bs spans = map plainPlace bs ++ flatMap spanPlaces spans
 
 -- a breakpoint with its change of depth: up by the spans that start there, down by those that end before it
 unfoldable pub placeOf : List Span → ℕ → ℕ
 placeOf spans b = placeAt b (noChange + begun spans b - ended spans b)
 
--- a position past one and below a limit
-abbrev pub within : ℕ → ℕ → ℕ → Bool
-within past limit p = ltb past p && ltb p limit
-
--- those of the places whose position is so
+-- the places with a position in a window
 abbrev pub placesWithin : ℕ → ℕ → List ℕ → List ℕ
 placesWithin past limit = filterBy (λ e. within past limit (position e))
 
 -- ---- what is given, by position
 
-site-places-low : (p : ℕ) (bs : List ℕ) → lowAt p (map (λ b. placeAt b noChange) bs) ≡ noChange
+site-places-low : (p : ℕ) (bs : List ℕ) → lowAt p (map plainPlace bs) ≡ noChange
 site-places-low p [] = unfold lowAt in refl
 site-places-low p (b ∷ bs) = low-place p b noChange _ (omega arith) ∙ go (eqb b p) (site-places-low p bs)
   where
     rest : ℕ
-    rest = lowAt p (map (λ b. placeAt b noChange) bs)
+    rest = lowAt p (map plainPlace bs)
 
     go : (t : Bool) → rest ≡ noChange → cond t (rest + noChange - noChange) rest ≡ noChange
     go true h = omega arith
     go false h = h
 
-site-places-weigh : (bs : List ℕ) → weights (map (λ b. placeAt b noChange) bs) ≡ 0
+site-places-weigh : (bs : List ℕ) → weights (map plainPlace bs) ≡ 0
 unfolding weights
 site-places-weigh [] = refl
 site-places-weigh (b ∷ bs) = omega (arith, site-places-weigh bs, low-part-at b noChange (omega arith))
@@ -69,7 +69,7 @@ span-places-weigh (c ∷ spans) =
 pub given-weigh : (bs : List ℕ) (spans : List Span) → weights (givenPlaces bs spans) ≡ 2 * length spans
 unfolding givenPlaces
 given-weigh bs spans =
-    weights-append (map (λ b. placeAt b noChange) bs) (flatMap spanPlaces spans)
+    weights-append (map plainPlace bs) (flatMap spanPlaces spans)
     ∙ omega (arith, site-places-weigh bs, span-places-weigh spans)
 
 -- the changes of spans at a position
@@ -101,10 +101,10 @@ given-low : (p : ℕ) (bs : List ℕ) (spans : List Span) → 2 * length spans <
 unfolding givenPlaces
 given-low p bs spans light =
     let all : weights (givenPlaces bs spans) < noChange = rw (given-weigh bs spans) light in
-    omega (arith, low-append p (map (λ b. placeAt b noChange) bs) (flatMap spanPlaces spans) all, site-places-low p bs, span-places-low p spans light)
+    omega (arith, low-append p (map plainPlace bs) (flatMap spanPlaces spans) all, site-places-low p bs, span-places-low p spans light)
 
 -- the positions given
-site-positions : (bs : List ℕ) → map position (map (λ b. placeAt b noChange) bs) ≡ bs
+site-positions : (bs : List ℕ) → map position (map plainPlace bs) ≡ bs
 site-positions [] = refl
 site-positions (b ∷ bs) = rw (position-at b noChange (omega arith)) (ap (λ (l : List ℕ). b ∷ l) (site-positions bs))
 
@@ -117,7 +117,7 @@ span-positions (c ∷ spans) =
 given-positions : (bs : List ℕ) (spans : List Span) → map position (givenPlaces bs spans) ≡ bs ++ flatMap spanBreakpoints spans
 unfolding givenPlaces
 given-positions bs spans =
-    map-append position (map (λ b. placeAt b noChange) bs) (flatMap spanPlaces spans)
+    map-append position (map plainPlace bs) (flatMap spanPlaces spans)
     ∙ ap (λ (l : List ℕ). l ++ map position (flatMap spanPlaces spans)) (site-positions bs)
     ∙ ap (λ (l : List ℕ). bs ++ l) (map-flatMap position spanPlaces spans ∙ span-positions spans)
 
@@ -203,33 +203,30 @@ weights-filter q (e ∷ es) = go (q e) (weights-filter q es)
     go true h = omega arith
     go false h = omega arith
 
+within-light : (past limit : ℕ) (es : List ℕ) → weights (placesWithin past limit es) ≤ weights es
+within-light past limit es = weights-filter (λ e. within past limit (position e)) es
+
 -- more behind the same
 places-more : (l m r : List ℕ) → weights (l ++ r) < noChange → weights (m ++ r) < noChange → places l ≡ places m
     → places (l ++ r) ≡ places (m ++ r)
 places-more l m r h k e = sym (places-again l r h) ∙ ap (λ (o : List ℕ). places (o ++ r)) e ∙ places-again m r k
 
 module _ (past limit : ℕ) where
-  kept : List ℕ → List ℕ
-  kept = placesWithin past limit
-
-  kept-light : (es : List ℕ) → weights (kept es) ≤ weights es
-  unfolding kept
-  kept-light es = weights-filter (λ e. within past limit (position e)) es
-
   pub filling-start : Filling past limit [] []
   filling-start = unfold filterBy in record { same = refl; light = omega arith }
 
   -- more places, of which those in the window are stored
   pub filling-more : {given content : List ℕ} → Filling past limit given content → (es : List ℕ) → weights (given ++ es) < noChange
       → Filling past limit (given ++ es) (content ++ placesWithin past limit es)
-  unfolding kept
   filling-more {given} {content} f es h =
+      let kept = placesWithin past limit in
       let all = weights-append given es in
-      let few = kept-light es in
+      let few = within-light past limit es in
       let light : weights (content ++ kept es) ≤ weights (given ++ es) = omega (arith, weights-append content (kept es), f .light) in
-      let heavy : weights (kept given ++ kept es) < noChange = omega (arith, weights-append (kept given) (kept es), kept-light given) in
+      let light-kept : weights (kept given ++ kept es) < noChange =
+      omega (arith, weights-append (kept given) (kept es), within-light past limit given) in
       let same : places (content ++ kept es) ≡ places (kept (given ++ es)) =
-      places-more content (kept given) (kept es) (omega arith) heavy (f .same)
+      places-more content (kept given) (kept es) (omega arith) light-kept (f .same)
       ∙ ap places (sym (filter-append (λ e. within past limit (position e)) given es)) in
       record { same = same; light = light }
 
@@ -276,25 +273,18 @@ module _ (past limit : ℕ) {given content : List ℕ} (f : Filling past limit g
       rw (join-sorted content light)
       (record { same = places-places content light ∙ f .same; light = omega (arith, weights-places content light, f .light) })
 
-  kept-here : List ℕ
-  kept-here = placesWithin past limit given
-
-  kept-here-light : weights kept-here < noChange
-  unfolding kept-here
-  kept-here-light = omega (arith, weights-filter (λ e. within past limit (position e)) given)
-
-  same-positions : ascending compare (map position content) ≡ ascending compare (map position kept-here)
-  unfolding kept-here
+  same-positions : ascending compare (map position content) ≡ ascending compare (map position (placesWithin past limit given))
   same-positions =
-      sym (places-positions content light) ∙ ap (map position) (f .same) ∙ places-positions kept-here kept-here-light
+      sym (places-positions content light) ∙ ap (map position) (f .same)
+      ∙ places-positions (placesWithin past limit given) (omega (arith, within-light past limit given))
 
   -- every place at hand has the position of a given one, in the window
   pub filling-inside : Every (λ e. Inside past limit given (position e)) content
-  unfolding kept-here
   filling-inside = every-of-map-back position {P = Inside past limit given} content (every-of (map position content) (λ p m.
-      let there : p ∈ ascending compare (map position kept-here) =
+      let kept = placesWithin past limit given in
+      let there : p ∈ ascending compare (map position kept) =
       subst (λ (l : List ℕ). p ∈ l) same-positions (ascending-member compare compare-eq _ m) in
-      let (e, n, same) = member-map position kept-here (member-ascending compare _ there) in
+      let (e, n, same) = member-map position kept (member-ascending compare _ there) in
       let (k, inside) = member-filter (λ e. within past limit (position e)) given n in
       let (a, b) = both-of (ltb past (position e)) (ltb (position e) limit) inside in
       rw same (record { is-given = Memᴰ·map position k; later = ltb-true past (position e) a; below = ltb-true (position e) limit b })))
@@ -325,11 +315,11 @@ module _ (past limit : ℕ) {given content : List ℕ} (f : Filling past limit g
       let stored = joinPlaces (sorted content) in
       let lower = position (getD stored n 0) in
       let light-kept : weights (placesWithin past lower given) ≤ weights given =
-      weights-filter (λ e. within past lower (position e)) given in
+      within-light past lower given in
       let left : take n stored ≡ places (placesWithin past lower given) =
       take-below position stored n (join-ascends content (omega (arith, f .light))) more
       ∙ ap (filterBy (λ e. ltb (position e) lower)) (filling-done past limit f h)
-      ∙ places-filter (λ p. ltb p lower) (placesWithin past limit given) (omega (arith, weights-filter (λ e. within past limit (position e)) given))
+      ∙ places-filter (λ p. ltb p lower) (placesWithin past limit given) (omega (arith, within-light past limit given))
       ∙ ap places (within-lower past limit lower (omega (arith, lower-inside .below)) given) in
       rw left (record { same = places-places _ (omega arith); light = omega (arith, weights-places (placesWithin past lower given) (omega arith)) })
 
@@ -339,7 +329,7 @@ filling-lower : (past limit lower : ℕ) {given content : List ℕ} → lower �
 filling-lower past limit lower {given} {content} h light f =
     sym (places-filter (within past lower) content (omega (arith, f .light)))
     ∙ ap (placesWithin past lower) (f .same)
-    ∙ places-filter (within past lower) (placesWithin past limit given) (omega (arith, weights-filter (λ e. within past limit (position e)) given))
+    ∙ places-filter (within past lower) (placesWithin past limit given) (omega (arith, within-light past limit given))
     ∙ ap places (filter-within (λ e. within past lower (position e)) (λ e. within past limit (position e)) given (λ e k.
     let (a, b) = both-of (ltb past (position e)) (ltb (position e) lower) k in
     let less = ltb-true (position e) lower b in
@@ -353,11 +343,11 @@ filling-then past limit lower {given} {content} {content′} es h light f g =
     let kept = placesWithin past lower in
     let all = weights-append given es in
     let stored = weights-append content es in
-    let few = weights-filter test es in
+    let few = within-light past lower es in
     let first : weights (kept content ++ kept es) < noChange =
-    omega (arith, weights-append (kept content) (kept es), weights-filter test content, f .light) in
+    omega (arith, weights-append (kept content) (kept es), within-light past lower content, f .light) in
     let second : weights (kept given ++ kept es) < noChange =
-    omega (arith, weights-append (kept given) (kept es), weights-filter test given) in
+    omega (arith, weights-append (kept given) (kept es), within-light past lower given) in
     let same : places content′ ≡ places (kept (given ++ es)) =
     g .same ∙ ap places (filter-append test content es)
     ∙ places-more (kept content) (kept given) (kept es) first second (filling-lower past limit lower h (omega arith) f)
@@ -371,9 +361,9 @@ pub filled : (past limit : ℕ) (bs : List ℕ) (spans : List Span) → 2 * leng
 unfolding window
 filled past limit bs spans light f =
     let all = ascending compare (bs ++ flatMap spanBreakpoints spans) in
-    let heavy : weights (givenPlaces bs spans) < noChange = rw (given-weigh bs spans) light in
-    filling-done past limit f heavy
-    ∙ sym (places-filter (within past limit) (givenPlaces bs spans) heavy)
+    let light-given : weights (givenPlaces bs spans) < noChange = rw (given-weigh bs spans) light in
+    filling-done past limit f light-given
+    ∙ sym (places-filter (within past limit) (givenPlaces bs spans) light-given)
     ∙ ap (placesWithin past limit) (given-places bs spans light)
     ∙ filter-map (placeOf spans) (λ e. within past limit (position e)) all
     ∙ ap (map (placeOf spans)) (filter-same (λ b. within past limit (position (placeOf spans b))) (within past limit) all

@@ -15,9 +15,13 @@ use Rattle.laws.proofs.Every.{Every, Pairwise, alone, also, before-all,
 use Rattle.laws.proofs.Members.{_∈_, cons-cases, filter-all, filter-both, filter-member, filter-no, filter-none, filter-same, filter-within, filter-yes, member-filter, member-some}
 use Rattle.laws.proofs.Tests.{bool-ext, both, both-of}
 
--- the numbers past a position and below a limit
+-- a number past a position and below a limit
+abbrev pub within : ℕ → ℕ → ℕ → Bool
+within past limit b = ltb past b && ltb b limit
+
+-- all of them
 unfoldable pub window : ℕ → ℕ → List ℕ → List ℕ
-window past limit = filterBy (λ b. ltb past b && ltb b limit)
+window past limit = filterBy (within past limit)
 
 -- the last of a window, or the position that it begins past if it is empty
 unfoldable pub windowEnd : ℕ → List ℕ → ℕ
