@@ -1,0 +1,4 @@
+pub mod LastPart
+pub mod Sorting
+pub mod Parting
+pub mod Halving
