@@ -6,7 +6,8 @@ use borrow.Author.Tests.{le-ltb, lt-ltb, ltb-true}
 use lib.Dec.{eqb, ltb}
 use lib.ListN.{getD, length, take}
 use mathlib.Core.Bool.{Bool, _&&_, cond, false, true}
-use mathlib.Core.List.{List, Memᴰ·map, [], _++_, _∷_, append-nil, flatMap, map, map-append}
+use mathlib.Core.List.{List, List·Memᴰ·append-cases, Memᴰ·append-left, Memᴰ·append-right, Memᴰ·map, [], _++_, _∷_, append-nil, flatMap, map, map-append}
+use mathlib.Core.Logic.{_⊎_, ⊎-elim}
 use mathlib.Core.Path.{_∙_, _≡_, ap, refl, subst, sym}
 use native.Mathlib.Omega.{arith}
 use Rattle.definitions.specs.ClipAndReference.{Span}
@@ -14,9 +15,9 @@ use Rattle.definitions.specs.Intervals.{spanBreakpoints}
 use Rattle.definitions.specs.Lists.{ascending, byOrder, filterBy, insertNew}
 use Rattle.laws.proofs.ClipDepth.{Bounded, begun, count-cons, covers, depth, depth-step, ended, one}
 use Rattle.laws.proofs.Every.{Every, Pairwise, before-all, every-all, every-at, every-member, every-of, every-of-map-back, map-every}
-use Rattle.laws.proofs.Members.{_∈_, cons-cases, filter-append, filter-both, filter-few, filter-map, filter-no, filter-none, filter-same, filter-within, filter-yes, map-flatMap, member-filter, member-map}
+use Rattle.laws.proofs.Members.{_∈_, cons-cases, filter-all, filter-append, filter-both, filter-few, filter-map, filter-member, filter-no, filter-none, filter-same, filter-within, filter-yes, map-flatMap, member-filter, member-map}
 use Rattle.laws.proofs.Orders.{ascending-member, compare-eq, member-ascending}
-use Rattle.laws.proofs.Places.{join-ascends, join-sorted, joinFrom, joinPlaces, low-append, lowAt, lowPart, low-part-at, low-place, noChange, placeAt, places, places-again, places-filter, places-places, places-positions, position, position-at, weight, weights, weights-append, weights-places}
+use Rattle.laws.proofs.Places.{join-ascends, join-sorted, joinFrom, joinPlaces, low-append, lowAt, lowPart, low-part-at, low-place, noChange, placeAt, places, places-again, places-filter, places-places, places-positions, places-same, position, position-at, weight, weights, weights-append, weights-places}
 use Rattle.laws.proofs.Sorted.{insert, sorted}
 use Rattle.laws.proofs.Tests.{both, both-of}
 use Rattle.laws.proofs.Windows.{window, window-step, within}
@@ -368,6 +369,91 @@ filled past limit bs spans light f =
     ∙ filter-map (placeOf spans) (λ e. within past limit (position e)) all
     ∙ ap (map (placeOf spans)) (filter-same (λ b. within past limit (position (placeOf spans b))) (within past limit) all
     (λ b m. ap (within past limit) (position-of-place spans light b)))
+
+-- ---- places that are at hand
+
+-- a position of places, in the window
+kept-position : (past limit : ℕ) (es : List ℕ) {p : ℕ} → p ∈ map position es → within past limit p ≡ true
+    → p ∈ map position (placesWithin past limit es)
+kept-position past limit es {p} m k =
+    let (e, n, same) = member-map position es m in
+    let inside : within past limit (position e) ≡ true = subst (λ (q : ℕ). within past limit q ≡ true) same k in
+    subst (λ (q : ℕ). q ∈ map position (placesWithin past limit es)) (sym same)
+    (Memᴰ·map position (filter-member (λ e. within past limit (position e)) es n inside))
+
+module _ (past limit : ℕ) where
+  -- places in the window stand for themselves
+  pub filling-self : {content : List ℕ} → Every (λ e. within past limit (position e) ≡ true) content → Filling past limit content content
+  filling-self {content} h = record {
+    same = ap places (sym (filter-all (λ e. within past limit (position e)) content (λ e m. every-member m h)));
+    light = omega arith;
+  }
+
+  -- a position that was given is at hand, if it is in the window
+  pub filling-keeps : {given content : List ℕ} → Filling past limit given content → weights given < noChange
+      → {p : ℕ} → p ∈ map position given → within past limit p ≡ true → p ∈ map position content
+  filling-keeps {given} {content} f h {p} m k =
+      member-ascending compare _ (subst (λ (l : List ℕ). p ∈ l) (sym (same-positions past limit f h))
+      (ascending-member compare compare-eq _ (kept-position past limit given m k)))
+
+-- plain places weigh nothing and change no depth
+pub plain-weigh : (l ps : List ℕ) → weights (l ++ map plainPlace ps) ≡ weights l
+plain-weigh l ps = omega (arith, weights-append l (map plainPlace ps), site-places-weigh ps)
+
+plain-low : (p : ℕ) (l ps : List ℕ) → weights l < noChange → lowAt p (l ++ map plainPlace ps) ≡ lowAt p l
+plain-low p l ps h =
+    let light : weights (l ++ map plainPlace ps) < noChange = rw (plain-weigh l ps) h in
+    omega (arith, low-append p l (map plainPlace ps) light, site-places-low p ps)
+
+plain-positions : (l ps : List ℕ) → map position (l ++ map plainPlace ps) ≡ map position l ++ ps
+plain-positions l ps =
+    map-append position l (map plainPlace ps) ∙ ap (λ (m : List ℕ). map position l ++ m) (site-positions ps)
+
+-- A plain place may be left out if it is outside the window, or its position was given.
+module _ (past limit : ℕ) (given ps qs : List ℕ) (fewer : (p : ℕ) → p ∈ ps → p ∈ qs)
+    (known : (q : ℕ) → q ∈ qs → within past limit q ≡ true → (q ∈ ps) ⊎ (q ∈ map position given)) (light : weights given < noChange) where
+  kept : List ℕ
+  kept = placesWithin past limit given
+
+  plain-kept : (rs : List ℕ) → placesWithin past limit (given ++ map plainPlace rs) ≡ kept ++ map plainPlace (window past limit rs)
+  unfolding window kept
+  plain-kept rs =
+      filter-append (λ e. within past limit (position e)) given (map plainPlace rs)
+      ∙ ap (λ (l : List ℕ). kept ++ l) (filter-map plainPlace (λ e. within past limit (position e)) rs
+      ∙ ap (map plainPlace) (filter-same _ (within past limit) rs (λ r m. ap (within past limit) (position-at r noChange (omega arith)))))
+
+  -- the positions in the window are the same
+  position-cases : {R : Type 0} (rs : List ℕ) {p : ℕ} → p ∈ map position (kept ++ map plainPlace (window past limit rs))
+      → (p ∈ map position kept → R) → (p ∈ rs → within past limit p ≡ true → R) → R
+  unfolding window
+  position-cases rs {p} m f g =
+      ⊎-elim f (λ (n : p ∈ window past limit rs). let (k, inside) = member-filter (within past limit) rs n in g k inside)
+      (List·Memᴰ·append-cases (map position kept) (subst (λ (l : List ℕ). p ∈ l) (plain-positions kept (window past limit rs)) m))
+
+  among : (rs : List ℕ) {p : ℕ} → p ∈ map position kept → p ∈ map position (kept ++ map plainPlace (window past limit rs))
+  among rs m = rw (plain-positions kept (window past limit rs)) (Memᴰ·append-left _ m)
+
+  also-given : (rs : List ℕ) {p : ℕ} → p ∈ rs → within past limit p ≡ true → p ∈ map position (kept ++ map plainPlace (window past limit rs))
+  unfolding window
+  also-given rs m k = rw (plain-positions kept (window past limit rs)) (Memᴰ·append-right (map position kept) (filter-member (within past limit) rs m k))
+
+  kept-light : weights kept < noChange
+  unfolding kept
+  kept-light = omega (arith, within-light past limit given)
+
+  pub filling-plain : {content : List ℕ} → Filling past limit (given ++ map plainPlace ps) content
+      → Filling past limit (given ++ map plainPlace qs) content
+  unfolding kept
+  filling-plain f = record {
+    same = f .same ∙ ap places (plain-kept ps)
+        ∙ places-same (kept ++ map plainPlace (window past limit ps)) (kept ++ map plainPlace (window past limit qs))
+        (λ p m. position-cases ps m (among qs) (λ n. also-given qs (fewer p n)))
+        (λ p m. position-cases qs m (among ps) (λ n k.
+        ⊎-elim (λ (o : p ∈ ps). also-given ps o k) (λ (o : p ∈ map position given). among ps (kept-position past limit given o k)) (known p n k)))
+        (λ p. plain-low p kept (window past limit ps) kept-light ∙ sym (plain-low p kept (window past limit qs) kept-light))
+        ∙ ap places (sym (plain-kept qs));
+    light = omega (arith, f .light, plain-weigh given ps, plain-weigh given qs);
+  }
 
 -- ---- an example
 

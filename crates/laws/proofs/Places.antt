@@ -277,7 +277,7 @@ module _ (a : ℕ) (l : List ℕ) (light : weights (a ∷ l) < noChange) where
 -- ---- two places joined
 
 -- the changes of two light places fit into the lower part
-two-fit : (x y : ℕ) → (x - noChange) + (noChange - x) + ((y - noChange) + (noChange - y)) < noChange
+pub two-fit : (x y : ℕ) → (x - noChange) + (noChange - x) + ((y - noChange) + (noChange - y)) < noChange
     → (noChange ≤ x + y) × (x + y - noChange < 4294967296)
 two-fit x y h = (omega arith, omega arith)
 
@@ -285,7 +285,7 @@ module _ (a b : ℕ) (light : weight a + weight b < noChange) where
   joined-parts : joined a b ≡ placeAt (position a) (lowPart a + lowPart b - noChange)
   joined-parts = let (h, k) = two-fit (lowPart a) (lowPart b) light in omega (arith, parts a)
 
-  position-joined : position (joined a b) ≡ position a
+  pub position-joined : position (joined a b) ≡ position a
   position-joined =
       ap (λ (e : ℕ). position e) joined-parts ∙ position-at (position a) (lowPart a + lowPart b - noChange) (two-fit (lowPart a) (lowPart b) light .1)
 
@@ -302,10 +302,10 @@ together : (x y z : ℕ) → z + noChange ≡ x + y
 together x y z h = omega arith
 
 module _ (a b : ℕ) (l : List ℕ) (same : position a ≡ position b) (light : weights (a ∷ b ∷ l) < noChange) where
-  two-light : weight a + weight b < noChange
+  pub two-light : weight a + weight b < noChange
   two-light = unfold weights in omega arith
 
-  joined-light : weights (joined a b ∷ l) ≤ weights (a ∷ b ∷ l)
+  pub joined-light : weights (joined a b ∷ l) ≤ weights (a ∷ b ∷ l)
   unfolding weights
   joined-light = omega (arith, together (lowPart a) (lowPart b) (lowPart (joined a b)) (low-joined a b two-light))
 
