@@ -130,38 +130,44 @@ fills-plain past limit given ps qs {lower} {content} fewer known light f = recor
 -- ---- room made
 
 module _ (places : List ℕ) (two : 2 ≤ length places) where
-  stored : List ℕ
-  stored = joinPlaces (sorted places)
+  module _ (stored : List ℕ) where
+    abbrev enough : Bool
+    enough = leb (length stored) (length places / 2 + length places / 4)
+
+    few-left : (b : Bool) → enough ≡ b → length (cond b stored (take (length places / 2) stored)) < length places
+    few-left true e = let k = leb-true (length stored) (length places / 2 + length places / 4) e in omega arith
+    few-left false e = omega (arith, length-take (length places / 2) stored)
+
+    more-than-half : enough ≡ false → length places / 2 < length stored
+    more-than-half e = let k = leb-false (length stored) (length places / 2 + length places / 4) e in omega arith
 
   -- some place is free then
   pub room-left : length (roomMade places) < length places
   unfolding roomMade leavesRoom
-  room-left = go (leb (length (joinPlaces (sorted places))) (length places / 2 + length places / 4)) refl
-    where
-      go : (b : Bool) → leb (length (joinPlaces (sorted places))) (length places / 2 + length places / 4) ≡ b
-          → length (cond b (joinPlaces (sorted places)) (take (length places / 2) (joinPlaces (sorted places)))) < length places
-      go true e = omega (arith, leb-true _ _ e)
-      go false e = omega (arith, length-take (length places / 2) (joinPlaces (sorted places)))
+  room-left = few-left (joinPlaces (sorted places)) (leavesRoom places) refl
 
   -- and what stays stands for all
   pub room-fills : (past limit : ℕ) → weights places < noChange → Every (λ e. within past limit (position e) ≡ true) places
       → Fills past limit places (limitMade places limit) (roomMade places)
   unfolding roomMade limitMade leavesRoom
-  room-fills past limit light inside = go (leb (length (joinPlaces (sorted places))) (length places / 2 + length places / 4)) refl
+  room-fills past limit light inside = go (leavesRoom places) refl
     where
+      stored : List ℕ
+      stored = joinPlaces (sorted places)
+
       self : Filling past limit places places
       self = filling-self past limit inside
 
-      half : ℕ
-      half = length places / 2
-
-      go : (b : Bool) → leb (length (joinPlaces (sorted places))) (length places / 2 + length places / 4) ≡ b
+      go : (b : Bool) → enough (joinPlaces (sorted places)) ≡ b
           → Fills past limit places (cond b limit (position (getD (joinPlaces (sorted places)) (length places / 2) 0)))
           (cond b (joinPlaces (sorted places)) (take (length places / 2) (joinPlaces (sorted places))))
       go true e = record { filling = filling-joined past limit self light; limited = inl refl }
       go false e =
-          let more : length places / 2 < length (joinPlaces (sorted places)) = omega (arith, leb-false _ _ e) in
+          let more = more-than-half (joinPlaces (sorted places)) e in
           record {
             filling = filling-dropped past limit self light (length places / 2) more;
-            limited = inr (omega (arith, length-take (length places / 2) (joinPlaces (sorted places))), lower-inside past limit self light (length places / 2) more);
+            limited = inr (
+              omega (arith, length-take (length places / 2) (joinPlaces (sorted places))),
+              lower-inside past limit self light (length places / 2) more,
+            );
           }

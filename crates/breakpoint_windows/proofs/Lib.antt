@@ -1,1 +1,2 @@
+pub mod AddedPlaces
 pub mod Fills
