@@ -1,21 +1,23 @@
 -- Adding places to those taken: one place, places one after the other, and a run of positions.
-use Prim.Native.Nat.{_+_, _<_, _≤_, suc, ℕ}
+use Prim.Native.Nat.{_+_, _-_, _<_, _≤_, ℕ}
 use borrow.Author.Tests.{le-ltb, lt-ltb, ltb-true}
 use lib.Dec.{ltb}
 use lib.ListN.{length, length-set, set, take}
 use lib.Seq.{length-take-le, take-all, take-suc-set}
 use mathlib.Core.Bool.{Bool, _&&_, false, true}
-use mathlib.Core.List.{List, Memᴰ·append-left, Memᴰ·append-right, [], _++_, _∷_, append-assoc, append-nil, map, map-append}
+use mathlib.Core.List.{List, Memᴰ·append-left, Memᴰ·append-right, Memᴰ·map, [], _++_, _∷_, append-assoc, append-nil, map, map-append}
+use mathlib.Core.Logic.{_⊎_}
 use mathlib.Core.Path.{_∙_, _≡_, ap, refl, subst, sym}
 use native.Mathlib.Numerals.{add-one}
 use native.Mathlib.Omega.{arith}
+use Rattle.definitions.specs.Lists.{numbersFrom}
 use Rattle.laws.proofs.Every.{every-map}
-use Rattle.laws.proofs.Fillings.{filling-keeps}
-use Rattle.laws.proofs.Members.{_∈_}
-use Rattle.laws.proofs.Places.{noChange, position, weights, weights-append}
+use Rattle.laws.proofs.Fillings.{filling-keeps, plain-weigh, plainPlace}
+use Rattle.laws.proofs.Members.{_∈_, member-numbers, numbers-member}
+use Rattle.laws.proofs.Places.{noChange, position, position-at, weights}
 use Rattle.laws.proofs.Tests.{both, both-of}
 use Rattle.laws.proofs.Windows.{within}
-use Rattle.breakpoint_windows.proofs.Fills.{fills-in, fills-inside, fills-lower, fills-out, fills-self, fills-then, room-fills, room-left}
+use Rattle.breakpoint_windows.proofs.Fills.{fills-in, fills-inside, fills-lower, fills-out, fills-plain, fills-self, fills-then, room-fills, room-left}
 use Rattle.breakpoint_windows.specs.Fillings.{Added, Fills, Joinable, Ready, RoomMade, pastAll}
 use Rattle.breakpoint_windows.specs.declared.Taken.{Taken}
 
@@ -116,3 +118,44 @@ added-then {past} {taken} es fs {entry} light a b = record {
   fills = rw (← append-assoc (take (taken .count) entry) es fs)
       (fills-then past (taken .limit) fs (rw (append-assoc (take (taken .count) entry) es fs) light) (a .fills) (b .fills));
 }
+
+-- ---- plain places
+
+-- the positions from one to before another
+pub numbers-between : {first behind q : ℕ} → q ∈ numbersFrom first (behind - first) → (first ≤ q) × (q < behind)
+numbers-between {first} {behind} m = let (h, k) = member-numbers first (behind - first) m in (h, omega arith)
+
+pub between-numbers : {first behind q : ℕ} → first ≤ q → q < behind → q ∈ numbersFrom first (behind - first)
+between-numbers {first} {behind} h k = numbers-member first (behind - first) h (omega arith)
+
+module _ {past : ℕ} {taken r : Taken} {entry exit : List ℕ} (light : weights (take (taken .count) entry) < noChange) where
+  -- Positions are added if each that is in the window is added, or was taken before.
+  pub added-range : (first behind : ℕ) (ps : List ℕ) → ((p : ℕ) → p ∈ ps → (first ≤ p) × (p < behind))
+      → ((q : ℕ) → first ≤ q → q < behind → past < q → q < r .limit → (q ∈ ps) ⊎ (q ∈ map position (take (taken .count) entry)))
+      → Added past taken (map plainPlace ps) entry exit r
+      → Added past taken (map plainPlace (numbersFrom first (behind - first))) entry exit r
+  added-range first behind ps only each a = record {
+    ready = a .ready;
+    fills = fills-plain past (taken .limit) (take (taken .count) entry) ps (numbersFrom first (behind - first))
+        (λ p m. let (h, k) = only p m in between-numbers h k)
+        (λ q m inside.
+        let (h, k) = numbers-between m in
+        let (later, below) = both-of (ltb past q) (ltb q (r .limit)) inside in
+        each q h k (ltb-true past q later) (ltb-true q (r .limit) below))
+        light (a .fills);
+  }
+
+  module _ (ps : List ℕ) (a : Added past taken (map plainPlace ps) entry exit r) {p : ℕ} (inside : within past (r .limit) p ≡ true) where
+    still : p ∈ map position (take (taken .count) entry ++ map plainPlace ps) → p ∈ map position (take (r .count) exit)
+    still m = filling-keeps past (r .limit) (a .fills .filling) (rw (plain-weigh (take (taken .count) entry) ps) light) m inside
+
+    -- a position that was taken is taken still, if it is in the window
+    pub still-taken : p ∈ map position (take (taken .count) entry) → p ∈ map position (take (r .count) exit)
+    still-taken m = still (rw (map-append position (take (taken .count) entry) (map plainPlace ps)) (Memᴰ·append-left _ m))
+
+    -- and so is one that is added
+    pub is-taken : p ∈ ps → p ∈ map position (take (r .count) exit)
+    is-taken m =
+        let added-place : position (plainPlace p) ∈ map position (take (taken .count) entry ++ map plainPlace ps) =
+        Memᴰ·map position (Memᴰ·append-right (take (taken .count) entry) (Memᴰ·map plainPlace m)) in
+        still (subst (λ (q : ℕ). q ∈ map position (take (taken .count) entry ++ map plainPlace ps)) (position-at p noChange (omega arith)) added-place)

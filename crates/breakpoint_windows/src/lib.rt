@@ -179,10 +179,10 @@ fn add_range(places: &mut [u64], adding: Adding, past: u64, first: u64, behind: 
     requires { ⌜ RunTaken past adding (now places) ⌝ }
     ensures { λ r. ⌜ AddedRun past adding (map plainPlace (numbersFrom first (behind - first))) (now (places .entry)) (now (places .exit)) r ⌝ }
 {
-    let before = adding.taken;
+    let at_hand = adding.taken;
     let run = adding.run;
     if !follows(run, first) {
-        let taken = add_positions(places, before, past, first, behind);
+        let taken = add_positions(places, at_hand, past, first, behind);
         let only = Run { first, behind };
         return Adding { taken, run: only };
     }
@@ -190,7 +190,7 @@ fn add_range(places: &mut [u64], adding: Adding, past: u64, first: u64, behind: 
     if behind <= from {
         return adding;
     }
-    let taken = add_positions(places, before, past, from, behind);
+    let taken = add_positions(places, at_hand, past, from, behind);
     let longer = Run {
         first: run.first,
         behind,
