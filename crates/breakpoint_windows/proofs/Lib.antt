@@ -1,2 +1,4 @@
 pub mod AddedPlaces
 pub mod Fills
+pub mod InRange
+pub mod OneWindow
