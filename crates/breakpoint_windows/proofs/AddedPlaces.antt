@@ -3,11 +3,11 @@ use Prim.Native.Nat.{_+_, _-_, _<_, _≤_, ℕ}
 use borrow.Author.Tests.{le-ltb, lt-ltb, ltb-true}
 use lib.Dec.{ltb}
 use lib.ListN.{length, length-set, set, take}
-use lib.Seq.{length-take-le, take-all, take-suc-set}
+use lib.Seq.{take-all, take-suc-set}
 use mathlib.Core.Bool.{Bool, _&&_, false, true}
 use mathlib.Core.List.{List, Memᴰ·append-left, Memᴰ·append-right, Memᴰ·map, [], _++_, _∷_, append-assoc, append-nil, map, map-append}
 use mathlib.Core.Logic.{_⊎_}
-use mathlib.Core.Path.{_∙_, _≡_, ap, refl, subst, sym}
+use mathlib.Core.Path.{_≡_, refl, subst}
 use native.Mathlib.Numerals.{add-one}
 use native.Mathlib.Omega.{arith}
 use Rattle.definitions.specs.Lists.{numbersFrom}

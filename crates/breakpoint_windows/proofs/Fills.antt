@@ -1,15 +1,15 @@
 -- Fillings one after the other, with the limit: what each function of a filling shows, and what its caller makes of it.
-use Prim.Native.Nat.{_+_, _/_, _<_, _≤_, suc, ℕ}
-use borrow.Author.Tests.{le-ltb, leb-false, leb-true, lt-ltb, ltb-true}
-use lib.Dec.{leb, ltb}
+use Prim.Native.Nat.{_+_, _/_, _<_, _≤_, ℕ}
+use borrow.Author.Tests.{leb-false, leb-true, lt-ltb, ltb-true}
+use lib.Dec.{leb}
 use lib.ListN.{getD, length, length-append, length-map, length-take, take}
 use mathlib.Core.Bool.{Bool, cond, false, true}
-use mathlib.Core.List.{List, List·Memᴰ·append-cases, Memᴰ·append-left, Memᴰ·append-right, Memᴰ·map, [], _++_, _∷_, append-assoc, append-nil, map}
+use mathlib.Core.List.{List, List·Memᴰ·append-cases, Memᴰ·append-left, Memᴰ·append-right, Memᴰ·map, [], _++_, _∷_, map}
 use mathlib.Core.Logic.{_⊎_, inl, inr, ⊎-elim}
-use mathlib.Core.Path.{_∙_, _≡_, ap, refl, subst, sym}
+use mathlib.Core.Path.{_∙_, _≡_, refl, subst, sym}
 use native.Mathlib.Omega.{arith}
 use Rattle.laws.proofs.Every.{Every, every-map, every-member}
-use Rattle.laws.proofs.Fillings.{Filling, Inside, filling-dropped, filling-in, filling-inside, filling-joined, filling-keeps, filling-out, filling-plain, filling-self, filling-then, lower-inside, plain-weigh, plainPlace}
+use Rattle.laws.proofs.Fillings.{Filling, Inside, filling-dropped, filling-in, filling-inside, filling-joined, filling-keeps, filling-out, filling-plain, filling-self, filling-then, lower-inside, plainPlace}
 use Rattle.laws.proofs.Members.{_∈_, member-map, member-some, some-member}
 use Rattle.laws.proofs.Places.{joinPlaces, noChange, position, weights, weights-append}
 use Rattle.laws.proofs.Sorted.{sorted}

@@ -4,7 +4,6 @@ use lib.Dec.{eqb}
 use lib.ListN.{drop, length}
 use mathlib.Core.Bool.{Bool, cond, false, true}
 use mathlib.Core.List.{List, [], _∷_}
-use mathlib.Core.Option.{some}
 use mathlib.Core.Path.{_≡_, refl}
 use native.Mathlib.Omega.{arith}
 use Rattle.clip_and_reference.specs.Groups.{groupsRead, inFront, readBefore, spansRead}

@@ -4,9 +4,8 @@ use borrow.Author.Tests.{le-ltb, lt-ltb}
 use lib.Dec.{ltb}
 use lib.ListN.{length, length-map, take}
 use lib.Seq.{length-take-le}
-use mathlib.Core.Bool.{Bool, false, true}
-use mathlib.Core.List.{List, [], _++_, flatMap, map}
-use mathlib.Core.Logic.{_⊎_, ⊎-elim}
+use mathlib.Core.List.{List, _++_, flatMap, map}
+use mathlib.Core.Logic.{⊎-elim}
 use mathlib.Core.Path.{_∙_, _≡_, ap, subst, sym}
 use native.Mathlib.Omega.{arith}
 use Rattle.definitions.specs.ClipAndReference.{Span}
@@ -19,8 +18,7 @@ use Rattle.laws.proofs.Orders.{ascending-member, ascending-numbers, compare-eq}
 use Rattle.laws.proofs.Places.{join-some, joinPlaces, noChange, places, places-positions, position, weights}
 use Rattle.laws.proofs.Sorted.{sorted, sorted-length}
 use Rattle.laws.proofs.Windows.{last-window, limit-behind, whole-window, window, window-some, windowEnd}
-use Rattle.breakpoint_windows.specs.Breakpoints.{NextBreakpoints}
-use Rattle.breakpoint_windows.specs.Fillings.{Fills, Settled, pastAll}
+use Rattle.breakpoint_windows.specs.Fillings.{Fills, pastAll}
 
 -- breakpoints of sites, and those of spans
 abbrev breakpointsOf : List ℕ → List Span → List ℕ

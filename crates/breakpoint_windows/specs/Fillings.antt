@@ -14,7 +14,6 @@ use Rattle.laws.proofs.Places.{joinPlaces, noChange, placeAt, position, weights
 use Rattle.laws.proofs.Sorted.{sorted}
 use Rattle.laws.proofs.Windows.{within}
 use Rattle.breakpoint_windows.specs.declared.Adding.{Adding}
-use Rattle.breakpoint_windows.specs.declared.Run.{Run}
 use Rattle.breakpoint_windows.specs.declared.Taken.{Taken}
 
 -- a limit past all positions, low enough that places of one position are joined in 64 bits

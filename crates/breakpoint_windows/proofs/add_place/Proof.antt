@@ -1,11 +1,8 @@
 -- The place is outside the window, or it is stored, or room is made for it first.
 use borrow.Author.Needs.{needs}
-use native.Mathlib.Omega.{arith}
 use Rattle.breakpoint_windows.proofs.AddedPlaces.{before-window, behind-window, has-room, in-window, joinable-all, passed, passed-full, stored, stored-full}
 use Rattle.breakpoint_windows.proofs.add_place.Statement.{statement}
 use Rattle.breakpoint_windows.proofs.add_place.Tie as tie
-use Rattle.breakpoint_windows.proofs.add_place.Reads as reads
-use Rattle.breakpoint_windows.proofs.add_place.Lts as lts
 use Rattle.breakpoint_windows.proofs.make_room.Reads as make-room-reads
 
 returns : tie.Need-returns

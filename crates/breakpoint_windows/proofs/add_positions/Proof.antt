@@ -7,19 +7,17 @@ use lib.ListN.{length, take}
 use mathlib.Core.Bool.{Bool, cond, false, true}
 use mathlib.Core.List.{List, List·Memᴰ·not-nil, [], _++_, _∷_, map, map-append}
 use mathlib.Core.Logic.{inl}
-use mathlib.Core.Path.{_∙_, _≡_, ap, refl, sym}
+use mathlib.Core.Path.{_∙_, _≡_, ap, refl}
 use native.Mathlib.Omega.{arith}
 use Rattle.definitions.specs.Lists.{numbersFrom}
 use Rattle.laws.proofs.Fillings.{plain-weigh, plainPlace}
-use Rattle.laws.proofs.Members.{_∈_, numbers-append}
+use Rattle.laws.proofs.Members.{numbers-append}
 use Rattle.laws.proofs.Places.{noChange, weights}
 use Rattle.breakpoint_windows.proofs.AddedPlaces.{added-none, added-range, added-then, between-numbers, numbers-between}
 use Rattle.breakpoint_windows.specs.Fillings.{Added, Ready}
 use Rattle.breakpoint_windows.specs.declared.Taken.{Taken}
 use Rattle.breakpoint_windows.proofs.add_positions.Statement.{statement}
 use Rattle.breakpoint_windows.proofs.add_positions.Tie as tie
-use Rattle.breakpoint_windows.proofs.add_positions.Reads as reads
-use Rattle.breakpoint_windows.proofs.add_positions.Lts as lts
 
 -- the later of a position and the one behind `past` is the least that is neither before the one nor the other
 record Later (past first from : ℕ) : Type 0 where

@@ -3,8 +3,8 @@ use Prim.Native.Nat.{_-_, _<_, _≤_, ℕ}
 use borrow.Author.Needs.{needs}
 use borrow.Author.Tests.{leb-true, ltb-true, not-false}
 use lib.Dec.{leb, ltb}
-use lib.ListN.{length, take}
-use mathlib.Core.Bool.{Bool, _&&_, true}
+use lib.ListN.{take}
+use mathlib.Core.Bool.{_&&_, true}
 use mathlib.Core.List.{List, List·Memᴰ·not-nil, [], map}
 use mathlib.Core.Logic.{_⊎_, inl, inr}
 use mathlib.Core.Path.{_∙_, _≡_, sym}
@@ -13,7 +13,7 @@ use native.Mathlib.Omega.{arith}
 use Rattle.definitions.specs.Lists.{numbersFrom}
 use Rattle.laws.proofs.Fillings.{plainPlace}
 use Rattle.laws.proofs.Members.{_∈_}
-use Rattle.laws.proofs.Places.{noChange, position, weights}
+use Rattle.laws.proofs.Places.{position}
 use Rattle.laws.proofs.Tests.{both-of}
 use Rattle.laws.proofs.Windows.{within}
 use Rattle.breakpoint_windows.proofs.AddedPlaces.{added-none, added-range, between-numbers, in-window, is-taken, numbers-between, still-taken}
@@ -23,8 +23,6 @@ use Rattle.breakpoint_windows.specs.declared.Adding.{Adding}
 use Rattle.breakpoint_windows.specs.declared.Taken.{Taken}
 use Rattle.breakpoint_windows.proofs.add_range.Statement.{statement}
 use Rattle.breakpoint_windows.proofs.add_range.Tie as tie
-use Rattle.breakpoint_windows.proofs.add_range.Reads as reads
-use Rattle.breakpoint_windows.proofs.add_range.Lts as lts
 
 module _ {past : ℕ} {adding : Adding} {entry : List ℕ} (ready : Ready past (adding .taken) entry) (first behind : ℕ) where
   -- a run of its own

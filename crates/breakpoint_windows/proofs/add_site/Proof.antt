@@ -1,19 +1,18 @@
 -- The row of a block, or of another site.
-use Prim.Native.Nat.{_+_, _-_, _<_, _≤_, suc, ℕ}
+use Prim.Native.Nat.{_+_, _-_, _≤_, suc, ℕ}
 use borrow.Author.Needs.{needs}
 use lib.Dec.{eqb}
 use lib.ListN.{take}
 use mathlib.Core.Bool.{false, true}
-use mathlib.Core.List.{List, [], _++_, _∷_, map}
-use mathlib.Core.Path.{_∙_, _≡_, ap, sym}
+use mathlib.Core.List.{List, [], _∷_, map}
+use mathlib.Core.Path.{_∙_, _≡_, sym}
 use native.Mathlib.Numerals.{add-one}
 use native.Mathlib.Omega.{arith}
 use Rattle.definitions.specs.Lists.{numbersFrom}
 use Rattle.definitions.specs.Numbers.{maxNumber}
 use Rattle.laws.proofs.Fillings.{plain-weigh, plainPlace}
-use Rattle.laws.proofs.Places.{noChange, weights}
 use Rattle.breakpoint_windows.proofs.AddedPlaces.{added-then}
-use Rattle.breakpoint_windows.specs.Breakpoints.{RowInRange, rowBreakpoints}
+use Rattle.breakpoint_windows.specs.Breakpoints.{rowBreakpoints}
 use Rattle.breakpoint_windows.specs.Fillings.{AddedRun, Ready}
 use Rattle.breakpoint_windows.specs.declared.Adding.{Adding}
 use Rattle.tables.specs.Tables.{column}

@@ -1,11 +1,11 @@
 -- The loop's invariant: the breakpoints of the sites before this one are added.
-use Prim.Native.Nat.{_+_, _-_, _<_, _≤_, suc, ℕ}
+use Prim.Native.Nat.{_+_, _-_, _<_, _≤_, ℕ}
 use borrow.Author.Needs.{needs}
 use lib.ListN.{getD, length, take}
 use lib.Seq.{take-all, take-suc}
 use mathlib.Core.List.{List, [], _++_, _∷_, append-nil, flatMap, map, map-append}
 use mathlib.Core.Logic.{inl}
-use mathlib.Core.Path.{_∙_, _≡_, ap, refl}
+use mathlib.Core.Path.{_∙_, _≡_, refl}
 use native.Mathlib.Numerals.{add-one}
 use native.Mathlib.Omega.{arith}
 use Rattle.laws.proofs.Every.{every-at, nothing}
@@ -13,7 +13,7 @@ use Rattle.laws.proofs.Fillings.{filling-start, plain-weigh, plainPlace}
 use Rattle.laws.proofs.Members.{flatMap-append}
 use Rattle.laws.proofs.Places.{noChange, weights}
 use Rattle.breakpoint_windows.proofs.Fills.{fills-then}
-use Rattle.breakpoint_windows.specs.Breakpoints.{RowInRange, rowBreakpoints}
+use Rattle.breakpoint_windows.specs.Breakpoints.{rowBreakpoints}
 use Rattle.breakpoint_windows.specs.Fillings.{AddedRun, FromNone, RunTaken, pastAll}
 use Rattle.breakpoint_windows.specs.declared.Adding.{Adding}
 use Rattle.breakpoint_windows.proofs.add_sites.Statement.{statement}

@@ -1,5 +1,5 @@
 -- The loop's invariant: what the spans before this offset give is added.
-use Prim.Native.Nat.{_-_, _<_, _≤_, suc, ℕ}
+use Prim.Native.Nat.{_-_, _<_, _≤_, ℕ}
 use borrow.Author.Needs.{needs}
 use lib.ListN.{length, take}
 use mathlib.Core.Bool.{Bool, cond, false, true}
@@ -13,9 +13,8 @@ use Rattle.definitions.specs.Bytes.{sameBytes}
 use Rattle.definitions.specs.ClipAndReference.{Span, spanOf}
 use Rattle.definitions.specs.Intervals.{spansOn}
 use Rattle.definitions.specs.Lists.{filterBy}
-use Rattle.definitions.specs.Numbers.{maxNumber}
 use Rattle.laws.proofs.Fillings.{spanPlaces}
-use Rattle.laws.proofs.Places.{noChange, placeAt, weights, weights-append}
+use Rattle.laws.proofs.Places.{noChange, weights, weights-append}
 use Rattle.laws.proofs.SoundInput.{span-sound}
 use Rattle.breakpoint_windows.proofs.AddedPlaces.{added-none, added-then}
 use Rattle.breakpoint_windows.specs.Fillings.{Added, Ready, spanGives}

@@ -1,6 +1,5 @@
 -- The first position of the run is later, or it is not.
 use borrow.Author.Tests.{le-leb, lt-leb}
-use mathlib.Core.Path.{sym}
 use Rattle.breakpoint_windows.proofs.follows.Statement.{statement}
 use Rattle.breakpoint_windows.proofs.follows.Tie as tie
 

@@ -14,8 +14,6 @@ use Rattle.laws.proofs.Places.{joinFrom, joinPlaces, joined, joined-light, lowP
 use Rattle.breakpoint_windows.specs.Fillings.{Joinable, pastAll}
 use Rattle.breakpoint_windows.proofs.join_places.Statement.{statement}
 use Rattle.breakpoint_windows.proofs.join_places.Tie as tie
-use Rattle.breakpoint_windows.proofs.join_places.Reads as reads
-use Rattle.breakpoint_windows.proofs.join_places.Lts as lts
 
 record Inv (entry places : List ℕ) (last at k : ℕ) : Type 0 where
   long : length places ≡ length entry

@@ -5,15 +5,13 @@ use borrow.Author.Tests.{le-leb, lt-leb}
 use lib.ListN.{getD, length, take}
 use lib.Seq.{getD-take, length-take-le, take-length, take-take}
 use mathlib.Core.List.{List}
-use mathlib.Core.Path.{_∙_, _≡_, ap, refl, sym}
+use mathlib.Core.Path.{_∙_, _≡_, ap, sym}
 use native.Mathlib.Omega.{arith}
 use Rattle.laws.proofs.Places.{joinPlaces, position}
 use Rattle.laws.proofs.Sorted.{sorted}
 use Rattle.breakpoint_windows.specs.Fillings.{RoomMade, Settled, leavesRoom, limitMade, roomMade}
 use Rattle.breakpoint_windows.proofs.make_room.Statement.{statement}
 use Rattle.breakpoint_windows.proofs.make_room.Tie as tie
-use Rattle.breakpoint_windows.proofs.make_room.Reads as reads
-use Rattle.breakpoint_windows.proofs.make_room.Lts as lts
 use Rattle.breakpoint_windows.proofs.settle.Reads as settle-reads
 
 module _ (limit : ℕ) {entry exit : List ℕ} {r : ℕ} (long : length exit ≡ length entry) (s : Settled entry (length entry) exit r) where

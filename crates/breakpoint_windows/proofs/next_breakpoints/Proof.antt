@@ -1,12 +1,11 @@
 -- What the sites give, and then what the clip's spans give, sorted and joined.
-use Prim.Native.Nat.{_*_, _<_, _≤_, ℕ}
+use Prim.Native.Nat.{_<_, _≤_, ℕ}
 use borrow.Author.Needs.{needs}
 use lib.Dec.{ltb}
 use lib.ListN.{length, take}
 use mathlib.Core.List.{List, [], _++_, flatMap, map}
 use mathlib.Core.Path.{_∙_, _≡_}
 use native.Mathlib.Omega.{arith}
-use Rattle.definitions.specs.ClipAndReference.{Span}
 use Rattle.definitions.specs.Limits.{maxTextLength}
 use Rattle.laws.proofs.Every.{Every}
 use Rattle.laws.proofs.Fillings.{given-weigh, givenPlaces, plain-weigh, plainPlace, spanPlaces}
@@ -20,8 +19,6 @@ use Rattle.breakpoint_windows.specs.Fillings.{Added, Fills, FromNone, Se
 use Rattle.breakpoint_windows.specs.declared.Taken.{Taken}
 use Rattle.breakpoint_windows.proofs.next_breakpoints.Statement.{statement}
 use Rattle.breakpoint_windows.proofs.next_breakpoints.Tie as tie
-use Rattle.breakpoint_windows.proofs.next_breakpoints.Reads as reads
-use Rattle.breakpoint_windows.proofs.next_breakpoints.Lts as lts
 
 module _ (rows sites clip contig : List ℕ) (short : length clip ≤ maxTextLength) {past : ℕ} {between : List ℕ} {sited : Taken}
     (a : FromNone past (map plainPlace (flatMap (rowBreakpoints rows) sites)) between sited) where

@@ -1,7 +1,7 @@
 -- The first places, sorted; and those, joined.
 use Prim.Native.Nat.{_≤_, ℕ}
 use borrow.Author.Needs.{needs}
-use lib.ListN.{drop, length, length-append, length-drop, take}
+use lib.ListN.{drop, length, length-append, take}
 use lib.Seq.{length-take-le, take-append-le, take-at}
 use mathlib.Core.List.{List, _++_}
 use mathlib.Core.Path.{_∙_, _≡_, ap, sym}
@@ -12,8 +12,6 @@ use Rattle.laws.proofs.Sorted.{member-sorted, sorted, sorted-length}
 use Rattle.breakpoint_windows.specs.Fillings.{Joinable, Settled}
 use Rattle.breakpoint_windows.proofs.settle.Statement.{statement}
 use Rattle.breakpoint_windows.proofs.settle.Tie as tie
-use Rattle.breakpoint_windows.proofs.settle.Reads as reads
-use Rattle.breakpoint_windows.proofs.settle.Lts as lts
 use Rattle.breakpoint_windows.proofs.join_places.Reads as join-places-reads
 use Rattle.sorted_places.proofs.sort_places.Reads as sort-places-reads
 
