@@ -92,9 +92,10 @@ add-place-requires c κs =
     let at-if = c .before .before .before in
     let at-start = at-if .before .before in
     let args = at-start .args in
-    let on = not-false (args .on) (at-if .if1 .left) in
-    (at-start .pre .0,
-    light-start (args .on) (args .loc) on (c .before .before .get .ensures) (c .before .get2 .ensures) (args .taken) (args .places .now) (at-start .pre .1 .1))
+    let on = not-false (args .on) (at-if .if1 .left) in (
+      at-start .pre .0,
+      light-start (args .on) (args .loc) on (c .before .before .get .ensures) (c .before .get2 .ensures) (args .taken) (args .places .now) (at-start .pre .1 .1),
+    )
 
 mul-add-place-2 : tie.Need-mul-add-place-2
 unfolding maxNumber

@@ -141,9 +141,13 @@ add-span-requires c κs =
     let at-loop = at-group .before .before .before .before in
     let at-start = at-loop .before .before .before .before in
     let g = rw (at-group .group .given .1) at (at-group .before .before .span-at .ensures) in
-    let sound = span-sound _ _ (g .0 .value) in
-    (at-loop .loop .inv .added .ready, ((omega (arith, sound .ordered, sound .in-range), sound .in-range),
-    light-here (at-loop .loop .inv) (g .0) (c .before .is-on .ensures) (at-start .pre .1)))
+    let sound = span-sound _ _ (g .0 .value) in (
+      at-loop .loop .inv .added .ready,
+      (
+        (omega (arith, sound .ordered, sound .in-range), sound .in-range),
+        light-here (at-loop .loop .inv) (g .0) (c .before .is-on .ensures) (at-start .pre .1),
+      ),
+    )
 
 loop-less : tie.Need-loop-less Inv-loop μ-loop
 unfolding SpanRead
