@@ -35,7 +35,10 @@ inside-within {past} {limit} {p} i = both (lt-ltb past p (i .later)) (lt-ltb p l
 module _ {past limit : ℕ} {given : List ℕ} {lower : ℕ} {content : List ℕ} (f : Fills past limit given lower content) where
   -- the limit does not rise
   pub fills-lower : lower ≤ limit
-  fills-lower = ⊎-elim (λ (e : lower ≡ limit). omega arith) (λ (d : (0 < length content) × Inside past limit given lower). omega (arith, d .1 .below)) (f .limited)
+  fills-lower =
+      ⊎-elim (λ (e : lower ≡ limit). omega arith)
+      (λ (d : (0 < length content) × Inside past limit given lower). omega (arith, d .1 .below))
+      (f .limited)
 
   pub fills-inside : weights given < noChange → Every (λ e. within past lower (position e) ≡ true) content
   fills-inside light = every-map (λ e. inside-within) (filling-inside past lower (f .filling) light)
@@ -152,9 +155,6 @@ module _ (places : List ℕ) (two : 2 ≤ length places) where
   unfolding roomMade limitMade leavesRoom
   room-fills past limit light inside = go (leavesRoom places) refl
     where
-      stored : List ℕ
-      stored = joinPlaces (sorted places)
-
       self : Filling past limit places places
       self = filling-self past limit inside
 

@@ -119,7 +119,7 @@ fn add_place(places: &mut [u64], taken: Taken, past: u64, place: u64) -> Taken
     }
 }
 
-// The later of a position and the one behind `past`, which is not the last.
+// The first position from `first` on that is past `past`.
 fn later_of(past: u64, first: u64) -> u64
     requires { ⌜ past < 18446744073709551615 ⌝ }
     ensures { λ r. ⌜ r ≡ cond (ltb past first) first (suc past) ⌝ }
@@ -130,7 +130,7 @@ fn later_of(past: u64, first: u64) -> u64
     past + 1
 }
 
-// A plain place for each position from a first to before another.
+// A place with no change of depth for each position from `first` to before `behind`. Those before the window and behind it are not gone through.
 fn add_positions(places: &mut [u64], taken: Taken, past: u64, first: u64, behind: u64) -> Taken
     requires { ⌜ Ready past taken (now places) ⌝ }
     ensures { λ r. ⌜ Added past taken (map plainPlace (numbersFrom first (behind - first))) (now (places .entry)) (now (places .exit)) r ⌝ }
@@ -151,13 +151,13 @@ fn add_positions(places: &mut [u64], taken: Taken, past: u64, first: u64, behind
 
 // ---- the breakpoints of sites
 
-// Positions from a first to before another, all given before.
+// The positions from `first` to before `behind`.
 struct Run {
     first: u64,
     behind: u64,
 }
 
-// The places taken, and a run whose positions are among them as far as they are in the window.
+// The places taken, and a run of positions that were given: those in the window are among the places.
 struct Adding {
     taken: Taken,
     run: Run,
@@ -173,7 +173,7 @@ fn follows(run: Run, first: u64) -> bool
     first <= run.behind
 }
 
-// The same as add_positions, but positions of the run are passed over: blocks that meet and deletions that overlap give most positions again.
+// The same as add_positions, but positions of the run are passed over: blocks that meet and deletions that overlap give many again.
 fn add_range(places: &mut [u64], adding: Adding, past: u64, first: u64, behind: u64) -> Adding
     requires { ⌜ Ready past (adding .taken) (now places) ⌝ }
     requires { ⌜ RunTaken past adding (now places) ⌝ }

@@ -29,7 +29,9 @@ returns-3 c =
     stored (at-start .pre .0) _ (at-start .pre .1) (c .if3 .taken) (in-window _ _ _ (c .before .before .before .if1 .left) (c .before .if2 .left))
 
 make-room-requires : tie.Need-make-room-requires
-make-room-requires c κs = (c .before .before .before .before .before .before .pre .0 .room, joinable-all (c .before .before .before .before .before .before .pre .0) (c .before .if3 .left))
+make-room-requires c κs =
+    let ready = c .before .before .before .before .before .before .pre .0 in
+    (ready .room, joinable-all ready (c .before .if3 .left))
 
 same-length-2 : tie.Need-same-length-2
 same-length-2 c = search needs

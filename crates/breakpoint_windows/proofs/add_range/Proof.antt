@@ -27,7 +27,8 @@ use Rattle.breakpoint_windows.proofs.add_range.Tie as tie
 module _ {past : ℕ} {adding : Adding} {entry : List ℕ} (ready : Ready past (adding .taken) entry) (first behind : ℕ) where
   -- a run of its own
   alone : {exit : List ℕ} {r : Taken} → Added past (adding .taken) (map plainPlace (numbersFrom first (behind - first))) entry exit r
-      → AddedRun past adding (map plainPlace (numbersFrom first (behind - first))) entry exit (record { taken = r; run = record { first = first; behind = behind } })
+      → AddedRun past adding (map plainPlace (numbersFrom first (behind - first))) entry exit
+      (record { taken = r; run = record { first = first; behind = behind } })
   alone a = record {
     added = a;
     run = record { at-hand = λ p h k inside. is-taken (ready .light) (numbersFrom first (behind - first)) a inside (between-numbers h k) };

@@ -93,9 +93,9 @@ add-range-requires c κs = search needs
 add-add-range-2 : tie.Need-add-add-range-2
 unfolding maxNumber
 add-add-range-2 c =
-    let row = c .before .before .before .before .before .before .before .before .before .before .before .before .before .pre .0 in
-    let is-end = c .before .before .before .before .before .before .before .get2 .ensures ∙ c .before .before .before .before .before .before .before .before .end-of .ensures in
-    let small = row .in-range in
+    let at-end = c .before .before .before .before .before .before .before in
+    let is-end = at-end .get2 .ensures ∙ at-end .before .end-of .ensures in
+    let small = at-end .before .before .before .before .before .before .pre .0 .in-range in
     search needs
 
 add-range-requires-2 : tie.Need-add-range-requires-2

@@ -92,10 +92,10 @@ add-place-requires c κs =
     let at-if = c .before .before .before in
     let at-start = at-if .before .before in
     let args = at-start .args in
-    let on = not-false (args .on) (at-if .if1 .left) in (
-      at-start .pre .0,
-      light-start (args .on) (args .loc) on (c .before .before .get .ensures) (c .before .get2 .ensures) (args .taken) (args .places .now) (at-start .pre .1 .1),
-    )
+    let on = not-false (args .on) (at-if .if1 .left) in
+    let light =
+    light-start (args .on) (args .loc) on (c .before .before .get .ensures) (c .before .get2 .ensures) (args .taken) (args .places .now) in
+    (at-start .pre .0, light (at-start .pre .1 .1))
 
 mul-add-place-2 : tie.Need-mul-add-place-2
 unfolding maxNumber
@@ -128,7 +128,8 @@ returns-2 c =
     let at-end = c .before .before .before .before .before .before .before .before in
     let at-if = at-end .before .before in
     let light = at-if .before .before .pre .1 .1 in
-    both-added _ _ (not-false _ (at-if .if1 .left)) (at-end .before .get .ensures) (at-end .get2 .ensures) _ _ light (put .ensures) (c .before .before .add-place2 .ensures)
+    both-added _ _ (not-false _ (at-if .if1 .left)) (at-end .before .get .ensures) (at-end .get2 .ensures) _ _ light (put .ensures)
+    (c .before .before .add-place2 .ensures)
 
 pub add-span-spec : {M : Type 1} → statement M
 add-span-spec =

@@ -57,7 +57,8 @@ module _ {clip contig : List ℕ} {past : ℕ} {places₀ : List ℕ} {taken : T
   ended : given contig (spansRead clip at) ≡ [] → Added past taken (flatMap spanPlaces (spansOn contig (some (spansRead clip 0)))) places₀ places now
   unfolding given
   ended e =
-      let all : inv .done ≡ given contig (spansRead clip 0) = sym (append-nil (inv .done)) ∙ ap (λ (l : List ℕ). inv .done ++ l) (sym e) ∙ inv .parts in
+      let all : inv .done ≡ given contig (spansRead clip 0) =
+      sym (append-nil (inv .done)) ∙ ap (λ (l : List ℕ). inv .done ++ l) (sym e) ∙ inv .parts in
       rw (← all) (inv .added)
 
   faulty : GroupFaulty clip at spanOf → Added past taken (flatMap spanPlaces (spansOn contig (some (spansRead clip 0)))) places₀ places now
@@ -68,10 +69,6 @@ module _ {clip contig : List ℕ} {past : ℕ} {places₀ : List ℕ} {taken : T
 
   module _ {c : Span} {next : ℕ} {on : Bool} (g : GroupTo clip at spanOf c next) (o : on ≡ sameBytes contig (c .contig))
       (light : weights (take (taken .count) places₀ ++ flatMap spanPlaces (spansOn contig (some (spansRead clip 0)))) < noChange) where
-    -- what this span gives
-    here : List ℕ
-    here = cond on (spanPlaces c) []
-
     parts-next : (inv .done ++ cond on (spanPlaces c) []) ++ given contig (spansRead clip next) ≡ given contig (spansRead clip 0)
     parts-next =
         append-assoc (inv .done) (cond on (spanPlaces c) []) (given contig (spansRead clip next))

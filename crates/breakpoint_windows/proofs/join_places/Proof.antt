@@ -46,37 +46,37 @@ module _ {entry places : List ℕ} {last at k : ℕ} (inv : Inv entry places las
   ended h = rw (add-one at, take-suc-set places at last here) (rw (drop-of-length-le places h) at (inv .left))
 
   module _ (h : k < length places) where
-    x : ℕ
+    abbrev x : ℕ
     x = getD places k 0
 
-    behind : List ℕ
+    abbrev behind : List ℕ
     behind = drop (suc k) places
 
-    next : drop k places ≡ getD places k 0 ∷ drop (suc k) places
+    next : drop k places ≡ x ∷ behind
     next = drop-cons places k 0 h
 
-    light-next : weights (last ∷ getD places k 0 ∷ drop (suc k) places) < noChange
+    light-next : weights (last ∷ x ∷ behind) < noChange
     light-next = rw (← next) (inv .light)
 
-    rest-next : (position (getD places k 0) < pastAll) × Every (λ e. position e < pastAll) (drop (suc k) places)
+    rest-next : (position x < pastAll) × Every (λ e. position e < pastAll) (behind)
     rest-next = every-uncons (rw next at (inv .rest))
 
-    left-next : take at places ++ joinFrom last (getD places k 0 ∷ drop (suc k) places) ≡ joinPlaces entry
+    left-next : take at places ++ joinFrom last (x ∷ behind) ≡ joinPlaces entry
     left-next = rw (← next) (inv .left)
 
     -- the next one has the same position
-    module _ (same : position last ≡ position (getD places k 0)) where
-      two : (noChange ≤ lowPart last + lowPart (getD places k 0)) × (lowPart last + lowPart (getD places k 0) - noChange < 4294967296)
-      two = two-fit (lowPart last) (lowPart (getD places k 0)) (two-light last (getD places k 0) (drop (suc k) places) same light-next)
+    module _ (same : position last ≡ position x) where
+      two : (noChange ≤ lowPart last + lowPart x) × (lowPart last + lowPart x - noChange < 4294967296)
+      two = two-fit (lowPart last) (lowPart x) (two-light last x (behind) same light-next)
 
-      joins : joinFrom last (getD places k 0 ∷ drop (suc k) places) ≡ joinFrom (joined last (getD places k 0)) (drop (suc k) places)
+      joins : joinFrom last (x ∷ behind) ≡ joinFrom (joined last x) (behind)
       unfolding joinFrom
-      joins = rw (eq-eqb (position last) (position (getD places k 0)) same)
+      joins = rw (eq-eqb (position last) (position x) same)
 
-      turn-joined : Inv entry places (joined last (getD places k 0)) at (suc k)
+      turn-joined : Inv entry places (joined last x) at (suc k)
       turn-joined =
-          let at-last = position-joined last (getD places k 0) (two-light last (getD places k 0) (drop (suc k) places) same light-next) in
-          let lighter = joined-light last (getD places k 0) (drop (suc k) places) same light-next in
+          let at-last = position-joined last x (two-light last x (behind) same light-next) in
+          let lighter = joined-light last x (behind) same light-next in
           record {
             long = inv .long;
             below = omega (arith, inv .below);
@@ -88,7 +88,7 @@ module _ {entry places : List ℕ} {last at k : ℕ} (inv : Inv entry places las
           }
 
     -- the next one has another position
-    turn-other : (position last ≡ position (getD places k 0) → ⊥) → Inv entry (set places at last) (getD places k 0) (suc at) (suc k)
+    turn-other : (position last ≡ position x → ⊥) → Inv entry (set places at last) x (suc at) (suc k)
     unfolding joinFrom weights
     turn-other apart =
         let same-rest = drop-set-lt (suc k) places at last (omega (arith, inv .below)) in
@@ -98,7 +98,7 @@ module _ {entry places : List ℕ} {last at k : ℕ} (inv : Inv entry places las
           within = rw (inv .long) at h;
           left =
               rw (same-rest, take-suc-set places at last here, append-snoc)
-              (rw (ne-eqb (position last) (position (getD places k 0)) apart) at left-next);
+              (rw (ne-eqb (position last) (position x) apart) at left-next);
           light = rw same-rest (omega (arith, light-next));
           small = rest-next .0;
           rest = rw same-rest (rest-next .1);
