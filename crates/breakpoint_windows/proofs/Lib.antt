@@ -1,0 +1,5 @@
+pub mod AddedPlaces
+pub mod ContigSites
+pub mod Fills
+pub mod InRange
+pub mod OneWindow
