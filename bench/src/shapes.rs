@@ -47,6 +47,31 @@ pub fn cohort(shape: &str, samples: usize, sites: usize, seed: u64) -> Cohort {
     }
 }
 
+/// One sample whose sites come in descending order: blocks of 10 positions, SNPs, or deletions of 128 letters.
+#[allow(dead_code)]
+pub fn descending(kind: &str, sites: usize, seed: u64) -> Cohort {
+    let mut rng = Rng::new(seed);
+    let length = match kind {
+        "blocks" => 10,
+        "snps" => 1,
+        _ => 128,
+    };
+    let next = |i: usize| {
+        let start = 1000 + (sites - i) as u64 * length;
+        let reference: String = (start..start + if kind == "blocks" { 1 } else { length }).map(letter).collect();
+        let alts = match kind {
+            "blocks" => vec![],
+            "snps" => vec![if letter(start) == 'T' { "A" } else { "T" }.to_string()],
+            _ => vec![reference[..1].to_string()],
+        };
+        site(&mut rng, 0, "chr01".to_string(), start, start + length - 1, reference, alts)
+    };
+    Cohort {
+        samples: vec!["seedling00".to_string()],
+        sites: (0..sites).map(next).collect(),
+    }
+}
+
 /// As many places as the sites can have breakpoints: two for a block, and for any other site one for each position and one behind it.
 #[allow(dead_code)]
 pub fn places(cohort: &Cohort) -> usize {
