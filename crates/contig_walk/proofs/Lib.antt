@@ -1,4 +1,5 @@
 pub mod OwnRows
+pub mod Behind
 pub mod LaidRecords
 pub mod Turns
 pub mod Walking

@@ -31,7 +31,7 @@ use Rattle.record_laws.proofs.Coalescing.{turn-refused}
 use Rattle.record_laws.proofs.Walking.{withInterval}
 use Rattle.record_laws.specs.Pending.{andLater}
 use Rattle.tables.specs.Tables.{column, siteAt}
-use Rattle.contig_walk.specs.Laying.{LayReady, TurnReady, Turns, laidRecord, ownOf}
+use Rattle.contig_walk.specs.Laying.{ClippedReady, LayReady, TurnReady, Turns, Underway, laidRecord, ownOf}
 use Rattle.contig_walk.specs.Walk.{ClipGiven}
 use Rattle.contig_walk.specs.declared.Turned.the-variants as turned
 
@@ -53,16 +53,27 @@ clip-spans false given = sym (given .clip-is)
 
 -- ---- a turn
 
-module _ {s rows : List ℕ} {samples : ℕ} {clipped : Bool} {clip : List ℕ} {referenced : Bool} {reference contig chosen from bounds : List ℕ}
+-- nothing changes
+pub unchanged : (x : Input) (s rows : List ℕ) (samples : ℕ) (reference contig : List ℕ) (first last : ℕ) (pending : Pending) (held : List ℕ) (at : ℕ)
+    (waiting : Option Record) (d₀ bytes : List ℕ) (records : ℕ) → Holds s rows samples reference contig held pending waiting
+    → (out : List ℕ) (count : ℕ) → Progress d₀ bytes records out at count
+    → ((later : Checked (List Record)) → withInterval x contig (record { first = first; last = last }) later ≡ later)
+    → Turns x s rows samples reference contig held out first last waiting d₀ bytes records
+    (turned.To (record { pending = pending; at = at; count = count }))
+unfolding Turns flatMap
+unchanged x s rows samples reference contig first last pending held at waiting d₀ bytes records h out count p same = record {
+  laid = [];
+  waits = waiting;
+  holds = h;
+  progress = rw (append-nil bytes, add-zero records) p;
+  turned = λ done later. rw (same later, append-nil done);
+}
+
+module _ {s rows : List ℕ} {samples : ℕ} {referenced : Bool} {reference contig chosen from bounds : List ℕ}
     {first last : ℕ} {pending : Pending} {held fresh found₀ owners₀ alts₀ : List ℕ} {at : ℕ}
-    (ready : TurnReady s rows samples clipped clip referenced reference contig chosen from bounds first last pending held fresh found₀ owners₀ alts₀ at) where
+    (ready : TurnReady s rows samples referenced reference contig chosen from bounds first last pending held fresh found₀ owners₀ alts₀ at) where
   abbrev on : OnContig s rows samples referenced reference contig
   on = ready .runs .on
-
-  -- what is told by the clip's text and rows is told of the input's clip
-  pub in-input-clip : {r v : Bool} → r ≡ inClip contig (onlyIf clipped (clipSpans clip rows)) (record { first = first; last = last }) → r ≡ v
-      → inClip contig (on .loaded .input .clip) (record { first = first; last = last }) ≡ v
-  in-input-clip e told = rw (← clip-spans clipped (ready .clip-given)) (sym e ∙ told)
 
   -- the samples stand beside the sites found
   module _ (found alts : List ℕ) (n : ℕ) (place : RefAt) (len number : ℕ) (to : RecordTo on first (take n found) alts n place len number) (owners : List ℕ)
@@ -82,106 +93,117 @@ module _ {s rows : List ℕ} {samples : ℕ} {clipped : Bool} {clip : List ℕ} 
     pub own-known : {own : List ℕ} → own ≡ ownRows (foundList (take n found) (take n owners)) 0 (replicate 64 (length rows)) → own ≡ ownOf rows (take n found)
     own-known e = e ∙ ap (λ (o : List ℕ). ownRows (foundList (take n found) o) 0 (replicate 64 (length rows))) beside
 
-  module _ (in-clip : inClip contig (on .loaded .input .clip) (record { first = first; last = last }) ≡ true) where
-    -- the covering sites are some, so the interval has a record
-    has-record : 0 < length (covering on first) → (later : Checked (List Record))
-        → withInterval (on .loaded .input) contig (record { first = first; last = last }) later
-        ≡ andLater (intervalRecord (on .loaded .input) contig (record { first = first; last = last })) later
-    unfolding withInterval
-    has-record some-site later = rw (in-clip, lt-ltb 0 (length (coveringSites (on .loaded .input .cohort) contig first)) some-site)
+  -- the covering sites are some, so the interval has a record
+  has-record : 0 < length (covering on first) → (later : Checked (List Record))
+      → withInterval (on .loaded .input) contig (record { first = first; last = last }) later
+      ≡ andLater (intervalRecord (on .loaded .input) contig (record { first = first; last = last })) later
+  unfolding withInterval
+  has-record some-site later = rw (ready .inside, lt-ltb 0 (length (coveringSites (on .loaded .input .cohort) contig first)) some-site)
 
-    module _ (found alts : List ℕ) (n : ℕ) (place : RefAt) (len number : ℕ) (to : RecordTo on first (take n found) alts n place len number) where
-      pub some-covering : 0 < length (covering on first)
-      some-covering = rw (← to .sites) (rw (length-map (take n found) (siteAt s rows)) (omega (arith, to .all, to .some-site)))
+  module _ (found alts : List ℕ) (n : ℕ) (place : RefAt) (len number : ℕ) (to : RecordTo on first (take n found) alts n place len number) where
+    pub some-covering : 0 < length (covering on first)
+    some-covering = rw (← to .sites) (rw (length-map (take n found) (siteAt s rows)) (omega (arith, to .all, to .some-site)))
 
-      -- the ALTs by themselves
-      pub exact : (text : List ℕ) → text ≡ between alts 0 len → RecordTo on first (take n found) text n place (length text) number
-      exact text e = record {
-        sites = to .sites;
-        known = to .known;
-        all = to .all;
-        some-site = to .some-site;
-        few = to .few;
-        ref = to .ref;
-        text = take-length text ∙ text-front text alts len e ∙ to .text;
-        number = to .number;
-        few-alts = to .few-alts;
-      }
+    -- the ALTs by themselves
+    pub exact : (text : List ℕ) → text ≡ between alts 0 len → RecordTo on first (take n found) text n place (length text) number
+    exact text e = record {
+      sites = to .sites;
+      known = to .known;
+      all = to .all;
+      some-site = to .some-site;
+      few = to .few;
+      ref = to .ref;
+      text = take-length text ∙ text-front text alts len e ∙ to .text;
+      number = to .number;
+      few-alts = to .few-alts;
+    }
 
-      unfoldable pub lay-ready : (text : List ℕ) → text ≡ between alts 0 len → (own : List ℕ) → own ≡ ownOf rows (take n found)
-          → LayReady s rows samples reference contig first last place number own text pending held fresh at
-      lay-ready text e own o =
-          let i = ready .sound in-clip some-covering in
-          record {
-            referenced = referenced;
-            on = on;
-            found = take n found;
-            own-is = o;
-            sites = n;
-            to = exact text e;
-            ordered = i .ordered;
-            in-range = i .in-range;
-            fits = ready .fits;
-            room = ready .room .for-held;
-            fresh-room = ready .room .for-fresh;
-          }
+    unfoldable pub lay-ready : (text : List ℕ) → text ≡ between alts 0 len → (own : List ℕ) → own ≡ ownOf rows (take n found)
+        → LayReady s rows samples reference contig first last place number own text pending held fresh at
+    lay-ready text e own o =
+        let i = ready .sound some-covering in
+        record {
+          referenced = referenced;
+          on = on;
+          found = take n found;
+          own-is = o;
+          sites = n;
+          to = exact text e;
+          ordered = i .ordered;
+          in-range = i .in-range;
+          fits = ready .fits;
+          room = ready .room .for-held;
+          fresh-room = ready .room .for-fresh;
+        }
 
-module _ {s rows : List ℕ} {samples : ℕ} {clipped : Bool} {clip : List ℕ} {referenced : Bool} {reference contig chosen from bounds : List ℕ}
+module _ {s rows : List ℕ} {samples : ℕ} {referenced : Bool} {reference contig chosen from bounds : List ℕ}
     {first last : ℕ} {pending : Pending} {held fresh found₀ owners₀ alts₀ : List ℕ} {at : ℕ}
-    (ready : TurnReady s rows samples clipped clip referenced reference contig chosen from bounds first last pending held fresh found₀ owners₀ alts₀ at)
+    (ready : TurnReady s rows samples referenced reference contig chosen from bounds first last pending held fresh found₀ owners₀ alts₀ at)
     (waiting : Option Record) (d₀ bytes : List ℕ) (records : ℕ)
     (h : Holds s rows samples reference contig held pending waiting) where
   abbrev on′ : OnContig s rows samples referenced reference contig
   on′ = ready .runs .on
 
-  -- nothing changes
-  unchanged : (out : List ℕ) (count : ℕ) → Progress d₀ bytes records out at count
-      → ((later : Checked (List Record)) → withInterval (on′ .loaded .input) contig (record { first = first; last = last }) later ≡ later)
-      → Turns (on′ .loaded .input) s rows samples reference contig held out first last waiting d₀ bytes records
-      (turned.To (record { pending = pending; at = at; count = count }))
-  unfolding Turns flatMap
-  unchanged out count p same = record {
-    laid = [];
-    waits = waiting;
-    holds = h;
-    progress = rw (append-nil bytes, add-zero records) p;
-    turned = λ done later. rw (same later, append-nil done);
-  }
-
-  pub turn-clipped : inClip contig (on′ .loaded .input .clip) (record { first = first; last = last }) ≡ false
-      → (out : List ℕ) (count : ℕ) → Progress d₀ bytes records out at count
+  pub turn-bare : covering on′ first ≡ [] → (out : List ℕ) (count : ℕ) → Progress d₀ bytes records out at count
       → Turns (on′ .loaded .input) s rows samples reference contig held out first last waiting d₀ bytes records
       (turned.To (record { pending = pending; at = at; count = count }))
   unfolding withInterval
-  turn-clipped e out count p = unchanged out count p (λ later. rw e)
+  turn-bare e out count p =
+      unchanged (on′ .loaded .input) s rows samples reference contig first last pending held at waiting d₀ bytes records h out count p
+      (λ later. rw (ready .inside, e))
 
-  module _ (in-clip : inClip contig (on′ .loaded .input .clip) (record { first = first; last = last }) ≡ true) where
-    pub turn-bare : covering on′ first ≡ [] → (out : List ℕ) (count : ℕ) → Progress d₀ bytes records out at count
-        → Turns (on′ .loaded .input) s rows samples reference contig held out first last waiting d₀ bytes records
-        (turned.To (record { pending = pending; at = at; count = count }))
-    unfolding withInterval
-    turn-bare e out count p = unchanged out count p (λ later. rw (in-clip, e))
+  -- a position without sites has no record to refuse
+  pub turn-none : (row : ℕ) → 0 < length (covering on′ first)
+      → ((last : ℕ) → intervalRecord (on′ .loaded .input) contig (record { first = first; last = last }) ≡ refused row)
+      → (out : List ℕ) → out ≡ sets d₀ 0 bytes
+      → Turns (on′ .loaded .input) s rows samples reference contig held out first last waiting d₀ bytes records (turned.Refused row)
+  unfolding Turns
+  turn-none row some-site e out same = record {
+    unlaid = same;
+    refuses = λ done later. rw (has-record ready some-site later) (turn-refused done _ later waiting row (e last));
+  }
 
-    -- a position without sites has no record to refuse
-    pub turn-none : (row : ℕ) → 0 < length (covering on′ first)
-        → ((last : ℕ) → intervalRecord (on′ .loaded .input) contig (record { first = first; last = last }) ≡ refused row)
-        → (out : List ℕ) → out ≡ sets d₀ 0 bytes
-        → Turns (on′ .loaded .input) s rows samples reference contig held out first last waiting d₀ bytes records (turned.Refused row)
-    unfolding Turns
-    turn-none row some-site e out same = record {
-      unlaid = same;
-      refuses = λ done later. rw (has-record ready in-clip some-site later) (turn-refused done _ later waiting row (e last));
+  module _ (found alts : List ℕ) (n : ℕ) (place : RefAt) (len number : ℕ) (to : RecordTo on′ first (take n found) alts n place len number) where
+    pub turn-laid : (text : List ℕ) (e : text ≡ between alts 0 len) (own : List ℕ) (o : own ≡ ownOf rows (take n found)) (held′ out : List ℕ) (step : Stepped)
+        → StepTo s rows samples reference contig held′ out waiting (laidRecord (lay-ready ready found alts n place len number to text e own o)) d₀ bytes records step
+        → Turns (on′ .loaded .input) s rows samples reference contig held′ out first last waiting d₀ bytes records (turned.To step)
+    unfolding Turns lay-ready
+    turn-laid text e own o held′ out step t = record {
+      laid = t .laid;
+      waits = t .waits;
+      holds = t .holds;
+      progress = t .progress;
+      turned = λ done later. rw (has-record ready (some-covering ready found alts n place len number to) later) (t .turned done _ later (record-is on′ first (exact ready found alts n place len number to text e) last));
     }
 
-    module _ (found alts : List ℕ) (n : ℕ) (place : RefAt) (len number : ℕ) (to : RecordTo on′ first (take n found) alts n place len number) where
-      pub turn-laid : (text : List ℕ) (e : text ≡ between alts 0 len) (own : List ℕ) (o : own ≡ ownOf rows (take n found)) (held′ out : List ℕ) (step : Stepped)
-          → StepTo s rows samples reference contig held′ out waiting (laidRecord (lay-ready ready in-clip found alts n place len number to text e own o)) d₀ bytes records step
-          → Turns (on′ .loaded .input) s rows samples reference contig held′ out first last waiting d₀ bytes records (turned.To step)
-      unfolding Turns lay-ready
-      turn-laid text e own o held′ out step t = record {
-        laid = t .laid;
-        waits = t .waits;
-        holds = t .holds;
-        progress = t .progress;
-        turned = λ done later. rw (has-record ready in-clip (some-covering ready in-clip found alts n place len number to) later) (t .turned done _ later (record-is on′ first (exact ready in-clip found alts n place len number to text e) last));
-      }
+-- ---- a turn where the clip is asked
+
+module _ {s rows : List ℕ} {samples : ℕ} {clipped : Bool} {clip : List ℕ} {referenced : Bool} {reference contig chosen from bounds : List ℕ}
+    {first last : ℕ} {pending : Pending} {held fresh found₀ owners₀ alts₀ : List ℕ} {at : ℕ}
+    (ready : ClippedReady s rows samples clipped clip referenced reference contig chosen from bounds first last pending held fresh found₀ owners₀ alts₀ at) where
+  abbrev x : Input
+  x = ready .runs .on .loaded .input
+
+  -- what is told by the clip's text and rows is told of the input's clip
+  pub in-input-clip : {r v : Bool} → r ≡ inClip contig (onlyIf clipped (clipSpans clip rows)) (record { first = first; last = last }) → r ≡ v
+      → inClip contig (x .clip) (record { first = first; last = last }) ≡ v
+  in-input-clip e told = rw (← clip-spans clipped (ready .clip-given)) (sym e ∙ told)
+
+  unfoldable pub inside-ready : inClip contig (x .clip) (record { first = first; last = last }) ≡ true
+      → TurnReady s rows samples referenced reference contig chosen from bounds first last pending held fresh found₀ owners₀ alts₀ at
+  inside-ready inside = record {
+    runs = ready .runs;
+    inside = inside;
+    sound = ready .sound inside;
+    ended = ready .ended;
+    fits = ready .fits;
+    room = ready .room;
+  }
+
+  pub turn-clipped : inClip contig (x .clip) (record { first = first; last = last }) ≡ false
+      → (out : List ℕ) (count : ℕ) (way : Underway s rows samples reference contig held pending out at count)
+      → Turns x s rows samples reference contig held out first last (way .waiting) (way .begun .d₀) (way .begun .bytes) (way .begun .records)
+      (turned.To (record { pending = pending; at = at; count = count }))
+  unfolding withInterval
+  turn-clipped e out count way =
+      unchanged x s rows samples reference contig first last pending held at (way .waiting) (way .begun .d₀) (way .begun .bytes) (way .begun .records) (way .holds) out count (way .begun .progress) (λ later. rw e)

@@ -1,9 +1,9 @@
 -- The loop over a contig's intervals: the records that are laid, the one that waits, and that what is left gives the rest.
 use Prim.Native.Nat.{_+_, _-_, _<_, _≤_, min, suc, zero, ℕ}
 use borrow.Author.Tests.{lt-ltb}
-use lib.ListN.{getD, length, length-append}
+use lib.ListN.{getD, length}
 use mathlib.Core.Bool.{Bool, true}
-use mathlib.Core.List.{List, List·Memᴰ·head, List·Memᴰ·tail, [], _++_, _∷_, append-assoc, append-nil, flatMap}
+use mathlib.Core.List.{List, List·Memᴰ·head, List·Memᴰ·tail, [], _++_, _∷_, append-nil, flatMap}
 use mathlib.Core.Option.{Option, none, some}
 use mathlib.Core.Path.{_∙_, _≡_, ap, refl, subst, sym}
 use native.Mathlib.Nat.{add-zero}
@@ -26,15 +26,16 @@ use Rattle.definitions.specs.Records.{Record}
 use Rattle.kv_write.specs.Laid.{Laid}
 use Rattle.laws.proofs.Every.{Pairwise, also, before-all, every-member}
 use Rattle.laws.proofs.IntervalsSound.{SoundInterval, intervals-sound}
-use Rattle.laws.proofs.Members.{_∈_, filter-member, flatMap-append}
+use Rattle.laws.proofs.Members.{_∈_, filter-member}
 use Rattle.laws.proofs.Orders.{ascending-numbers}
 use Rattle.list_header.specs.Measured.{limit}
 use Rattle.merged_records.specs.Loaded.{OnContig}
 use Rattle.record_laws.proofs.Coalescing.{at-end, at-end-pending}
 use Rattle.record_laws.proofs.Walking.{here, recordsFrom, walk-end, walk-start, walk-turn}
 use Rattle.record_laws.specs.Pending.{finish, mergedContig}
+use Rattle.contig_walk.proofs.Behind.{bytes-are, count-is}
 use Rattle.contig_walk.proofs.LaidRecords.{contig-named}
-use Rattle.contig_walk.specs.Laying.{TurnReady, TurnRoom, Turns, Underway}
+use Rattle.contig_walk.specs.Laying.{ClippedReady, TurnRoom, Turns, Underway}
 use Rattle.contig_walk.specs.Walk.{RecordsWalked, WalkReady}
 use Rattle.contig_walk.specs.declared.Turned.the-variants as turned
 use Rattle.contig_walk.specs.declared.Walked.the-variants as walked
@@ -99,12 +100,6 @@ module _ {s rows : List ℕ} {samples : ℕ} {clipped : Bool} {clip : List ℕ} 
     search-later more = ended-later (omega (arith, past-place k more)) search-here
 
   module _ (d₀ bytes : List ℕ) (records : ℕ) where
-    bytes-are : (done laid : List Record) → bytes ++ flatMap printedRecord (done ++ laid) ≡ bytes ++ flatMap printedRecord done ++ flatMap printedRecord laid
-    bytes-are done laid = ap (λ (l : List ℕ). bytes ++ l) (flatMap-append printedRecord done laid) ∙ sym (append-assoc bytes (flatMap printedRecord done) (flatMap printedRecord laid))
-
-    count-is : (done laid : List Record) → records + length (done ++ laid) ≡ records + length done + length laid
-    count-is done laid = omega (arith, length-append done laid)
-
     pub record Walking (out held : List ℕ) (state : Stepped) (k : ℕ) : Type 0 where
       pub done : List Record
       pub waiting : Option Record
@@ -146,7 +141,7 @@ module _ {s rows : List ℕ} {samples : ℕ} {clipped : Bool} {clip : List ℕ} 
         whole = sym (t .turned (w .done) (left (k + 1)))
             ∙ rw (f, l) (ap (finish (w .done) (w .waiting)) (sym (walk-turn (on .loaded .input) contig places k more))) ∙ w .whole;
         holds = t .holds;
-        progress = rw (bytes-are (w .done) (t .laid), count-is (w .done) (t .laid)) (t .progress);
+        progress = rw (bytes-are bytes records (w .done) (t .laid), count-is bytes records (w .done) (t .laid)) (t .progress);
       }
 
       -- ---- the end
@@ -159,7 +154,7 @@ module _ {s rows : List ℕ} {samples : ℕ} {clipped : Bool} {clip : List ℕ} 
       walking-end past out′ end l = record {
         list = w .done ++ ofOption (w .waiting);
         merged = sym (w .whole) ∙ ended (w .done) (w .waiting);
-        progress = rw (bytes-are (w .done) (ofOption (w .waiting)), count-is (w .done) (ofOption (w .waiting)))
+        progress = rw (bytes-are bytes records (w .done) (ofOption (w .waiting)), count-is bytes records (w .done) (ofOption (w .waiting)))
             (laid-pending s rows samples reference contig held d₀ (bytes ++ flatMap printedRecord (w .done)) (records + length (w .done))
             (state .pending) (w .waiting) (w .holds) (w .progress) l);
       }
@@ -183,7 +178,7 @@ module _ {s rows : List ℕ} {samples : ℕ} {clipped : Bool} {clip : List ℕ} 
 
       unfoldable pub turn-ready : {from fresh found owners alts : List ℕ} (first last : ℕ) → k + 1 < length places → first ≡ getD places k 0 → last ≡ getD places (k + 1) 0 - 1
           → Ended rows chosen bounds from samples first → TurnRoom samples held fresh found owners alts
-          → TurnReady s rows samples clipped clip referenced reference contig chosen from bounds first last (state .pending) held fresh found owners alts (state .at)
+          → ClippedReady s rows samples clipped clip referenced reference contig chosen from bounds first last (state .pending) held fresh found owners alts (state .at)
       turn-ready first last more f l ended room = record {
         runs = ready .runs;
         clip-given = ready .clip-given;

@@ -75,8 +75,18 @@ pub record TurnRoom (samples : ℕ) (held fresh found owners alts : List ℕ) : 
   pub for-fresh : 8192 ≤ length fresh
   pub for-record : RecordRoom samples found owners alts
 
--- what a turn of the walk is lent: the contig, the clip, an interval that is sound if it has a record, where the searches begin, and what is held back
-pub record TurnReady (s rows : List ℕ) (samples : ℕ) (clipped : Bool) (clip : List ℕ) (referenced : Bool) (reference contig chosen from bounds : List ℕ)
+-- what a turn of the walk is lent: the contig, an interval in the clip that is sound if it has a record, where the searches begin, and what is held back
+pub record TurnReady (s rows : List ℕ) (samples : ℕ) (referenced : Bool) (reference contig chosen from bounds : List ℕ)
+    (first last : ℕ) (pending : Pending) (held fresh found owners alts : List ℕ) (at : ℕ) : Type 0 where
+  pub runs : ContigRuns s rows samples referenced reference contig chosen bounds
+  pub inside : inClip contig (runs .on .loaded .input .clip) (record { first = first; last = last }) ≡ true
+  pub sound : 0 < length (coveringSites (runs .on .loaded .input .cohort) contig first) → SoundInterval (record { first = first; last = last })
+  pub ended : Ended rows chosen bounds from samples first
+  pub fits : PendingFits s rows reference contig held pending at
+  pub room : TurnRoom samples held fresh found owners alts
+
+-- the same, where it is not known whether the interval lies in the clip
+pub record ClippedReady (s rows : List ℕ) (samples : ℕ) (clipped : Bool) (clip : List ℕ) (referenced : Bool) (reference contig chosen from bounds : List ℕ)
     (first last : ℕ) (pending : Pending) (held fresh found owners alts : List ℕ) (at : ℕ) : Type 0 where
   pub runs : ContigRuns s rows samples referenced reference contig chosen bounds
   pub clip-given : ClipGiven clipped clip rows (runs .on .loaded .input)

@@ -10,7 +10,7 @@ ghost use Rattle.definitions.specs.Lists.{onlyIf};
 ghost use Rattle.intervals.specs.InClip.{clipSpans, intervalOf};
 ghost use Rattle.merged_ref.specs.Answers.{refBytes};
 ghost use Rattle.record_laws.specs.Pending.{mergedContig};
-ghost use Rattle.contig_walk.specs.Laying.{LayReady, TurnReady, Turns, Underway, laidRecord};
+ghost use Rattle.contig_walk.specs.Laying.{ClippedReady, LayReady, TurnReady, Turns, Underway, laidRecord};
 ghost use Rattle.contig_walk.specs.Walk.{Begun, RecordsWalked, WalkReady, WalkRoom};
 use bio_ids::GenomeLoc;
 use bio_ids::GenomePosition;
@@ -172,18 +172,16 @@ fn passes_clip(clipped: bool, clip: &[u8], rows: &[usize], contig: &[u8], loc: G
 }
 
 // What a turn of the walk leaves; or the row that refuses the interval's record.
-enum Turned {
+pub enum Turned {
     To(Stepped),
     Refused(usize),
 }
 
-// Lays the record of an interval, if it lies in the clip and sites cover it.
-fn walk_interval<'a>(
+// Lays the record of an interval that lies in the clip, if sites cover it.
+pub fn walk_interval<'a>(
     s: &'a [u8],
     rows: &[usize],
     samples: usize,
-    clipped: bool,
-    clip: &[u8],
     referenced: bool,
     reference: &'a [u8],
     contig: &[u8],
@@ -201,17 +199,14 @@ fn walk_interval<'a>(
     at: usize,
     count: usize,
 ) -> Turned
-    requires { ⌜ TurnReady (now s) (now rows) samples clipped (now clip) referenced (now reference) (now contig) (now chosen) (now from) (now bounds) (loc .start .0) (loc .end .0) pending (now held) (now fresh) (now found) (now owners) (now alts) at
+    requires { ⌜ TurnReady (now s) (now rows) samples referenced (now reference) (now contig) (now chosen) (now from) (now bounds) (loc .start .0) (loc .end .0) pending (now held) (now fresh) (now found) (now owners) (now alts) at
         × Underway (now s) (now rows) samples (now reference) (now contig) (now held) pending (now out) at count ⌝ }
-    ensures { λ r. ⌜ ((ready : TurnReady (now (s .entry)) (now (rows .entry)) samples clipped (now (clip .entry)) referenced (now (reference .entry)) (now (contig .entry)) (now (chosen .entry)) (now (from .entry)) (now (bounds .entry)) (loc .start .0) (loc .end .0) pending (now (held .entry)) (now (fresh .entry)) (now (found .entry)) (now (owners .entry)) (now (alts .entry)) at)
+    ensures { λ r. ⌜ ((ready : TurnReady (now (s .entry)) (now (rows .entry)) samples referenced (now (reference .entry)) (now (contig .entry)) (now (chosen .entry)) (now (from .entry)) (now (bounds .entry)) (loc .start .0) (loc .end .0) pending (now (held .entry)) (now (fresh .entry)) (now (found .entry)) (now (owners .entry)) (now (alts .entry)) at)
         (way : Underway (now (s .entry)) (now (rows .entry)) samples (now (reference .entry)) (now (contig .entry)) (now (held .entry)) pending (now (out .entry)) at count)
         → Turns (ready .runs .on .loaded .input) (now (s .entry)) (now (rows .entry)) samples (now (reference .entry)) (now (contig .entry)) (now (held .exit)) (now (out .exit)) (loc .start .0) (loc .end .0)
         (way .waiting) (way .begun .d₀) (way .begun .bytes) (way .begun .records) r) ⌝ }
 {
     let same = Stepped { pending, at, count };
-    if !passes_clip(clipped, clip, rows, contig, loc) {
-        return Turned::To(same);
-    }
     let here = merged_records::merge_reference_confidence(
         s,
         rows,
@@ -257,6 +252,63 @@ fn walk_interval<'a>(
     }
 }
 
+// Lays the record of an interval, if it lies in the clip and sites cover it.
+fn walk_clipped<'a>(
+    s: &'a [u8],
+    rows: &[usize],
+    samples: usize,
+    clipped: bool,
+    clip: &[u8],
+    referenced: bool,
+    reference: &'a [u8],
+    contig: &[u8],
+    chosen: &[usize],
+    from: &[usize],
+    bounds: &[usize],
+    loc: GenomeLoc,
+    pending: Pending,
+    held: &mut [u8],
+    fresh: &mut [u8],
+    found: &mut [usize],
+    owners: &mut [usize],
+    alts: &mut [u8],
+    out: &mut [u8],
+    at: usize,
+    count: usize,
+) -> Turned
+    requires { ⌜ ClippedReady (now s) (now rows) samples clipped (now clip) referenced (now reference) (now contig) (now chosen) (now from) (now bounds) (loc .start .0) (loc .end .0) pending (now held) (now fresh) (now found) (now owners) (now alts) at
+        × Underway (now s) (now rows) samples (now reference) (now contig) (now held) pending (now out) at count ⌝ }
+    ensures { λ r. ⌜ ((ready : ClippedReady (now (s .entry)) (now (rows .entry)) samples clipped (now (clip .entry)) referenced (now (reference .entry)) (now (contig .entry)) (now (chosen .entry)) (now (from .entry)) (now (bounds .entry)) (loc .start .0) (loc .end .0) pending (now (held .entry)) (now (fresh .entry)) (now (found .entry)) (now (owners .entry)) (now (alts .entry)) at)
+        (way : Underway (now (s .entry)) (now (rows .entry)) samples (now (reference .entry)) (now (contig .entry)) (now (held .entry)) pending (now (out .entry)) at count)
+        → Turns (ready .runs .on .loaded .input) (now (s .entry)) (now (rows .entry)) samples (now (reference .entry)) (now (contig .entry)) (now (held .exit)) (now (out .exit)) (loc .start .0) (loc .end .0)
+        (way .waiting) (way .begun .d₀) (way .begun .bytes) (way .begun .records) r) ⌝ }
+{
+    if !passes_clip(clipped, clip, rows, contig, loc) {
+        return Turned::To(Stepped { pending, at, count });
+    }
+    walk_interval(
+        s,
+        rows,
+        samples,
+        referenced,
+        reference,
+        contig,
+        chosen,
+        from,
+        bounds,
+        loc,
+        pending,
+        held,
+        fresh,
+        found,
+        owners,
+        alts,
+        out,
+        at,
+        count,
+    )
+}
+
 // Lays the records of a contig behind those before it, as far as they fit: rows 11 to 13. `held` and `fresh` take the samples'
 // lines of the record that is held back and of the next one, `alts` its ALTs. After a refusal some records that come before it are laid.
 pub fn walk_contig<'a>(
@@ -299,7 +351,7 @@ pub fn walk_contig<'a>(
         let loc = GenomeLoc::new(first, last);
         covering_sites::skip_ended(rows, chosen, bounds, samples, loc.start, &mut from);
         let pending = state.pending;
-        let turn = walk_interval(
+        let turn = walk_clipped(
             s,
             rows,
             samples,

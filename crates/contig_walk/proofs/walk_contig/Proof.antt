@@ -65,17 +65,17 @@ slice-aggregate-skip-ended c = search needs
 skip-ended-requires : tie.Need-skip-ended-requires Inv-loop μ-loop
 skip-ended-requires c κs = ((c .before .before .before .before .before .before .before .before .before .before .before .before .before .before .before .before .before .before .before .before .before .before .before .pre .0 .runs .in-runs .bounded), omega (arith, (c .before .before .before .before .before .before .before .loop .inv .8 .long)))
 
-slice-aggregate-walk-interval : tie.Need-slice-aggregate-walk-interval Inv-loop μ-loop
-slice-aggregate-walk-interval c = search needs
+slice-aggregate-walk-clipped : tie.Need-slice-aggregate-walk-clipped Inv-loop μ-loop
+slice-aggregate-walk-clipped c = search needs
 
-slice-aggregate-walk-interval-2 : tie.Need-slice-aggregate-walk-interval-2 Inv-loop μ-loop
-slice-aggregate-walk-interval-2 c = search needs
+slice-aggregate-walk-clipped-2 : tie.Need-slice-aggregate-walk-clipped-2 Inv-loop μ-loop
+slice-aggregate-walk-clipped-2 c = search needs
 
-slice-aggregate-walk-interval-3 : tie.Need-slice-aggregate-walk-interval-3 Inv-loop μ-loop
-slice-aggregate-walk-interval-3 c = search needs
+slice-aggregate-walk-clipped-3 : tie.Need-slice-aggregate-walk-clipped-3 Inv-loop μ-loop
+slice-aggregate-walk-clipped-3 c = search needs
 
-walk-interval-requires : tie.Need-walk-interval-requires Inv-loop μ-loop
-walk-interval-requires c κs =
+walk-clipped-requires : tie.Need-walk-clipped-requires Inv-loop μ-loop
+walk-clipped-requires c κs =
     let start = c .before .before .before .before .before .before .before .before .before .before .before .before .before .before .before .before .before .before .before .before .before .before .before .before .before .before .before .before .before .before .before .before in
     let at-loop = c .before .before .before .before .before .before .before .before .before .before .before .before .before .before .before .before .loop .inv in
     let more = c .before .before .before .before .before .before .before .before .before .before .before .before .before .before .before .loop-test .taken in
@@ -102,16 +102,16 @@ enum-known-turn : tie.Need-enum-known-turn Inv-loop μ-loop
 enum-known-turn c = search needs
 
 same-length : tie.Need-same-length Inv-loop μ-loop
-same-length c = (c .before .before .before .before .before .before .before .before .before .before .before .before .before .walk-interval .kept .1 .1 .1 .1 .1 .1 .1 .1 .1 .1 .1 .1 .1 .0) ∙ (c .before .before .before .before .before .before .before .before .before .before .before .before .before .before .before .before .before .before .before .before .before .before .before .before .before .before .before .before .before .before .loop .inv .0)
+same-length c = (c .before .before .before .before .before .before .before .before .before .before .before .before .before .walk-clipped .kept .1 .1 .1 .1 .1 .1 .1 .1 .1 .1 .1 .1 .1 .0) ∙ (c .before .before .before .before .before .before .before .before .before .before .before .before .before .before .before .before .before .before .before .before .before .before .before .before .before .before .before .before .before .before .loop .inv .0)
 
 same-length-2 : tie.Need-same-length-2 Inv-loop μ-loop
-same-length-2 c = (c .before .before .before .before .before .before .before .before .before .before .before .before .before .walk-interval .kept .1 .1 .1 .1 .1 .1 .1 .1 .1 .1 .1 .1 .1 .1 .0) ∙ (c .before .before .before .before .before .before .before .before .before .before .before .before .before .before .before .before .before .before .before .before .before .before .before .before .before .before .before .before .before .before .loop .inv .4)
+same-length-2 c = (c .before .before .before .before .before .before .before .before .before .before .before .before .before .walk-clipped .kept .1 .1 .1 .1 .1 .1 .1 .1 .1 .1 .1 .1 .1 .1 .0) ∙ (c .before .before .before .before .before .before .before .before .before .before .before .before .before .before .before .before .before .before .before .before .before .before .before .before .before .before .before .before .before .before .loop .inv .4)
 
 same-length-3 : tie.Need-same-length-3 Inv-loop μ-loop
-same-length-3 c = (c .before .before .before .before .before .before .before .before .before .before .before .before .before .walk-interval .kept .1 .1 .1 .1 .1 .1 .1 .1 .1 .1 .1 .1 .1 .1 .1 .1 .1 .0) ∙ (c .before .before .before .before .before .before .before .before .before .before .before .before .before .before .before .before .before .before .before .before .before .before .before .before .before .before .before .before .before .before .loop .inv .6)
+same-length-3 c = (c .before .before .before .before .before .before .before .before .before .before .before .before .before .walk-clipped .kept .1 .1 .1 .1 .1 .1 .1 .1 .1 .1 .1 .1 .1 .1 .1 .1 .1 .0) ∙ (c .before .before .before .before .before .before .before .before .before .before .before .before .before .before .before .before .before .before .before .before .before .before .before .before .before .before .before .before .before .before .loop .inv .6)
 
 same-length-4 : tie.Need-same-length-4 Inv-loop μ-loop
-same-length-4 c = (c .before .before .before .before .before .before .before .before .before .before .before .before .before .walk-interval .kept .1 .1 .1 .1 .1 .1 .1 .1 .1 .1 .1 .1 .1 .1 .1 .1 .1 .1 .0) ∙ (c .before .before .before .before .before .before .before .before .before .before .before .before .before .before .before .before .before .before .before .before .before .before .before .before .before .before .before .before .before .before .loop .inv .1)
+same-length-4 c = (c .before .before .before .before .before .before .before .before .before .before .before .before .before .walk-clipped .kept .1 .1 .1 .1 .1 .1 .1 .1 .1 .1 .1 .1 .1 .1 .1 .1 .1 .1 .0) ∙ (c .before .before .before .before .before .before .before .before .before .before .before .before .before .before .before .before .before .before .before .before .before .before .before .before .before .before .before .before .before .before .loop .inv .1)
 
 returns : tie.Need-returns Inv-loop μ-loop
 unfolding turn-ready turn-underway
@@ -125,7 +125,7 @@ returns c = λ ready begun.
     let searched = search-here (start .pre .0) _ (at-loop .8) _ first (c .before .before .before .before .before .before .before .before .before .before .before .before .before .before .before .before .before .before .before .before .before .before .skip-ended .ensures) in
     let w = at-loop .3 ready begun in
     refused-here ready (begun .d₀) (begun .bytes) (begun .records) _ _ _ _ w _ _ _ _ _ more first last
-    (rw (c .before .turn .given .1) at (c .before .before .before .before .before .before .before .before .before .before .before .before .before .walk-interval .ensures (turn-ready ready (begun .d₀) (begun .bytes) (begun .records) _ _ _ _ w _ _ more first last searched (record {
+    (rw (c .before .turn .given .1) at (c .before .before .before .before .before .before .before .before .before .before .before .before .before .walk-clipped .ensures (turn-ready ready (begun .d₀) (begun .bytes) (begun .records) _ _ _ _ w _ _ more first last searched (record {
       for-held = omega (arith, at-loop .0, start .pre .2 .for-held);
       for-fresh = omega (arith, at-loop .4, start .pre .2 .for-fresh);
       for-record = record {
@@ -155,13 +155,13 @@ loop-again c =
     let first = loc .0 ∙ c .before .before .before .before .before .before .before .before .before .before .before .before .before .before .before .before .before .before .before .before .before .before .before .before .before .before .before .new-1based .ensures in
     let last = loc .1 ∙ c .before .before .before .before .before .before .before .before .before .before .before .before .before .before .before .before .before .before .before .before .before .before .before .before .before .new-1based2 .ensures in
     let searched = search-here (start .pre .0) _ (at-loop .8) _ first (c .before .before .before .before .before .before .before .before .before .before .before .before .before .before .before .before .before .before .before .before .before .before .skip-ended .ensures) in (
-      c .before .before .before .before .before .before .before .before .before .before .before .before .before .walk-interval .kept .1 .1 .1 .1 .1 .1 .1 .1 .1 .1 .1 .1 .1 .0 ∙ at-loop .0,
-      c .before .before .before .before .before .before .before .before .before .before .before .before .before .walk-interval .kept .1 .1 .1 .1 .1 .1 .1 .1 .1 .1 .1 .1 .1 .1 .1 .1 .1 .1 .0 ∙ at-loop .1,
+      c .before .before .before .before .before .before .before .before .before .before .before .before .before .walk-clipped .kept .1 .1 .1 .1 .1 .1 .1 .1 .1 .1 .1 .1 .1 .0 ∙ at-loop .0,
+      c .before .before .before .before .before .before .before .before .before .before .before .before .before .walk-clipped .kept .1 .1 .1 .1 .1 .1 .1 .1 .1 .1 .1 .1 .1 .1 .1 .1 .1 .1 .0 ∙ at-loop .1,
       omega (arith, more),
       (λ ready begun.
           let w = at-loop .3 ready begun in
           walking-next ready (begun .d₀) (begun .bytes) (begun .records) _ _ _ _ w _ _ _ _ _ more first last
-          (rw (c .before .turn2 .given .1) at (c .before .before .before .before .before .before .before .before .before .before .before .before .before .walk-interval .ensures (turn-ready ready (begun .d₀) (begun .bytes) (begun .records) _ _ _ _ w _ _ more first last searched (record {
+          (rw (c .before .turn2 .given .1) at (c .before .before .before .before .before .before .before .before .before .before .before .before .before .walk-clipped .ensures (turn-ready ready (begun .d₀) (begun .bytes) (begun .records) _ _ _ _ w _ _ more first last searched (record {
             for-held = omega (arith, at-loop .0, start .pre .2 .for-held);
             for-fresh = omega (arith, at-loop .4, start .pre .2 .for-fresh);
             for-record = record {
@@ -171,12 +171,12 @@ loop-again c =
             };
           }))
           (turn-underway ready (begun .d₀) (begun .bytes) (begun .records) _ _ _ _ w)))),
-      c .before .before .before .before .before .before .before .before .before .before .before .before .before .walk-interval .kept .1 .1 .1 .1 .1 .1 .1 .1 .1 .1 .1 .1 .1 .1 .0 ∙ at-loop .4,
-      c .before .before .before .before .before .before .before .before .before .before .before .before .before .walk-interval .kept .1 .1 .1 .1 .1 .1 .1 .1 .1 .1 .1 .1 .1 .1 .1 .0 ∙ at-loop .5,
-      c .before .before .before .before .before .before .before .before .before .before .before .before .before .walk-interval .kept .1 .1 .1 .1 .1 .1 .1 .1 .1 .1 .1 .1 .1 .1 .1 .1 .1 .0 ∙ at-loop .6,
+      c .before .before .before .before .before .before .before .before .before .before .before .before .before .walk-clipped .kept .1 .1 .1 .1 .1 .1 .1 .1 .1 .1 .1 .1 .1 .1 .0 ∙ at-loop .4,
+      c .before .before .before .before .before .before .before .before .before .before .before .before .before .walk-clipped .kept .1 .1 .1 .1 .1 .1 .1 .1 .1 .1 .1 .1 .1 .1 .1 .0 ∙ at-loop .5,
+      c .before .before .before .before .before .before .before .before .before .before .before .before .before .walk-clipped .kept .1 .1 .1 .1 .1 .1 .1 .1 .1 .1 .1 .1 .1 .1 .1 .1 .1 .0 ∙ at-loop .6,
       c .before .before .before .before .before .before .before .before .before .before .before .before .before .before .before .before .before .before .before .before .before .before .skip-ended .kept .1 .1 .1 .1 .1 .0 ∙ at-loop .7,
       search-later (start .pre .0) _ (at-loop .8) _ first (c .before .before .before .before .before .before .before .before .before .before .before .before .before .before .before .before .before .before .before .before .before .before .skip-ended .ensures) more,
-      c .before .before .before .before .before .before .before .before .before .before .before .before .before .walk-interval .kept .1 .1 .1 .1 .1 .1 .1 .1 .1 .1 .1 .1 .1 .1 .1 .1 .0 ∙ at-loop .9,
+      c .before .before .before .before .before .before .before .before .before .before .before .before .before .walk-clipped .kept .1 .1 .1 .1 .1 .1 .1 .1 .1 .1 .1 .1 .1 .1 .1 .1 .0 ∙ at-loop .9,
     )
 
 put-pending-requires : tie.Need-put-pending-requires Inv-loop μ-loop
@@ -229,10 +229,10 @@ walk-contig-spec =
     new-requires
     slice-aggregate-skip-ended
     skip-ended-requires
-    slice-aggregate-walk-interval
-    slice-aggregate-walk-interval-2
-    slice-aggregate-walk-interval-3
-    walk-interval-requires
+    slice-aggregate-walk-clipped
+    slice-aggregate-walk-clipped-2
+    slice-aggregate-walk-clipped-3
+    walk-clipped-requires
     enum-known-turn
     same-length
     same-length-2

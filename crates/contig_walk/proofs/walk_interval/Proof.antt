@@ -1,22 +1,13 @@
--- By the clip, then by what is found at the interval's first position.
+-- By what is found at the interval's first position.
 use borrow.Author.Needs.{needs}
-use borrow.Author.Tests.{not-false, not-true}
-use Rattle.contig_walk.proofs.Turns.{front-within, in-input-clip, lay-ready, own-asked, own-known, owners-exact, owners-front, turn-bare, turn-clipped, turn-laid, turn-none}
+use Rattle.contig_walk.proofs.Turns.{front-within, lay-ready, own-asked, own-known, owners-exact, owners-front, turn-bare, turn-laid, turn-none}
 use Rattle.merged_records.specs.Found.{RecordFound}
 use Rattle.contig_walk.proofs.walk_interval.Statement.{statement}
 use Rattle.contig_walk.proofs.walk_interval.Tie as tie
 
-passes-clip-requires : tie.Need-passes-clip-requires
-passes-clip-requires c κs = search needs
-
-returns : tie.Need-returns
-returns c = λ ready way.
-    let outside = in-input-clip ready (c .before .passes-clip .ensures) (not-true _ (c .if1 .taken)) in
-    turn-clipped ready (way .waiting) (way .begun .d₀) (way .begun .bytes) (way .begun .records) (way .holds) outside _ _ (way .begun .progress)
-
 merge-reference-confidence-requires : tie.Need-merge-reference-confidence-requires
 merge-reference-confidence-requires c κs =
-    let start = c .before .before .before .before .before .before .before .before .before .before .before .before .before .before .before .before .before .before .before in
+    let start = c .before .before .before .before .before .before .before .before .before .before .before .before .before .before .before .before in
     (start .pre .0 .runs, start .pre .0 .room .for-record, start .pre .0 .ended)
 
 enum-told : tie.Need-enum-told
@@ -32,7 +23,7 @@ slice-reshare-prefix-own-sites : tie.Need-slice-reshare-prefix-own-sites
 unfolding RecordFound
 slice-reshare-prefix-own-sites c =
     let at-merge = c .before .before .before .before .before .before .before .before .before in
-    let start = at-merge .before .before .before .before .before .before .before .before .before .before .before .before .before .before .before .before .before .before .before .before in
+    let start = at-merge .before .before .before .before .before .before .before .before .before .before .before .before .before .before .before .before .before in
     let answer = at-merge .merge-reference-confidence .ensures in
     let f = rw (c .before .here2 .given .1) at (answer .0 (start .pre .0 .runs)) in
     front-within _ (f .all)
@@ -41,7 +32,7 @@ slice-aggregate-own-sites : tie.Need-slice-aggregate-own-sites
 unfolding RecordFound
 slice-aggregate-own-sites c =
     let at-merge = c .before .before .before .before .before .before .before .before .before .before in
-    let start = at-merge .before .before .before .before .before .before .before .before .before .before .before .before .before .before .before .before .before .before .before .before in
+    let start = at-merge .before .before .before .before .before .before .before .before .before .before .before .before .before .before .before .before .before in
     let answer = at-merge .merge-reference-confidence .ensures in
     let f = rw (c .before .before .here2 .given .1) at (answer .0 (start .pre .0 .runs)) in
     f .all
@@ -50,7 +41,7 @@ slice-reshare-prefix-own-sites-2 : tie.Need-slice-reshare-prefix-own-sites-2
 unfolding RecordFound
 slice-reshare-prefix-own-sites-2 c =
     let at-merge = c .before .before .before .before .before .before .before .before .before .before in
-    let start = at-merge .before .before .before .before .before .before .before .before .before .before .before .before .before .before .before .before .before .before .before .before in
+    let start = at-merge .before .before .before .before .before .before .before .before .before .before .before .before .before .before .before .before .before in
     let answer = at-merge .merge-reference-confidence .ensures in
     let f = rw (c .before .before .here2 .given .1) at (answer .0 (start .pre .0 .runs)) in
     owners-front (start .pre .0) _ _ _ _ _ _ f _ (answer .1 .0 (start .pre .0 .runs)) (answer .1 .1 (start .pre .0 .runs))
@@ -59,7 +50,7 @@ slice-aggregate-own-sites-2 : tie.Need-slice-aggregate-own-sites-2
 unfolding RecordFound
 slice-aggregate-own-sites-2 c =
     let at-merge = c .before .before .before .before .before .before .before .before .before .before .before in
-    let start = at-merge .before .before .before .before .before .before .before .before .before .before .before .before .before .before .before .before .before .before .before .before in
+    let start = at-merge .before .before .before .before .before .before .before .before .before .before .before .before .before .before .before .before .before in
     let answer = at-merge .merge-reference-confidence .ensures in
     let f = rw (c .before .before .before .here2 .given .1) at (answer .0 (start .pre .0 .runs)) in
     owners-exact (start .pre .0) _ _ _ _ _ _ f _ (answer .1 .0 (start .pre .0 .runs)) (answer .1 .1 (start .pre .0 .runs))
@@ -71,7 +62,7 @@ own-sites-requires : tie.Need-own-sites-requires
 unfolding RecordFound
 own-sites-requires c κs =
     let at-merge = c .before .before .before .before .before .before .before .before .before .before .before .before in
-    let start = at-merge .before .before .before .before .before .before .before .before .before .before .before .before .before .before .before .before .before .before .before .before in
+    let start = at-merge .before .before .before .before .before .before .before .before .before .before .before .before .before .before .before .before .before in
     let answer = at-merge .merge-reference-confidence .ensures in
     let f = rw (c .before .before .before .before .here2 .given .1) at (answer .0 (start .pre .0 .runs)) in
     own-asked (start .pre .0) _ _ _ _ _ _ f _ (answer .1 .0 (start .pre .0 .runs)) (answer .1 .1 (start .pre .0 .runs))
@@ -86,13 +77,11 @@ lay-record-requires : tie.Need-lay-record-requires
 unfolding RecordFound
 lay-record-requires c κs =
     let at-merge = c .before .before .before .before .before .before .before .before .before .before .before .before .before .before .before .before .before .before .before .before in
-    let start = at-merge .before .before .before .before .before .before .before .before .before .before .before .before .before .before .before .before .before .before .before .before in
+    let start = at-merge .before .before .before .before .before .before .before .before .before .before .before .before .before .before .before .before .before in
     let answer = at-merge .merge-reference-confidence .ensures in
     let f = rw (c .before .before .before .before .before .before .before .before .before .before .before .before .here2 .given .1) at (answer .0 (start .pre .0 .runs)) in
-    let at-clip = at-merge .before .before .before .before in
-    let inside = in-input-clip (start .pre .0) (at-clip .before .passes-clip .ensures) (not-false _ (at-clip .if1 .left)) in
     let own = own-known (start .pre .0) _ _ _ _ _ _ f _ (answer .1 .0 (start .pre .0 .runs)) (answer .1 .1 (start .pre .0 .runs)) (c .before .before .before .before .before .before .before .own-sites .ensures) in
-    (lay-ready (start .pre .0) inside _ _ _ _ _ _ f _ (c .before .before .before .before .part .ensures) _ own, start .pre .1)
+    (lay-ready (start .pre .0) _ _ _ _ _ _ f _ (c .before .before .before .before .part .ensures) _ own, start .pre .1)
 
 same-length : tie.Need-same-length
 same-length c = c .before .before .before .before .before .before .before .before .merge-reference-confidence .kept .1 .1 .1 .1 .1 .1 .1 .1 .1 .1 .0
@@ -103,13 +92,11 @@ same-length-2 c = c .before .before .before .before .before .before .before .bef
 same-length-3 : tie.Need-same-length-3
 same-length-3 c = c .before .before .before .before .before .before .before .before .merge-reference-confidence .kept .1 .1 .1 .1 .1 .1 .1 .1 .1 .1 .1 .1 .0
 
-returns-2 : tie.Need-returns-2
+returns : tie.Need-returns
 unfolding RecordFound
-returns-2 c = λ ready way.
+returns c = λ ready way.
     let at-merge = c .before .before .before .before .before .before .before .before in
-    let at-clip = at-merge .before .before .before .before in
-    let inside = in-input-clip ready (at-clip .before .passes-clip .ensures) (not-false _ (at-clip .if1 .left)) in
-    turn-bare ready (way .waiting) (way .begun .d₀) (way .begun .bytes) (way .begun .records) (way .holds) inside
+    turn-bare ready (way .waiting) (way .begun .d₀) (way .begun .bytes) (way .begun .records) (way .holds)
     (rw (c .enum-told .given .1) at (at-merge .merge-reference-confidence .ensures .0 (ready .runs))) _ _ (way .begun .progress)
 
 same-length-4 : tie.Need-same-length-4
@@ -121,14 +108,12 @@ same-length-5 c = c .before .before .before .before .before .before .before .bef
 same-length-6 : tie.Need-same-length-6
 same-length-6 c = c .before .before .before .before .before .before .before .before .before .merge-reference-confidence .kept .1 .1 .1 .1 .1 .1 .1 .1 .1 .1 .1 .1 .0
 
-returns-3 : tie.Need-returns-3
+returns-2 : tie.Need-returns-2
 unfolding RecordFound
-returns-3 c = λ ready way.
+returns-2 c = λ ready way.
     let at-merge = c .before .before .before .before .before .before .before .before .before in
     let f = rw (c .before .here .given .1) at (at-merge .merge-reference-confidence .ensures .0 (ready .runs)) in
-    let at-clip = at-merge .before .before .before .before in
-    let inside = in-input-clip ready (at-clip .before .passes-clip .ensures) (not-false _ (at-clip .if1 .left)) in
-    turn-none ready (way .waiting) (way .begun .d₀) (way .begun .bytes) (way .begun .records) (way .holds) inside
+    turn-none ready (way .waiting) (way .begun .d₀) (way .begun .bytes) (way .begun .records) (way .holds)
     _ (f .0) (f .1) _ (way .begun .progress .measured .laid)
 
 same-length-7 : tie.Need-same-length-7
@@ -149,26 +134,22 @@ same-length-11 c = c .before .before .before .before .before .before .before .be
 same-length-12 : tie.Need-same-length-12
 same-length-12 c = c .before .before .before .before .before .before .lay-record .kept .1 .1 .1 .1 .1 .1 .1 .1 .1 .1 .1 .1 .1 .0
 
-returns-4 : tie.Need-returns-4
+returns-3 : tie.Need-returns-3
 unfolding RecordFound
-returns-4 c = λ ready way.
+returns-3 c = λ ready way.
     let at-merge = c .before .before .before .before .before .before .before .before .before .before .before .before .before .before .before .before .before .before .before .before .before .before .before .before .before .before .before in
     let answer = at-merge .merge-reference-confidence .ensures in
     let f = rw (c .before .before .before .before .before .before .before .before .before .before .before .before .before .before .before .before .before .before .before .here2 .given .1) at (answer .0 (ready .runs)) in
-    let at-clip = at-merge .before .before .before .before in
-    let inside = in-input-clip ready (at-clip .before .passes-clip .ensures) (not-false _ (at-clip .if1 .left)) in
     let at-part = c .before .before .before .before .before .before .before .before .before .before .before in
     let own = own-known ready _ _ _ _ _ _ f _ (answer .1 .0 (ready .runs)) (answer .1 .1 (ready .runs)) (at-part .before .before .before .own-sites .ensures) in
-    turn-laid ready (way .waiting) (way .begun .d₀) (way .begun .bytes) (way .begun .records) (way .holds) inside
+    turn-laid ready (way .waiting) (way .begun .d₀) (way .begun .bytes) (way .begun .records) (way .holds)
     _ _ _ _ _ _ f _ (at-part .part .ensures) _ own _ _ _
-    (c .before .before .before .before .before .before .lay-record .ensures (lay-ready ready inside _ _ _ _ _ _ f _ (at-part .part .ensures) _ own) way)
+    (c .before .before .before .before .before .before .lay-record .ensures (lay-ready ready _ _ _ _ _ _ f _ (at-part .part .ensures) _ own) way)
 
 pub walk-interval-spec : {M : Type 1} → statement M
 walk-interval-spec =
     tie.close
     (tie.spec
-    passes-clip-requires
-    returns
     merge-reference-confidence-requires
     enum-told
     enum-known-here
@@ -185,15 +166,15 @@ walk-interval-spec =
     same-length
     same-length-2
     same-length-3
-    returns-2
+    returns
     same-length-4
     same-length-5
     same-length-6
-    returns-3
+    returns-2
     same-length-7
     same-length-8
     same-length-9
     same-length-10
     same-length-11
     same-length-12
-    returns-4)
+    returns-3)
