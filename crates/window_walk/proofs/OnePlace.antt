@@ -52,7 +52,8 @@ unfolding coveringSites coveringSite covers
 none-covers c contig sound = nil-of (coveringSites c contig 0) (λ z m.
     let (k, n, e) = member-filterMap (coveringSite (c .sites) contig 0) _ m in
     let (there, test) = first-found _ (c .sites) e in
-    let (same, from, to) = all-three (sameBytes contig (z .contig)) (leb (z .start) 0) (leb 0 (z .end)) (both-of (eqb (z .sample) k) (sameBytes contig (z .contig) && leb (z .start) 0 && leb 0 (z .end)) test .1) in
+    let (_, covering) = both-of (eqb (z .sample) k) (sameBytes contig (z .contig) && leb (z .start) 0 && leb 0 (z .end)) test in
+    let (same, from, to) = all-three (sameBytes contig (z .contig)) (leb (z .start) 0) (leb 0 (z .end)) covering in
     let one = every-member there sound .from-one in
     omega (arith, leb-true (z .start) 0 from))
 
@@ -208,8 +209,10 @@ module _ {s rows : List ℕ} {samples : ℕ} {clipped referenced : Bool} {refere
     }
 
     module _ (test : ltb 0 past && (not clipped || ltb 0 (along .depth)) ≡ true) {from′ : List ℕ} (first last : ℕ) (f : first ≡ past)
-        (l : last ≡ place / 4294967296 - 1) (r : Replaced from from′ samples (λ i. behindEnded rows chosen first (getD from i 0) (getD bounds (i + 1) 0))) where
-      unfoldable pub turn-ready : TurnReady s rows samples referenced reference contig chosen from′ bounds first last (along .state .pending) held fresh found owners alts (along .state .at)
+        (l : last ≡ place / 4294967296 - 1)
+        (r : Replaced from from′ samples (λ i. behindEnded rows chosen first (getD from i 0) (getD bounds (i + 1) 0))) where
+      unfoldable pub turn-ready : TurnReady s rows samples referenced reference contig chosen from′ bounds first last
+          (along .state .pending) held fresh found owners alts (along .state .at)
       turn-ready = record {
         runs = ready .runs;
         inside = rw (f, l) (inside (along .depth) deep-here test);

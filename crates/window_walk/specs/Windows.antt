@@ -31,7 +31,8 @@ use Rattle.window_walk.specs.declared.Reached.the-variants as reached
 
 -- The walk has come to a breakpoint: these records are laid behind the bytes, this one is held back, and what is left from there on gives
 -- the rest of the contig's records. The depth is how many clip spans cover it.
-pub record Carried (x : Input) (s rows : List ℕ) (samples : ℕ) (reference contig d₀ bytes : List ℕ) (records : ℕ) (held out : List ℕ) (along : Along) : Type 0 where
+pub record Carried (x : Input) (s rows : List ℕ) (samples : ℕ) (reference contig d₀ bytes : List ℕ) (records : ℕ) (held out : List ℕ)
+    (along : Along) : Type 0 where
   pub done : List Record
   pub waiting : Option Record
   pub whole : finish done waiting (recordsPast x contig (along .past)) ≡ mergedContig x contig
@@ -47,13 +48,15 @@ pub record Carrying (x : Input) (s rows : List ℕ) (samples : ℕ) (reference c
   pub carried : Carried x s rows samples reference contig d₀ bytes records held out along
 
 -- it has come to this breakpoint, and the searches begin behind sites that ended before it
-pub record CarriedTo (x : Input) (s rows : List ℕ) (samples : ℕ) (reference contig chosen bounds from d₀ bytes : List ℕ) (records : ℕ) (held out : List ℕ) (to : ℕ) (along : Along) : Type 0 where
+pub record CarriedTo (x : Input) (s rows : List ℕ) (samples : ℕ) (reference contig chosen bounds from d₀ bytes : List ℕ) (records : ℕ) (held out : List ℕ)
+    (to : ℕ) (along : Along) : Type 0 where
   pub there : along .past ≡ to
   pub carried : Carried x s rows samples reference contig d₀ bytes records held out along
   pub ended : Ended rows chosen bounds from samples (along .past)
 
 -- so it has; or a row refuses the contig's records
-unfoldable pub WalkedTo : Input → List ℕ → List ℕ → ℕ → List ℕ → List ℕ → List ℕ → List ℕ → List ℕ → List ℕ → List ℕ → ℕ → List ℕ → List ℕ → ℕ → Reached → Type 0
+unfoldable pub WalkedTo : Input → List ℕ → List ℕ → ℕ → List ℕ → List ℕ → List ℕ → List ℕ → List ℕ → List ℕ → List ℕ → ℕ → List ℕ → List ℕ → ℕ
+    → Reached → Type 0
 WalkedTo x s rows samples reference contig chosen bounds from d₀ bytes records held out to (reached.To along) =
     CarriedTo x s rows samples reference contig chosen bounds from d₀ bytes records held out to along
 WalkedTo x s rows samples reference contig chosen bounds from d₀ bytes records held out to (reached.Refused row) =

@@ -35,7 +35,8 @@ new-1based-requires c κs = search needs
 
 sub-new-1based : tie.Need-sub-new-1based
 sub-new-1based c =
-    let (rest, ready, way) = c .before .before .before .before .before .before .before .before .before .before .before .before .before .before .before .before .before .before .pre in
+    let at-test = c .before in
+    let (rest, ready, way) = at-test .before .before .before .before .before .before .before .before .before .before .before .before .before .before .before .before .before .pre in
     omega (arith, goes-on ready)
 
 new-1based-requires-2 : tie.Need-new-1based-requires-2
@@ -46,12 +47,12 @@ new-requires c κs = search needs
 
 skip-ended-requires : tie.Need-skip-ended-requires
 skip-ended-requires c κs =
-    let (rest, ready, way) = c .before .before .before .before .before .before .before .before .before .before .before .before .before .before .before .before .before .before .before .before .before .pre in
+    let at-test = c .before .before .before .before in
+    let (rest, ready, way) = at-test .before .before .before .before .before .before .before .before .before .before .before .before .before .before .before .before .before .pre in
     (ready .runs .in-runs .bounded, ready .ended .long)
 
 walk-interval-requires : tie.Need-walk-interval-requires
 walk-interval-requires c κs =
-    let (rest, ready, way) = c .before .before .before .before .before .before .before .before .before .before .before .before .before .before .before .before .before .before .before .before .before .before .before .before .before .before .before .before .before .before .before .pre in
     let at-skip = c .before .before .before .before .before .before .before .before .before in
     let loc = at-skip .before .before .new .ensures in
     let at-last = at-skip .before .before .before in
@@ -59,6 +60,7 @@ walk-interval-requires c κs =
     let last = loc .1 ∙ at-last .new-1based2 .ensures in
     let at-test = at-last .before .before in
     let test = sym (at-test .before .has-interval .ensures) ∙ not-false _ (at-test .if1 .left) in
+    let (rest, ready, way) = at-test .before .before .before .before .before .before .before .before .before .before .before .before .before .before .before .before .before .pre in
     (turn-ready ready refl way test _ _ first last (at-skip .skip-ended .ensures), underway ready refl way)
 
 enum-known-turn : tie.Need-enum-known-turn
@@ -92,7 +94,7 @@ returns-2 : tie.Need-returns-2
 unfolding turn-ready underway
 returns-2 c = λ rest ready way.
     let at-walk = c .before .before .before .before .before .before .before .before .before .before .before .before .before .before .before in
-    let at-skip = c .before .before .before .before .before .before .before .before .before .before .before .before .before .before .before .before .before .before .before .before .before .before .before .before .before in
+    let at-skip = at-walk .before .before .before .before .before .before .before .before .before .before in
     let loc = at-skip .before .before .new .ensures in
     let at-last = at-skip .before .before .before in
     let first = loc .0 ∙ at-last .before .new-1based .ensures in
@@ -128,7 +130,7 @@ returns-3 : tie.Need-returns-3
 unfolding turn-ready underway
 returns-3 c = λ rest ready way.
     let at-walk = c .before .before .before .before .before .before .before .before .before .before .before .before .before .before .before in
-    let at-skip = c .before .before .before .before .before .before .before .before .before .before .before .before .before .before .before .before .before .before .before .before .before .before .before .before .before in
+    let at-skip = at-walk .before .before .before .before .before .before .before .before .before .before in
     let loc = at-skip .before .before .new .ensures in
     let at-last = at-skip .before .before .before in
     let first = loc .0 ∙ at-last .before .new-1based .ensures in

@@ -61,11 +61,11 @@ shared-slice-read-place c = search needs
 walk-place-requires : tie.Need-walk-place-requires Inv-loop μ-loop
 unfolding place-ready
 walk-place-requires c κs =
-    let (ready, way) = c .before .before .before .before .before .before .before .before .before .before .before .before .before .before .before .before .before .before .before .before .before .before .before .before .pre in
-    let inv = c .before .before .before .before .before .before .before .before .before .loop .inv in
-    let t = inv .way ready way in (
+    let at-loop = c .before .before .before .before .before .before .before .before .before in
+    let (ready, way) = at-loop .before .before .before .before .before .before .before .before .before .before .before .before .before .before .before .pre in
+    let t = at-loop .loop .inv .way ready way in (
       _,
-      place-ready ready (way .d₀) (way .bytes) (way .records) t (c .before .before .before .before .before .before .before .before .loop-test .taken) (room-here inv (ready .room)),
+      place-ready ready (way .d₀) (way .bytes) (way .records) t (c .before .before .before .before .before .before .before .before .loop-test .taken) (room-here (at-loop .loop .inv) (ready .room)),
       carrying ready (way .d₀) (way .bytes) (way .records) t,
     )
 
@@ -73,32 +73,46 @@ enum-known-turn : tie.Need-enum-known-turn Inv-loop μ-loop
 enum-known-turn c = search needs
 
 same-length : tie.Need-same-length Inv-loop μ-loop
-same-length c = c .before .before .before .before .before .before .before .before .before .before .before .before .before .before .before .before .before .walk-place .kept .1 .1 .1 .1 .1 .1 .1 .1 .0 ∙ c .before .before .before .before .before .before .before .before .before .before .before .before .before .before .before .before .before .before .before .before .before .before .before .before .before .before .before .loop .inv .from-long
+same-length c =
+    let at-walk = c .before .before .before .before .before .before .before .before .before .before .before .before .before .before .before .before .before in
+    at-walk .walk-place .kept .1 .1 .1 .1 .1 .1 .1 .1 .0 ∙ at-walk .before .before .before .before .before .before .before .before .before .before .loop .inv .from-long
 
 same-length-2 : tie.Need-same-length-2 Inv-loop μ-loop
-same-length-2 c = c .before .before .before .before .before .before .before .before .before .before .before .before .before .before .before .before .before .walk-place .kept .1 .1 .1 .1 .1 .1 .1 .1 .1 .1 .1 .1 .0 ∙ c .before .before .before .before .before .before .before .before .before .before .before .before .before .before .before .before .before .before .before .before .before .before .before .before .before .before .before .loop .inv .held-long
+same-length-2 c =
+    let at-walk = c .before .before .before .before .before .before .before .before .before .before .before .before .before .before .before .before .before in
+    at-walk .walk-place .kept .1 .1 .1 .1 .1 .1 .1 .1 .1 .1 .1 .1 .0 ∙ at-walk .before .before .before .before .before .before .before .before .before .before .loop .inv .held-long
 
 same-length-3 : tie.Need-same-length-3 Inv-loop μ-loop
-same-length-3 c = c .before .before .before .before .before .before .before .before .before .before .before .before .before .before .before .before .before .walk-place .kept .1 .1 .1 .1 .1 .1 .1 .1 .1 .1 .1 .1 .1 .0 ∙ c .before .before .before .before .before .before .before .before .before .before .before .before .before .before .before .before .before .before .before .before .before .before .before .before .before .before .before .loop .inv .fresh-long
+same-length-3 c =
+    let at-walk = c .before .before .before .before .before .before .before .before .before .before .before .before .before .before .before .before .before in
+    at-walk .walk-place .kept .1 .1 .1 .1 .1 .1 .1 .1 .1 .1 .1 .1 .1 .0 ∙ at-walk .before .before .before .before .before .before .before .before .before .before .loop .inv .fresh-long
 
 same-length-4 : tie.Need-same-length-4 Inv-loop μ-loop
-same-length-4 c = c .before .before .before .before .before .before .before .before .before .before .before .before .before .before .before .before .before .walk-place .kept .1 .1 .1 .1 .1 .1 .1 .1 .1 .1 .1 .1 .1 .1 .0 ∙ c .before .before .before .before .before .before .before .before .before .before .before .before .before .before .before .before .before .before .before .before .before .before .before .before .before .before .before .loop .inv .found-long
+same-length-4 c =
+    let at-walk = c .before .before .before .before .before .before .before .before .before .before .before .before .before .before .before .before .before in
+    at-walk .walk-place .kept .1 .1 .1 .1 .1 .1 .1 .1 .1 .1 .1 .1 .1 .1 .0 ∙ at-walk .before .before .before .before .before .before .before .before .before .before .loop .inv .found-long
 
 same-length-5 : tie.Need-same-length-5 Inv-loop μ-loop
-same-length-5 c = c .before .before .before .before .before .before .before .before .before .before .before .before .before .before .before .before .before .walk-place .kept .1 .1 .1 .1 .1 .1 .1 .1 .1 .1 .1 .1 .1 .1 .1 .0 ∙ c .before .before .before .before .before .before .before .before .before .before .before .before .before .before .before .before .before .before .before .before .before .before .before .before .before .before .before .loop .inv .owners-long
+same-length-5 c =
+    let at-walk = c .before .before .before .before .before .before .before .before .before .before .before .before .before .before .before .before .before in
+    at-walk .walk-place .kept .1 .1 .1 .1 .1 .1 .1 .1 .1 .1 .1 .1 .1 .1 .1 .0 ∙ at-walk .before .before .before .before .before .before .before .before .before .before .loop .inv .owners-long
 
 same-length-6 : tie.Need-same-length-6 Inv-loop μ-loop
-same-length-6 c = c .before .before .before .before .before .before .before .before .before .before .before .before .before .before .before .before .before .walk-place .kept .1 .1 .1 .1 .1 .1 .1 .1 .1 .1 .1 .1 .1 .1 .1 .1 .0 ∙ c .before .before .before .before .before .before .before .before .before .before .before .before .before .before .before .before .before .before .before .before .before .before .before .before .before .before .before .loop .inv .alts-long
+same-length-6 c =
+    let at-walk = c .before .before .before .before .before .before .before .before .before .before .before .before .before .before .before .before .before in
+    at-walk .walk-place .kept .1 .1 .1 .1 .1 .1 .1 .1 .1 .1 .1 .1 .1 .1 .1 .1 .0 ∙ at-walk .before .before .before .before .before .before .before .before .before .before .loop .inv .alts-long
 
 same-length-7 : tie.Need-same-length-7 Inv-loop μ-loop
-same-length-7 c = c .before .before .before .before .before .before .before .before .before .before .before .before .before .before .before .before .before .walk-place .kept .1 .1 .1 .1 .1 .1 .1 .1 .1 .1 .1 .1 .1 .1 .1 .1 .1 .0 ∙ c .before .before .before .before .before .before .before .before .before .before .before .before .before .before .before .before .before .before .before .before .before .before .before .before .before .before .before .loop .inv .out-long
+same-length-7 c =
+    let at-walk = c .before .before .before .before .before .before .before .before .before .before .before .before .before .before .before .before .before in
+    at-walk .walk-place .kept .1 .1 .1 .1 .1 .1 .1 .1 .1 .1 .1 .1 .1 .1 .1 .1 .1 .0 ∙ at-walk .before .before .before .before .before .before .before .before .before .before .loop .inv .out-long
 
 returns : tie.Need-returns Inv-loop μ-loop
 unfolding place-ready carrying WalkedTo
 returns c = λ ready way.
     let at-walk = c .before .before .before .before .before .before .before .before .before .before .before .before .before .before .before .before .before in
-    let inv = c .before .before .before .before .before .before .before .before .before .before .before .before .before .before .before .before .before .before .before .before .before .before .before .before .before .before .before .loop .inv in
-    let more = c .before .before .before .before .before .before .before .before .before .before .before .before .before .before .before .before .before .before .before .before .before .before .before .before .before .before .loop-test .taken in
+    let inv = at-walk .before .before .before .before .before .before .before .before .before .before .loop .inv in
+    let more = at-walk .before .before .before .before .before .before .before .before .before .loop-test .taken in
     let t = inv .way ready way in
     rw (c .before .turn .given .1) at (at-walk .walk-place .ensures _ (place-ready ready (way .d₀) (way .bytes) (way .records) t more (room-here inv (ready .room)))
     (carrying ready (way .d₀) (way .bytes) (way .records) t))
@@ -107,17 +121,22 @@ enum-known-turn-2 : tie.Need-enum-known-turn-2 Inv-loop μ-loop
 enum-known-turn-2 c = search needs
 
 add-k : tie.Need-add-k Inv-loop μ-loop
-add-k c = omega (arith, c .before .before .before .before .before .before .before .before .before .before .before .before .before .before .before .before .before .before .before .before .before .before .before .before .before .before .loop-test .taken, c .before .before .before .before .before .before .before .before .before .before .before .before .before .before .before .before .before .before .before .before .before .before .before .before .before .before .before .before .before .before .before .before .before .before .before .before .before .before .before .before .before .before .good)
+add-k c =
+    let at-walk = c .before .before .before .before .before .before .before .before .before .before .before .before .before .before .before .before .before in
+    let at-loop = at-walk .before .before .before .before .before .before .before .before .before .before in
+    omega (arith, at-walk .before .before .before .before .before .before .before .before .before .loop-test .taken, at-loop .before .before .before .before .before .before .before .before .before .before .before .before .before .before .before .good)
 
 loop-less : tie.Need-loop-less Inv-loop μ-loop
-loop-less c = omega (arith, c .before .before .before .before .before .before .before .before .before .before .before .before .before .before .before .before .before .before .before .before .before .before .before .before .before .before .loop-test .taken)
+loop-less c =
+    let at-walk = c .before .before .before .before .before .before .before .before .before .before .before .before .before .before .before .before .before in
+    omega (arith, at-walk .before .before .before .before .before .before .before .before .before .loop-test .taken)
 
 loop-again : tie.Need-loop-again Inv-loop μ-loop
 unfolding place-ready carrying WalkedTo
 loop-again c =
     let at-walk = c .before .before .before .before .before .before .before .before .before .before .before .before .before .before .before .before .before in
-    let inv = c .before .before .before .before .before .before .before .before .before .before .before .before .before .before .before .before .before .before .before .before .before .before .before .before .before .before .before .loop .inv in
-    let more = c .before .before .before .before .before .before .before .before .before .before .before .before .before .before .before .before .before .before .before .before .before .before .before .before .before .before .loop-test .taken in
+    let inv = at-walk .before .before .before .before .before .before .before .before .before .before .loop .inv in
+    let more = at-walk .before .before .before .before .before .before .before .before .before .loop-test .taken in
     record {
       from-long = at-walk .walk-place .kept .1 .1 .1 .1 .1 .1 .1 .1 .0 ∙ inv .from-long;
       held-long = at-walk .walk-place .kept .1 .1 .1 .1 .1 .1 .1 .1 .1 .1 .1 .1 .0 ∙ inv .held-long;

@@ -83,8 +83,9 @@ loop-holds c =
 
 next-breakpoints-requires : tie.Need-next-breakpoints-requires Inv-loop μ-loop
 next-breakpoints-requires c κs =
-    let start = c .before .before .before .before .before .before .before .before .before .before .before .before .before .before .before .before .before .before .before in
-    (omega (arith, c .before .before .loop .inv .scratch-long, start .pre .3), (start .pre .0 .rows-in-range, start .pre .0 .short))
+    let at-loop = c .before .before in
+    let start = at-loop .before .before .before .before .before .before .before .before .before .before .before .before .before .before .before .before .before in
+    (omega (arith, at-loop .loop .inv .scratch-long, start .pre .3), (start .pre .0 .rows-in-range, start .pre .0 .short))
 
 slice-aggregate-walk-window : tie.Need-slice-aggregate-walk-window Inv-loop μ-loop
 slice-aggregate-walk-window c = search needs
@@ -104,12 +105,14 @@ slice-aggregate-walk-window-4 c = search needs
 walk-window-requires : tie.Need-walk-window-requires Inv-loop μ-loop
 unfolding window-ready
 walk-window-requires c κs =
-    let start = c .before .before .before .before .before .before .before .before .before .before .before .before .before .before .before .before .before .before .before .before .before .before .before .before .before .before .before .before .before .before in
-    let inv = c .before .before .before .before .before .before .before .before .before .before .before .before .before .loop .inv in
+    let at-found = c .before .before .before .before .before .before .before .before .before .before in
+    let at-loop = at-found .before .before .before in
+    let start = at-loop .before .before .before .before .before .before .before .before .before .before .before .before .before .before .before .before .before in
+    let inv = at-loop .loop .inv in
     let ready = start .pre .0 in
     let begun = start .pre .1 in
     let room = room-here inv (ready .runs .on .loaded .few) (start .pre .2) in (
-      window-ready ready (c .before .before .before .before .before .before .before .before .before .before .next-breakpoints .ensures) (inv .ended) room,
+      window-ready ready (at-found .next-breakpoints .ensures) (inv .ended) room,
       record { d₀ = begun .d₀; bytes = begun .bytes; records = begun .records; carried = inv .way ready begun },
     )
 
@@ -117,27 +120,39 @@ enum-known-turn : tie.Need-enum-known-turn Inv-loop μ-loop
 enum-known-turn c = search needs
 
 same-length : tie.Need-same-length Inv-loop μ-loop
-same-length c = c .before .before .before .before .before .before .before .before .before .before .before .before .before .before .before .before .before .before .before .before .before .before .before .before .before .next-breakpoints .ensures .long ∙ c .before .before .before .before .before .before .before .before .before .before .before .before .before .before .before .before .before .before .before .before .before .before .before .before .before .before .before .before .loop .inv .scratch-long
+same-length c =
+    let at-walk = c .before .before .before .before .before .before .before .before .before .before .before .before .before .before in
+    at-walk .before .before .before .before .before .before .before .before .before .before .before .next-breakpoints .ensures .long ∙ at-walk .before .before .before .before .before .before .before .before .before .before .before .before .before .before .loop .inv .scratch-long
 
 same-length-2 : tie.Need-same-length-2 Inv-loop μ-loop
-same-length-2 c = c .before .before .before .before .before .before .before .before .before .before .before .before .before .before .walk-window .kept .1 .1 .1 .1 .1 .1 .1 .1 .1 .1 .1 .1 .0 ∙ c .before .before .before .before .before .before .before .before .before .before .before .before .before .before .before .before .before .before .before .before .before .before .before .before .before .before .before .before .loop .inv .held-long
+same-length-2 c =
+    let at-walk = c .before .before .before .before .before .before .before .before .before .before .before .before .before .before in
+    at-walk .walk-window .kept .1 .1 .1 .1 .1 .1 .1 .1 .1 .1 .1 .1 .0 ∙ at-walk .before .before .before .before .before .before .before .before .before .before .before .before .before .before .loop .inv .held-long
 
 same-length-3 : tie.Need-same-length-3 Inv-loop μ-loop
-same-length-3 c = c .before .before .before .before .before .before .before .before .before .before .before .before .before .before .walk-window .kept .1 .1 .1 .1 .1 .1 .1 .1 .1 .1 .1 .1 .1 .0 ∙ c .before .before .before .before .before .before .before .before .before .before .before .before .before .before .before .before .before .before .before .before .before .before .before .before .before .before .before .before .loop .inv .fresh-long
+same-length-3 c =
+    let at-walk = c .before .before .before .before .before .before .before .before .before .before .before .before .before .before in
+    at-walk .walk-window .kept .1 .1 .1 .1 .1 .1 .1 .1 .1 .1 .1 .1 .1 .0 ∙ at-walk .before .before .before .before .before .before .before .before .before .before .before .before .before .before .loop .inv .fresh-long
 
 same-length-4 : tie.Need-same-length-4 Inv-loop μ-loop
-same-length-4 c = c .before .before .before .before .before .before .before .before .before .before .before .before .before .before .walk-window .kept .1 .1 .1 .1 .1 .1 .1 .1 .1 .1 .1 .1 .1 .1 .1 .1 .0 ∙ c .before .before .before .before .before .before .before .before .before .before .before .before .before .before .before .before .before .before .before .before .before .before .before .before .before .before .before .before .loop .inv .alts-long
+same-length-4 c =
+    let at-walk = c .before .before .before .before .before .before .before .before .before .before .before .before .before .before in
+    at-walk .walk-window .kept .1 .1 .1 .1 .1 .1 .1 .1 .1 .1 .1 .1 .1 .1 .1 .1 .0 ∙ at-walk .before .before .before .before .before .before .before .before .before .before .before .before .before .before .loop .inv .alts-long
 
 same-length-5 : tie.Need-same-length-5 Inv-loop μ-loop
-same-length-5 c = c .before .before .before .before .before .before .before .before .before .before .before .before .before .before .walk-window .kept .1 .1 .1 .1 .1 .1 .1 .1 .1 .1 .1 .1 .1 .1 .1 .1 .1 .0 ∙ c .before .before .before .before .before .before .before .before .before .before .before .before .before .before .before .before .before .before .before .before .before .before .before .before .before .before .before .before .loop .inv .out-long
+same-length-5 c =
+    let at-walk = c .before .before .before .before .before .before .before .before .before .before .before .before .before .before in
+    at-walk .walk-window .kept .1 .1 .1 .1 .1 .1 .1 .1 .1 .1 .1 .1 .1 .1 .1 .1 .1 .0 ∙ at-walk .before .before .before .before .before .before .before .before .before .before .before .before .before .before .loop .inv .out-long
 
 returns : tie.Need-returns Inv-loop μ-loop
 unfolding window-ready WalkedTo RecordsWalked
 returns c = λ ready begun.
-    let start = c .before .before .before .before .before .before .before .before .before .before .before .before .before .before .before .before .before .before .before .before .before .before .before .before .before .before .before .before .before .before .before .before .before .before .before .before .before .before .before .before .before .before .before .before .before in
-    let inv = c .before .before .before .before .before .before .before .before .before .before .before .before .before .before .before .before .before .before .before .before .before .before .before .before .before .before .before .before .loop .inv in
-    let found = c .before .before .before .before .before .before .before .before .before .before .before .before .before .before .before .before .before .before .before .before .before .before .before .before .before .next-breakpoints .ensures in
     let at-walk = c .before .before .before .before .before .before .before .before .before .before .before .before .before .before in
+    let at-found = at-walk .before .before .before .before .before .before .before .before .before .before .before in
+    let found = at-found .next-breakpoints .ensures in
+    let at-loop = at-found .before .before .before in
+    let inv = at-loop .loop .inv in
+    let start = at-loop .before .before .before .before .before .before .before .before .before .before .before .before .before .before .before .before .before in
     rw (c .before .turn .given .1) at (at-walk .walk-window .ensures
     (window-ready ready found (inv .ended) (room-here inv (ready .runs .on .loaded .few) (start .pre .2)))
     (record { d₀ = begun .d₀; bytes = begun .bytes; records = begun .records; carried = inv .way ready begun }))
@@ -148,24 +163,28 @@ enum-known-turn-2 c = search needs
 loop-less : tie.Need-loop-less Inv-loop μ-loop
 unfolding window-ready WalkedTo
 loop-less c =
-    let start = c .before .before .before .before .before .before .before .before .before .before .before .before .before .before .before .before .before .before .before .before .before .before .before .before .before .before .before .before .before .before .before .before .before .before .before .before .before .before .before .before .before .before .before .before .before in
-    let inv = c .before .before .before .before .before .before .before .before .before .before .before .before .before .before .before .before .before .before .before .before .before .before .before .before .before .before .before .before .loop .inv in
-    let found = c .before .before .before .before .before .before .before .before .before .before .before .before .before .before .before .before .before .before .before .before .before .before .before .before .before .next-breakpoints .ensures in
     let at-walk = c .before .before .before .before .before .before .before .before .before .before .before .before .before .before in
+    let at-found = at-walk .before .before .before .before .before .before .before .before .before .before .before in
+    let found = at-found .next-breakpoints .ensures in
+    let at-loop = at-found .before .before .before in
+    let inv = at-loop .loop .inv in
+    let start = at-loop .before .before .before .before .before .before .before .before .before .before .before .before .before .before .before .before .before in
     let ready = start .pre .0 in
     let begun = start .pre .1 in
     let walked = rw (c .before .turn2 .given .1) at (at-walk .walk-window .ensures
     (window-ready ready found (inv .ended) (room-here inv (ready .runs .on .loaded .few) (start .pre .2)))
     (record { d₀ = begun .d₀; bytes = begun .bytes; records = begun .records; carried = inv .way ready begun })) in
-    fewer found (in-order ready) (ends ready found (walked .there)) (c .before .before .before .before .before .before .before .before .before .before .before .before .before .before .before .before .before .before .before .before .before .before .before .before .before .before .before .loop-test .taken)
+    fewer found (in-order ready) (ends ready found (walked .there)) (at-found .before .before .loop-test .taken)
 
 loop-again : tie.Need-loop-again Inv-loop μ-loop
 unfolding window-ready WalkedTo
 loop-again c =
-    let start = c .before .before .before .before .before .before .before .before .before .before .before .before .before .before .before .before .before .before .before .before .before .before .before .before .before .before .before .before .before .before .before .before .before .before .before .before .before .before .before .before .before .before .before .before .before in
-    let inv = c .before .before .before .before .before .before .before .before .before .before .before .before .before .before .before .before .before .before .before .before .before .before .before .before .before .before .before .before .loop .inv in
-    let found = c .before .before .before .before .before .before .before .before .before .before .before .before .before .before .before .before .before .before .before .before .before .before .before .before .before .next-breakpoints .ensures in
     let at-walk = c .before .before .before .before .before .before .before .before .before .before .before .before .before .before in
+    let at-found = at-walk .before .before .before .before .before .before .before .before .before .before .before in
+    let found = at-found .next-breakpoints .ensures in
+    let at-loop = at-found .before .before .before in
+    let inv = at-loop .loop .inv in
+    let start = at-loop .before .before .before .before .before .before .before .before .before .before .before .before .before .before .before .before .before in
     let ready = start .pre .0 in
     let begun = start .pre .1 in
     let walked = rw (c .before .turn2 .given .1) at (at-walk .walk-window .ensures
@@ -189,9 +208,9 @@ loop-again c =
 
 put-pending-requires : tie.Need-put-pending-requires Inv-loop μ-loop
 put-pending-requires c κs =
-    let start = c .before .before .before .before .before .before .before .before .before .before .before .before .before .before .before .before .before .before .before .before .before in
-    let ready = start .pre .0 in
-    end-fits ready (c .before .before .before .before .loop .inv .way ready (start .pre .1))
+    let at-loop = c .before .before .before .before in
+    let start = at-loop .before .before .before .before .before .before .before .before .before .before .before .before .before .before .before .before .before in
+    end-fits (start .pre .0) (at-loop .loop .inv .way (start .pre .0) (start .pre .1))
 
 count-pending-requires : tie.Need-count-pending-requires Inv-loop μ-loop
 count-pending-requires c κs = search needs
