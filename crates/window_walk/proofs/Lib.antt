@@ -1,3 +1,4 @@
 pub mod OnePlace
 pub mod OneWindow
 pub mod AllWindows
+pub mod ContigWindows
