@@ -1,5 +1,6 @@
 -- From the texts of a call to its tables, and from the answer for the tables to that for the texts.
 use Prim.Native.Nat.{_*_, _<_, _≤_, ℕ}
+use borrow.Author.Tests.{leb-true}
 use lib.ListN.{getD, length, length-map}
 use mathlib.Core.Bool.{Bool, _&&_, false, true}
 use mathlib.Core.List.{List, [], map}
@@ -19,7 +20,7 @@ use Rattle.definitions.specs.Checked.{Checked, accepted, isAccepted, refused}
 use Rattle.definitions.specs.ClipAndReference.{optionalGroups, segmentOf, spanOf}
 use Rattle.definitions.specs.Cohort.{cohortOf}
 use Rattle.definitions.specs.CombinedList.{Input, Texts, combinedList, fits, inputOf}
-use Rattle.definitions.specs.Limits.{maxSamples, maxSites}
+use Rattle.definitions.specs.Limits.{maxSamples, maxSites, maxTextLength}
 use Rattle.definitions.specs.Lines.{Line}
 use Rattle.definitions.specs.Lists.{missingOr, numbersFrom, onlyIf}
 use Rattle.indexed_groups.proofs.ShortTables.{no-segment-rows, no-span-rows}
@@ -117,6 +118,14 @@ module _ (cohort : List ℕ) (clipped : Bool) (clip : List ℕ) (referenced : Bo
           in-table = omega (arith, c .few-samples);
           whole = whole;
         }
+
+-- a clip that is there is not too long
+clip-short : (s : List ℕ) (clipped : Bool) (clip : List ℕ) (referenced : Bool) (reference : List ℕ) → TextsFit s clipped clip referenced reference
+    → clipped ≡ true → length clip ≤ maxTextLength
+unfolding missingOr onlyIf fits
+clip-short s clipped clip referenced reference fit there =
+    let (_, short, _) = all-three (fits s) (missingOr fits (onlyIf clipped clip)) (missingOr fits (onlyIf referenced reference)) fit in
+    leb-true (length clip) maxTextLength (subst (λ (b : Bool). missingOr fits (onlyIf b clip) ≡ true) there short)
 
 -- ---- rows of segments and spans
 
@@ -224,7 +233,7 @@ module _ {s names rows : List ℕ} {samples sites : ℕ} {clipped : Bool} {clip 
               reference-is = refl;
               sound = sound;
             };
-            clip-given = record { spans = c .groups; spans-from = c .from; spans-indexed = spans-indexed; clip-is = refl };
+            clip-given = record { short = clip-short s clipped clip referenced reference (held .all-fit); spans = c .groups; spans-from = c .from; spans-indexed = spans-indexed; clip-is = refl };
             header = record {
               in-table = held .in-table;
               few = held .few;

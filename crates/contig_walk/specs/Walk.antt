@@ -10,6 +10,7 @@ use Rattle.definitions.specs.Checked.{Checked, accepted, refused}
 use Rattle.definitions.specs.ClipAndReference.{Span}
 use Rattle.definitions.specs.CombinedList.{Input}
 use Rattle.definitions.specs.Intervals.{breakpoints}
+use Rattle.definitions.specs.Limits.{maxTextLength}
 use Rattle.definitions.specs.Lists.{onlyIf}
 use Rattle.definitions.specs.Printed.{printedRecord}
 use Rattle.definitions.specs.Records.{Record}
@@ -19,8 +20,9 @@ use Rattle.merged_records.specs.Loaded.{ContigRuns}
 use Rattle.contig_walk.specs.declared.Walked.{Walked}
 use Rattle.contig_walk.specs.declared.Walked.the-variants as walked
 
--- the clip text, if it is there, holds the input's clip, and its first spans have rows
+-- the clip text, if it is there, is not too long and holds the input's clip, and its first spans have rows
 pub record ClipGiven (clipped : Bool) (clip rows : List ℕ) (x : Input) : Type 0 where
+  pub short : clipped ≡ true → length clip ≤ maxTextLength
   pub spans : List Span
   pub spans-from : clipped ≡ true → SpansFrom clip 0 spans
   pub spans-indexed : clipped ≡ true → SpansIndexed clip rows

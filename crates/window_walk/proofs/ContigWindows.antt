@@ -25,6 +25,7 @@ use Rattle.laws.proofs.Every.{Every, every-member, every-of}
 use Rattle.laws.proofs.Members.{_∈_, filter-member, flatMap-member, member-filter, member-flatMap, member-map, member-numbers, numbers-member}
 use Rattle.laws.proofs.Orders.{ascending-same}
 use Rattle.laws.proofs.SoundInput.{SoundSite}
+use Rattle.laws.proofs.Tests.{only-if-is}
 use Rattle.merged_records.specs.Loaded.{ContigRuns, OnContig}
 use Rattle.record_laws.proofs.Walking.{points}
 use Rattle.tables.proofs.SameContig.{same-contig}
@@ -131,12 +132,7 @@ module _ {s rows : List ℕ} {samples : ℕ} {referenced : Bool} {reference cont
 
   module _ {clipped : Bool} {clip : List ℕ} (given : ClipGiven clipped clip rows x) where
     clip-there : clipped ≡ isThere (x .clip)
-    unfolding isThere onlyIf
-    clip-there = go clipped ∙ ap isThere (sym (given .clip-is))
-      where
-        go : (b : Bool) → b ≡ isThere (onlyIf b (given .spans))
-        go true = refl
-        go false = refl
+    clip-there = sym (only-if-is clipped (given .spans)) ∙ ap isThere (sym (given .clip-is))
 
     spans-are : spansOf (cond clipped clip []) contig ≡ spansOn contig (x .clip)
     unfolding onlyIf spansOn filterBy
@@ -147,17 +143,16 @@ module _ {s rows : List ℕ} {samples : ℕ} {referenced : Bool} {reference cont
         go false f = ap (λ (l : List Span). spansOn contig (some l)) (read-end spanOf [] 0 (omega arith))
 
     -- a clip that is left out is an empty text
-    pub windows-ready : length clip ≤ maxTextLength
-        → WindowsReady s rows samples clipped (cond clipped clip []) referenced reference contig chosen bounds numbers
-    windows-ready short = record {
+    pub windows-ready : WindowsReady s rows samples clipped (cond clipped clip []) referenced reference contig chosen bounds numbers
+    windows-ready = record {
       runs = runs;
       clip-there = clip-there;
       spans-are = spans-are;
-      short = go clipped;
+      short = go clipped (given .short);
       rows-in-range = rows-in-range;
       all-places = ap (allBreakpoints rows numbers) spans-are ∙ all-of-contig;
     }
       where
-        go : (b : Bool) → length (cond b clip []) ≤ maxTextLength
-        go true = short
-        go false = omega arith
+        go : (b : Bool) → (b ≡ true → length clip ≤ maxTextLength) → length (cond b clip []) ≤ maxTextLength
+        go true short = short refl
+        go false short = omega arith
