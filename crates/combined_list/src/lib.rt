@@ -11,7 +11,6 @@ ghost use Rattle.combined_list.specs.WrittenList.{CallLoaded, ListReady,
 ghost use Rattle.contig_walk.specs.Walk.{RecordsWalked, WalkRoom};
 use answers::Outcome;
 use contig_walk::Walked;
-use intervals::Breakpoints;
 
 // The clip text, or an empty part of it if there is no clip.
 fn given_clip<'a>(clipped: bool, clip: &'a [u8]) -> &'a [u8]
@@ -23,7 +22,7 @@ fn given_clip<'a>(clipped: bool, clip: &'a [u8]) -> &'a [u8]
     &clip[..0]
 }
 
-// Lays the records of a contig, which is named by the number of its first site: rows 10 to 13. `chosen` takes the numbers of its sites.
+// Lays the records of a contig, which is named by the number of its first site: rows 11 to 13. `chosen` takes the numbers of its sites.
 fn walk_one<'a>(
     s: &'a [u8],
     rows: &[usize],
@@ -53,32 +52,29 @@ fn walk_one<'a>(
     let end = bounds[samples];
     let contig = tables::contig_name(s, rows, first);
     let spans = given_clip(clipped, clip);
-    let found = intervals::collect_breakpoints(rows, &chosen[..end], spans, contig, scratch);
-    match found {
-        Breakpoints::NoRoom => Walked::Refused(10),
-        Breakpoints::Count(n) => contig_walk::walk_contig(
-            s,
-            rows,
-            samples,
-            clipped,
-            clip,
-            referenced,
-            reference,
-            contig,
-            chosen,
-            &bounds,
-            &scratch[..n],
-            held,
-            fresh,
-            alts,
-            out,
-            at,
-            count,
-        ),
-    }
+    window_walk::walk_windows(
+        s,
+        rows,
+        samples,
+        clipped,
+        spans,
+        referenced,
+        reference,
+        contig,
+        chosen,
+        &bounds,
+        &chosen[..end],
+        scratch,
+        held,
+        fresh,
+        alts,
+        out,
+        at,
+        count,
+    )
 }
 
-// Lays the records of all contigs, which are named by the numbers of their first sites, in byte order: rows 10 to 13.
+// Lays the records of all contigs, which are named by the numbers of their first sites, in byte order: rows 11 to 13.
 fn walk_contigs<'a>(
     s: &'a [u8],
     rows: &[usize],
@@ -242,7 +238,7 @@ fn write_measured<'a>(
     Outcome::Written(end)
 }
 
-// Writes the list of an input in order, from its contigs and its grouped sites: rows 10 to 14. The records are measured before
+// Writes the list of an input in order, from its contigs and its grouped sites: rows 11 to 14. The records are measured before
 // anything is written.
 fn combine_contigs<'a>(
     s: &'a [u8],
@@ -312,10 +308,8 @@ fn combine_contigs<'a>(
     }
 }
 
-// Writes the list of an input in order, from its tables: rows 10 to 14. Reading has made sure of what it requires. `order`, `firsts`,
-// `chosen` and `scratch` take the sites by sample, the contigs, a contig's sites and its breakpoints: work lists that only this
-// call reads, and what they hold after it is open.
-pub fn combine_loaded_gvcfs<'a>(
+// Writes the list of an input in order, from its tables, with places for a window of breakpoints: rows 11 to 14.
+fn combine_in_windows<'a>(
     s: &'a [u8],
     names: &[usize],
     rows: &[usize],
@@ -331,7 +325,7 @@ pub fn combine_loaded_gvcfs<'a>(
     scratch: &mut [u64],
     out: &mut [u8],
 ) -> Outcome
-    requires { ⌜ CallLoaded (now s) (now names) (now rows) samples sites clipped (now clip) referenced (now reference) × ListsFit sites (now order) (now firsts) (now chosen) ⌝ }
+    requires { ⌜ CallLoaded (now s) (now names) (now rows) samples sites clipped (now clip) referenced (now reference) × ListsFit sites (now order) (now firsts) (now chosen) × (2 ≤ length (now scratch)) ⌝ }
     ensures { λ r. ⌜ ((call : CallLoaded (now (s .entry)) (now (names .entry)) (now (rows .entry)) samples sites clipped (now (clip .entry)) referenced (now (reference .entry)))
         → Answered (listWithin (call .loaded) (length (now (scratch .entry))) (length (now (out .entry)))) (now (out .entry)) (now (out .exit)) r) ⌝ }
 {
@@ -352,6 +346,72 @@ pub fn combine_loaded_gvcfs<'a>(
         &runs,
         chosen,
         scratch,
+        out,
+    )
+}
+
+// Writes the list of an input in order, from its tables: rows 10 to 14. Reading has made sure of what it requires. `order`, `firsts`,
+// `chosen` and `scratch` take the sites by sample, the contigs, a contig's sites and a window of its breakpoints: work lists that only
+// this call reads, and what they hold after it is open. Fewer than 1,024 places are left aside for as many of its own: the list is the
+// same, and a long clip is not read for each few breakpoints.
+pub fn combine_loaded_gvcfs<'a>(
+    s: &'a [u8],
+    names: &[usize],
+    rows: &[usize],
+    samples: usize,
+    sites: usize,
+    clipped: bool,
+    clip: &[u8],
+    referenced: bool,
+    reference: &'a [u8],
+    order: &mut [usize],
+    firsts: &mut [usize],
+    chosen: &mut [usize],
+    scratch: &mut [u64],
+    out: &mut [u8],
+) -> Outcome
+    requires { ⌜ CallLoaded (now s) (now names) (now rows) samples sites clipped (now clip) referenced (now reference) × ListsFit sites (now order) (now firsts) (now chosen) ⌝ }
+    ensures { λ r. ⌜ ((call : CallLoaded (now (s .entry)) (now (names .entry)) (now (rows .entry)) samples sites clipped (now (clip .entry)) referenced (now (reference .entry)))
+        → Answered (listWithin (call .loaded) (length (now (scratch .entry))) (length (now (out .entry)))) (now (out .entry)) (now (out .exit)) r) ⌝ }
+{
+    if 1024 <= scratch.len() {
+        return combine_in_windows(
+            s,
+            names,
+            rows,
+            samples,
+            sites,
+            clipped,
+            clip,
+            referenced,
+            reference,
+            order,
+            firsts,
+            chosen,
+            scratch,
+            out,
+        );
+    }
+    if scratch.len() == 0 {
+        if 0 < sites {
+            return Outcome::Refused(10);
+        }
+    }
+    let mut own = [0u64; 1024];
+    combine_in_windows(
+        s,
+        names,
+        rows,
+        samples,
+        sites,
+        clipped,
+        clip,
+        referenced,
+        reference,
+        order,
+        firsts,
+        chosen,
+        &mut own,
         out,
     )
 }

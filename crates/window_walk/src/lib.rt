@@ -1,7 +1,5 @@
 // A contig's breakpoints, a window at a time, and the records of the intervals between them, coalesced and laid.
-ghost use lib.Dec.{ltb};
 ghost use lib.ListN.{length};
-ghost use mathlib.Core.Bool.{_&&_, _||_, not};
 ghost use mathlib.Core.List.{List, _∷_};
 ghost use mathlib.Core.Path.{_≡_};
 ghost use Prim.Native.Nat.{_≤_, _/_, ℕ};
@@ -28,19 +26,6 @@ struct Along {
 enum Reached {
     To(Along),
     Refused(usize),
-}
-
-// Whether an interval goes from the last breakpoint to the next, and lies in the clip, where there is one.
-fn has_interval(clipped: bool, past: u64, depth: u64) -> bool
-    ensures { λ r. ⌜ r ≡ ltb 0 past && (not clipped || ltb 0 depth) ⌝ }
-{
-    if past == 0 {
-        return false;
-    }
-    if !clipped {
-        return true;
-    }
-    0 < depth
 }
 
 // Goes on to the next breakpoint: lays the record of the interval before it, if that lies in the clip and sites cover it.
@@ -74,7 +59,7 @@ fn walk_place<'a>(
     let past = along.past;
     let state = along.state;
     let depth = along.depth + place % 4294967296 - 2147483648;
-    if !has_interval(clipped, past, along.depth) {
+    if !breakpoint_windows::has_interval(clipped, past, along.depth) {
         return Reached::To(Along {
             past: position,
             depth,
