@@ -1,22 +1,27 @@
 -- From the tables of a call to the sites by sample and the contigs in order.
-use Prim.Native.Nat.{_≤_, ℕ}
+use Prim.Native.Nat.{_<_, _≤_, ℕ}
 use lib.ListN.{drop, length, length-append, length-map, take}
 use lib.Seq.{take-append-seam}
 use mathlib.Core.Bool.{Bool}
 use mathlib.Core.List.{List, _++_, map}
-use mathlib.Core.Path.{_∙_, _≡_, ap, sym}
+use mathlib.Core.Path.{_∙_, _≡_, ap, refl, subst, sym}
 use native.Mathlib.Omega.{arith}
+use Rattle.answers.proofs.Answers.{answered-refused}
 use Rattle.answers.specs.Answered.{Answered}
+use Rattle.answers.specs.declared.Outcome.the-variants as outcome
 use Rattle.answers.specs.declared.Outcome.{Outcome}
 use Rattle.contigs.specs.Contigs.{ContigOrder, RowsFor}
 use Rattle.covering_sites.specs.Covering.{sampleSites}
 use Rattle.covering_sites.specs.Runs.{Runs}
 use Rattle.definitions.specs.Bytes.{compareBytes}
+use Rattle.definitions.specs.Checked.{Checked, _>>=_, within}
 use Rattle.definitions.specs.Cohort.{Site}
 use Rattle.definitions.specs.Intervals.{contigsOf}
 use Rattle.kv_write.proofs.Laying.{sets-front}
+use Rattle.laws.proofs.Checked.{then-refused}
 use Rattle.laws.proofs.Every.{every-map}
 use Rattle.laws.proofs.Orders.{ascending-few}
+use Rattle.laws.proofs.ScratchPlaces.{list-any-places, list-without-place, list-without-sites}
 use Rattle.combined_list.specs.WrittenList.{CallLoaded, ListReady, listWithin}
 
 module _ {s names rows : List ℕ} {samples sites : ℕ} {clipped : Bool} {clip : List ℕ} {referenced : Bool} {reference : List ℕ}
@@ -53,9 +58,35 @@ module _ {s names rows : List ℕ} {samples sites : ℕ} {clipped : Bool} {clip 
         names-are = call .names-are;
       }
 
-      pub loaded-answered : (scratch : ℕ) {out out′ : List ℕ} {r : Outcome}
+      pub loaded-answered : {out out′ : List ℕ} {r : Outcome}
           → ((ready : ListReady s names rows samples clipped clip referenced reference (take n firsts) order runs)
-          → Answered (listWithin (ready .tables .loaded) scratch (length out)) out out′ r)
-          → Answered (listWithin (call .loaded) scratch (length out)) out out′ r
+          → Answered (listWithin (ready .tables .loaded) 1 (length out)) out out′ r)
+          → Answered (listWithin (call .loaded) 1 (length out)) out out′ r
       unfolding list-ready
-      loaded-answered scratch says = says list-ready
+      loaded-answered says = says list-ready
+
+  -- ---- the places of a call
+
+  -- scratch of one place or more gives the list of one place
+  pub any-answered : (places : ℕ) → 1 ≤ places → {out out′ : List ℕ} {r : Outcome}
+      → Answered (listWithin (call .loaded) 1 (length out)) out out′ r
+      → Answered (listWithin (call .loaded) places (length out)) out out′ r
+  any-answered places some {out} {out′} {r} a =
+      subst (λ (c : Checked (List ℕ)). Answered (c >>= within (length out)) out out′ r) (sym (list-any-places (call .loaded .input) places some)) a
+
+  -- without sites no contig asks for a place
+  pub siteless-answered : (places : ℕ) → sites ≡ 0 → {out out′ : List ℕ} {r : Outcome}
+      → Answered (listWithin (call .loaded) 1 (length out)) out out′ r
+      → Answered (listWithin (call .loaded) places (length out)) out out′ r
+  siteless-answered places none {out} {out′} {r} a =
+      subst (λ (c : Checked (List ℕ)). Answered (c >>= within (length out)) out out′ r)
+      (list-without-sites (call .loaded .input) 1 no-sites ∙ sym (list-without-sites (call .loaded .input) places no-sites)) a
+    where
+      no-sites : length (call .loaded .input .cohort .sites) ≡ 0
+      no-sites = omega (arith, call .all-sites)
+
+  -- a site and no place: row 10
+  pub placeless-refused : (places : ℕ) → places ≡ 0 → 0 < sites → (out : List ℕ)
+      → Answered (listWithin (call .loaded) places (length out)) out out (outcome.Refused 10)
+  placeless-refused places none some out =
+      answered-refused (then-refused _ _ (list-without-place (call .loaded .input) places (omega (arith, call .all-sites)) none)) refl

@@ -6,9 +6,9 @@ ghost use mathlib.Core.Path.{_≡_};
 ghost use Rattle.answers.specs.Answered.{Answered};
 ghost use Rattle.definitions.specs.Checked.{within};
 ghost use Rattle.list_header.specs.Measured.{limit};
-ghost use Rattle.combined_list.specs.Contigs.{AllReady, OneReady, allRecords, givenClip, recordsOn};
+ghost use Rattle.combined_list.specs.Contigs.{AllReady, ContigRoom, OneReady, allRecords, givenClip, recordsOn};
 ghost use Rattle.combined_list.specs.WrittenList.{CallLoaded, ListReady, ListsFit, Measurement, listTo, listWithin};
-ghost use Rattle.contig_walk.specs.Walk.{RecordsWalked, WalkRoom};
+ghost use Rattle.contig_walk.specs.Walk.{RecordsWalked};
 use answers::Outcome;
 use contig_walk::Walked;
 
@@ -43,9 +43,9 @@ fn walk_one<'a>(
     at: usize,
     count: usize,
 ) -> Walked
-    requires { ⌜ OneReady (now s) (now rows) samples clipped (now clip) referenced (now reference) first (now order) (now runs) (now out) at count × WalkRoom (now held) (now fresh) (now alts) × (length (now order) ≤ length (now chosen)) ⌝ }
+    requires { ⌜ OneReady (now s) (now rows) samples clipped (now clip) referenced (now reference) first (now order) (now runs) (now out) at count × ContigRoom (now order) (now chosen) (now scratch) (now held) (now fresh) (now alts) ⌝ }
     ensures { λ r. ⌜ ((ready : OneReady (now (s .entry)) (now (rows .entry)) samples clipped (now (clip .entry)) referenced (now (reference .entry)) first (now (order .entry)) (now (runs .entry)) (now (out .entry)) at count)
-        → RecordsWalked (recordsOn (ready .tables) (length (now (scratch .entry))) first) (ready .d₀) (ready .bytes) (ready .records) (now (out .exit)) r) ⌝ }
+        → RecordsWalked (recordsOn (ready .tables) first) (ready .d₀) (ready .bytes) (ready .records) (now (out .exit)) r) ⌝ }
 {
     let mut bounds = [0usize; 65];
     covering_sites::select_contig(rows, order, runs, samples, first, chosen, &mut bounds);
@@ -94,9 +94,9 @@ fn walk_contigs<'a>(
     out: &mut [u8],
     at: usize,
 ) -> Walked
-    requires { ⌜ AllReady (now s) (now rows) samples clipped (now clip) referenced (now reference) (now contigs) (now order) (now runs) (now out) at × WalkRoom (now held) (now fresh) (now alts) × (length (now order) ≤ length (now chosen)) ⌝ }
+    requires { ⌜ AllReady (now s) (now rows) samples clipped (now clip) referenced (now reference) (now contigs) (now order) (now runs) (now out) at × ContigRoom (now order) (now chosen) (now scratch) (now held) (now fresh) (now alts) ⌝ }
     ensures { λ r. ⌜ ((ready : AllReady (now (s .entry)) (now (rows .entry)) samples clipped (now (clip .entry)) referenced (now (reference .entry)) (now (contigs .entry)) (now (order .entry)) (now (runs .entry)) (now (out .entry)) at)
-        → RecordsWalked (allRecords (ready .tables) (length (now (scratch .entry)))) (ready .d₀) (ready .bytes) 0 (now (out .exit)) r) ⌝ }
+        → RecordsWalked (allRecords (ready .tables)) (ready .d₀) (ready .bytes) 0 (now (out .exit)) r) ⌝ }
 {
     let mut next = at;
     let mut count = 0;
@@ -157,8 +157,8 @@ fn write_list<'a>(
     len: usize,
     count: usize,
 )
-    requires { ⌜ Measurement (now s) (now names) (now rows) samples clipped (now clip) referenced (now reference) (now contigs) (now order) (now runs) (length (now scratch)) len count × (length (now out) ≤ limit) × WalkRoom (now held) (now fresh) (now alts) × (length (now order) ≤ length (now chosen)) ⌝ }
-    ensures { λ _. ⌜ ((m : Measurement (now (s .entry)) (now (names .entry)) (now (rows .entry)) samples clipped (now (clip .entry)) referenced (now (reference .entry)) (now (contigs .entry)) (now (order .entry)) (now (runs .entry)) (length (now (scratch .entry))) len count)
+    requires { ⌜ Measurement (now s) (now names) (now rows) samples clipped (now clip) referenced (now reference) (now contigs) (now order) (now runs) len count × (length (now out) ≤ limit) × ContigRoom (now order) (now chosen) (now scratch) (now held) (now fresh) (now alts) ⌝ }
+    ensures { λ _. ⌜ ((m : Measurement (now (s .entry)) (now (names .entry)) (now (rows .entry)) samples clipped (now (clip .entry)) referenced (now (reference .entry)) (now (contigs .entry)) (now (order .entry)) (now (runs .entry)) len count)
         → now (out .exit) ≡ sets (now (out .entry)) 0 (listTo m)) ⌝ }
 {
     let at = list_header::put_header(s, names, samples, count as u32, out);
@@ -205,8 +205,8 @@ fn write_measured<'a>(
     len: usize,
     count: usize,
 ) -> Outcome
-    requires { ⌜ Measurement (now s) (now names) (now rows) samples clipped (now clip) referenced (now reference) (now contigs) (now order) (now runs) (length (now scratch)) len count × WalkRoom (now held) (now fresh) (now alts) × (length (now order) ≤ length (now chosen)) ⌝ }
-    ensures { λ r. ⌜ ((m : Measurement (now (s .entry)) (now (names .entry)) (now (rows .entry)) samples clipped (now (clip .entry)) referenced (now (reference .entry)) (now (contigs .entry)) (now (order .entry)) (now (runs .entry)) (length (now (scratch .entry))) len count)
+    requires { ⌜ Measurement (now s) (now names) (now rows) samples clipped (now clip) referenced (now reference) (now contigs) (now order) (now runs) len count × ContigRoom (now order) (now chosen) (now scratch) (now held) (now fresh) (now alts) ⌝ }
+    ensures { λ r. ⌜ ((m : Measurement (now (s .entry)) (now (names .entry)) (now (rows .entry)) samples clipped (now (clip .entry)) referenced (now (reference .entry)) (now (contigs .entry)) (now (order .entry)) (now (runs .entry)) len count)
         → Answered (within (length (now (out .entry))) (listTo m)) (now (out .entry)) (now (out .exit)) r) ⌝ }
 {
     let header = list_header::put_header(s, names, samples, count as u32, &mut out[..0]);
@@ -256,9 +256,9 @@ fn combine_contigs<'a>(
     scratch: &mut [u64],
     out: &mut [u8],
 ) -> Outcome
-    requires { ⌜ ListReady (now s) (now names) (now rows) samples clipped (now clip) referenced (now reference) (now contigs) (now order) (now runs) × (length (now order) ≤ length (now chosen)) ⌝ }
+    requires { ⌜ ListReady (now s) (now names) (now rows) samples clipped (now clip) referenced (now reference) (now contigs) (now order) (now runs) × (length (now order) ≤ length (now chosen)) × (2 ≤ length (now scratch)) ⌝ }
     ensures { λ r. ⌜ ((ready : ListReady (now (s .entry)) (now (names .entry)) (now (rows .entry)) samples clipped (now (clip .entry)) referenced (now (reference .entry)) (now (contigs .entry)) (now (order .entry)) (now (runs .entry)))
-        → Answered (listWithin (ready .tables .loaded) (length (now (scratch .entry))) (length (now (out .entry)))) (now (out .entry)) (now (out .exit)) r) ⌝ }
+        → Answered (listWithin (ready .tables .loaded) 1 (length (now (out .entry)))) (now (out .entry)) (now (out .exit)) r) ⌝ }
 {
     let mut held = [0u8; 8192];
     let mut fresh = [0u8; 8192];
@@ -327,7 +327,7 @@ fn combine_in_windows<'a>(
 ) -> Outcome
     requires { ⌜ CallLoaded (now s) (now names) (now rows) samples sites clipped (now clip) referenced (now reference) × ListsFit sites (now order) (now firsts) (now chosen) × (2 ≤ length (now scratch)) ⌝ }
     ensures { λ r. ⌜ ((call : CallLoaded (now (s .entry)) (now (names .entry)) (now (rows .entry)) samples sites clipped (now (clip .entry)) referenced (now (reference .entry)))
-        → Answered (listWithin (call .loaded) (length (now (scratch .entry))) (length (now (out .entry)))) (now (out .entry)) (now (out .exit)) r) ⌝ }
+        → Answered (listWithin (call .loaded) 1 (length (now (out .entry)))) (now (out .entry)) (now (out .exit)) r) ⌝ }
 {
     let mut runs = [0usize; 65];
     covering_sites::group_by_sample(rows, sites, samples, order, &mut runs);

@@ -130,7 +130,7 @@ module _ {s rows : List ℕ} {samples : ℕ} {referenced : Bool} {reference cont
 
   -- ---- the clip
 
-  module _ {clipped : Bool} {clip : List ℕ} (given : ClipGiven clipped clip rows x) where
+  module _ {clipped : Bool} {clip : List ℕ} (given : ClipGiven clipped clip x) where
     clip-there : clipped ≡ isThere (x .clip)
     clip-there = sym (only-if-is clipped (given .spans)) ∙ ap isThere (sym (given .clip-is))
 
@@ -143,7 +143,7 @@ module _ {s rows : List ℕ} {samples : ℕ} {referenced : Bool} {reference cont
         go false f = ap (λ (l : List Span). spansOn contig (some l)) (read-end spanOf [] 0 (omega arith))
 
     -- a clip that is left out is an empty text
-    pub windows-ready : WindowsReady s rows samples clipped (cond clipped clip []) referenced reference contig chosen bounds numbers
+    unfoldable pub windows-ready : WindowsReady s rows samples clipped (cond clipped clip []) referenced reference contig chosen bounds numbers
     windows-ready = record {
       runs = runs;
       clip-there = clip-there;

@@ -1,8 +1,8 @@
 -- By the position, then by whether there is a clip.
 use borrow.Author.Tests.{lt-ltb, not-false, not-true}
 use native.Mathlib.Omega.{arith}
-use Rattle.window_walk.proofs.has_interval.Statement.{statement}
-use Rattle.window_walk.proofs.has_interval.Tie as tie
+use Rattle.breakpoint_windows.proofs.has_interval.Statement.{statement}
+use Rattle.breakpoint_windows.proofs.has_interval.Tie as tie
 
 returns : tie.Need-returns
 returns c = rw (c .if1 .taken)
