@@ -258,16 +258,11 @@ fn combine_long<'a>(
     }
 }
 
-// Whether the texts are so short that small tables are tried first. What is answered here changes no list.
-fn is_small(cohort: &[u8], clipped: bool, clip: &[u8], referenced: bool, reference: &[u8]) -> bool
-    ensures { λ r. ⌜ r ≡ leb (length (now (cohort .entry))) 16384
-        && atMost 1024 (onlyIf clipped (now (clip .entry)))
-        && atMost 1024 (onlyIf referenced (now (reference .entry))) ⌝ }
+// Whether cohort and reference are so short that small tables are tried first. What is answered here changes no list.
+fn is_small(cohort: &[u8], referenced: bool, reference: &[u8]) -> bool
+    ensures { λ r. ⌜ r ≡ leb (length (now (cohort .entry))) 16384 && atMost 1024 (onlyIf referenced (now (reference .entry))) ⌝ }
 {
     if 16384 < cohort.len() {
-        return false;
-    }
-    if !has_at_most(clipped, clip, 1024) {
         return false;
     }
     has_at_most(referenced, reference, 1024)
@@ -287,7 +282,7 @@ fn combine_small<'a>(
     requires { ⌜ TextsFit (now cohort) clipped (now clip) referenced (now reference) ⌝ }
     ensures { λ r. ⌜ TriedWith (textsOf (now (cohort .entry)) clipped (now (clip .entry)) referenced (now (reference .entry))) (length (now (scratch .entry))) (now (out .entry)) (now (out .exit)) 5632 r ⌝ }
 {
-    if !is_small(cohort, clipped, clip, referenced, reference) {
+    if !is_small(cohort, referenced, reference) {
         return Tried::NoRoom;
     }
     if cohort.len() <= 4480 {

@@ -1,5 +1,5 @@
 -- The tables that a call reads its texts into: the names by where they stand in the text, a row of numbers for each site, and behind
--- those of 4,096 sites a row for each of the first 1,024 reference segments and clip spans.
+-- those of 4,096 sites a row for each of the first 1,024 reference segments.
 use Prim.Native.Nat.{_%_, _*_, _+_, _/_, _<_, ℕ}
 use lib.Dec.{eqb, leb, ltb}
 use lib.ListN.{getD, length, take}
@@ -10,7 +10,7 @@ use mathlib.Core.Option.{Option, some}
 use mathlib.Core.Path.{_≡_}
 use Rattle.definitions.specs.Alleles.{Allele, RefAlts, isBlock, letters, nonRef, spanDel, spelled}
 use Rattle.definitions.specs.Bytes.{comma, fieldsOf, sameBytes}
-use Rattle.definitions.specs.ClipAndReference.{ReferenceSegment, Span}
+use Rattle.definitions.specs.ClipAndReference.{ReferenceSegment}
 use Rattle.definitions.specs.Cohort.{Site}
 use Rattle.definitions.specs.Lists.{indexWhere, numbersFrom, onlyIf}
 use Rattle.definitions.specs.Numbers.{maxNumber, numberList}

@@ -307,8 +307,8 @@ pub fn store_numbers(rows: &mut [usize], at: usize, words: usize, numbers: &[u32
 
 // ---- reference segments
 
-// 2^58: so many rows of 4 have as many numbers as no table has.
-const TOO_MANY_GROUPS: usize = 288230376151711744;
+// 2^58: so many rows of 5 have more numbers than any table.
+const TOO_MANY_SEGMENTS: usize = 288230376151711744;
 
 // The number at an offset of a table.
 fn number_at(rows: &[usize], at: usize) -> usize
@@ -324,7 +324,7 @@ fn number_at(rows: &[usize], at: usize) -> usize
 pub fn segment_column(rows: &[usize], segment: usize, k: usize) -> usize
     ensures { λ r. ⌜ r ≡ segmentColumn k (now (rows .entry)) segment ⌝ }
 {
-    if TOO_MANY_GROUPS <= segment {
+    if TOO_MANY_SEGMENTS <= segment {
         return 0;
     }
     if TOO_MANY_NUMBERS <= k {
