@@ -1,6 +1,6 @@
 -- The walk over one contig: the numbers of its sites, and its records.
-use Prim.Native.Nat.{_+_, _-_, _<_, _≤_, ℕ}
-use lib.ListN.{getD, length, length-take, take}
+use Prim.Native.Nat.{_≤_, ℕ}
+use lib.ListN.{length, length-take, take}
 use mathlib.Core.Bool.{Bool}
 use mathlib.Core.List.{List}
 use mathlib.Core.Path.{_≡_, refl}
@@ -30,18 +30,6 @@ taken-exactly n l h = omega (arith, length-take n l)
 module _ {s rows : List ℕ} {samples : ℕ} {clipped : Bool} {clip : List ℕ} {referenced : Bool} {reference order bounds : List ℕ}
     (g : Grouped s rows samples clipped clip referenced reference order bounds) {first : ℕ} (f : IsFirst g first)
     {chosen parts : List ℕ} (r : Runs chosen parts samples (contigSites rows (length (g .loaded .input .cohort .sites)) first)) where
-  some-sample : 0 < samples
-  some-sample = omega (arith, g .loaded .names, g .loaded .sound .cohort .names .some-name)
-
-  -- the numbers of the contig's sites are there
-  pub end-within : getD parts samples 0 ≤ length chosen
-  end-within =
-      let last : samples - 1 + 1 ≡ samples = omega (arith, some-sample) in
-      rw last at (r .bounded .within (samples - 1) (omega (arith, some-sample)))
-
-  pub end-exactly : getD parts samples 0 ≡ length (take (getD parts samples 0) chosen)
-  end-exactly = taken-exactly _ chosen end-within
-
   module _ {contig : List ℕ} (e : contig ≡ partAt 7 8 s rows first) where
     in-contig-runs : ContigRuns s rows samples referenced reference contig chosen parts
     in-contig-runs = record {
@@ -50,7 +38,7 @@ module _ {s rows : List ℕ} {samples : ℕ} {clipped : Bool} {clip : List ℕ} 
     }
 
     module _ {text : List ℕ} (t : text ≡ givenClip clipped clip) where
-      pub one-windows : WindowsReady s rows samples clipped text referenced reference contig chosen parts (take (getD parts samples 0) chosen)
+      pub one-windows : WindowsReady s rows samples clipped text referenced reference contig chosen parts
       unfolding in-contig-runs windows-ready
       one-windows =
           let w = windows-ready in-contig-runs (g .clip-given) in
@@ -65,7 +53,7 @@ module _ {s rows : List ℕ} {samples : ℕ} {clipped : Bool} {clip : List ℕ} 
 
       -- what the walk over windows says is said of the contig's records
       pub one-walked : (out out′ : List ℕ) (at count : ℕ) (w : Walked)
-          → ((ready : WindowsReady s rows samples clipped text referenced reference contig chosen parts (take (getD parts samples 0) chosen))
+          → ((ready : WindowsReady s rows samples clipped text referenced reference contig chosen parts)
           (begun : Begun out at count)
           → RecordsWalked (mergedContig (ready .runs .on .loaded .input) contig) (begun .d₀) (begun .bytes) (begun .records) out′ w)
           → (d₀ bytes : List ℕ) (records : ℕ) → Progress d₀ bytes records out at count

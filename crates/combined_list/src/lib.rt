@@ -1,7 +1,9 @@
 // The combined list of an input whose tables are loaded: contig by contig, in two passes.
 ghost use Prim.Native.Nat.{_≤_};
+ghost use lib.Dec.{eqb, ltb};
 ghost use lib.ListN.{length};
 ghost use lib.Seq.{sets};
+ghost use mathlib.Core.Bool.{_&&_};
 ghost use mathlib.Core.Path.{_≡_};
 ghost use Rattle.answers.specs.Answered.{Answered};
 ghost use Rattle.definitions.specs.Checked.{within};
@@ -49,7 +51,6 @@ fn walk_one<'a>(
 {
     let mut bounds = [0usize; 65];
     covering_sites::select_contig(rows, order, runs, samples, first, chosen, &mut bounds);
-    let end = bounds[samples];
     let contig = tables::contig_name(s, rows, first);
     let spans = given_clip(clipped, clip);
     window_walk::walk_windows(
@@ -63,7 +64,6 @@ fn walk_one<'a>(
         contig,
         chosen,
         &bounds,
-        &chosen[..end],
         scratch,
         held,
         fresh,
@@ -350,6 +350,16 @@ fn combine_in_windows<'a>(
     )
 }
 
+// Row 10: a site names a contig, and scratch has no place.
+fn lacks_place(scratch: &[u64], sites: usize) -> bool
+    ensures { λ r. ⌜ r ≡ eqb (length (now (scratch .entry))) 0 && ltb 0 sites ⌝ }
+{
+    if scratch.len() != 0 {
+        return false;
+    }
+    0 < sites
+}
+
 // Writes the list of an input in order, from its tables: rows 10 to 14. Reading has made sure of what it requires. `order`, `firsts`,
 // `chosen` and `scratch` take the sites by sample, the contigs, a contig's sites and a window of its breakpoints: work lists that only
 // this call reads, and what they hold after it is open. Fewer than 1,024 places are left aside for as many of its own: the list is the
@@ -374,6 +384,9 @@ pub fn combine_loaded_gvcfs<'a>(
     ensures { λ r. ⌜ ((call : CallLoaded (now (s .entry)) (now (names .entry)) (now (rows .entry)) samples sites clipped (now (clip .entry)) referenced (now (reference .entry)))
         → Answered (listWithin (call .loaded) (length (now (scratch .entry))) (length (now (out .entry)))) (now (out .entry)) (now (out .exit)) r) ⌝ }
 {
+    if lacks_place(scratch, sites) {
+        return Outcome::Refused(10);
+    }
     if 1024 <= scratch.len() {
         return combine_in_windows(
             s,
@@ -391,11 +404,6 @@ pub fn combine_loaded_gvcfs<'a>(
             scratch,
             out,
         );
-    }
-    if scratch.len() == 0 {
-        if 0 < sites {
-            return Outcome::Refused(10);
-        }
     }
     let mut own = [0u64; 1024];
     combine_in_windows(
