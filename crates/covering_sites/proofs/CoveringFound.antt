@@ -209,10 +209,11 @@ module _ {s rows : List ℕ} {sites : List Site} (t : SiteRows s rows sites) (fe
   one-found : Option·map (siteAt s rows) (lastCovering rows position run) ≡ coveringSite sites (partAt 7 8 s rows first) position x
   unfolding coveringSite siteAt
   one-found =
+      let own : Site → Bool = λ z. eqb (z .sample) x && covers (partAt 7 8 s rows first) position z in
       ap (Option·map (siteAt s rows)) last-is
       ∙ sym (greatest-map (siteAt s rows) (λ (z : Site). z .start) all)
-      ∙ ap (firstGreatest (λ (z : Site). z .start)) (sym (filter-map (siteAt s rows) _ (numbersFrom 0 (length sites))))
-      ∙ sym (ap (λ (l : List Site). firstGreatest (λ (z : Site). z .start) (filterBy (λ z. eqb (z .sample) x && covers (partAt 7 8 s rows first) position z) l)) (t .read))
+      ∙ ap (firstGreatest (λ (z : Site). z .start)) (sym (filter-map (siteAt s rows) own (numbersFrom 0 (length sites))))
+      ∙ sym (ap (λ (l : List Site). firstGreatest (λ (z : Site). z .start) (filterBy own l)) (t .read))
 
 -- those of all samples: what is found in the runs of a contig, which is named by its first site, are the cohort's covering sites
 pub covering-found : (c : Cohort) {s rows : List ℕ} {samples first : ℕ} → SiteRows s rows (c .sites) → length (c .sites) ≤ maxSites
@@ -252,5 +253,7 @@ module _ (rows : List ℕ) {count : ℕ} (few : count ≤ maxSites) (contig : �
       ) at here
 
   pub starts-ascend : StartsAscend rows chosen bounds samples
-  starts-ascend = record { ascend = λ x l j k a up b. ⊎-elim (λ same. rw same (omega arith))
-      (λ less. key-starts rows (getD chosen j 0) (getD chosen k 0) (in-order x l j k a less b)) (eq-or-lt-of-le up) }
+  starts-ascend = record {
+    ascend = λ x l j k a up b. ⊎-elim (λ same. rw same (omega arith))
+        (λ less. key-starts rows (getD chosen j 0) (getD chosen k 0) (in-order x l j k a less b)) (eq-or-lt-of-le up);
+  }

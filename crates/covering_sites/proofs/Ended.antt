@@ -130,8 +130,9 @@ module _ {rows chosen bounds : List ℕ} {samples position : ℕ} where
 -- ---- the last covering site
 
 -- the search begins behind sites that ended: none of them covers the position
-pub search-start : {rows chosen bounds from : List ℕ} {samples position : ℕ} → Ended rows chosen bounds from samples position → Bounded (length chosen) bounds samples
-    → (x : ℕ) → x < samples → Searching rows position chosen bounds x (getD bounds (x + 1) 0) (getD bounds (x + 1) 0) (getD from x 0)
+pub search-start : {rows chosen bounds from : List ℕ} {samples position : ℕ} → Ended rows chosen bounds from samples position
+    → Bounded (length chosen) bounds samples → (x : ℕ) → x < samples
+    → Searching rows position chosen bounds x (getD bounds (x + 1) 0) (getD bounds (x + 1) 0) (getD from x 0)
 unfolding lastCovering runAt
 search-start {rows} {chosen} {bounds} {from} {samples} {position} e b x l =
     let above = e .above x l in

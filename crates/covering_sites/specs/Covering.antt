@@ -12,7 +12,7 @@ use Rattle.definitions.specs.Lists.{filterBy, numbersFrom}
 use Rattle.definitions.specs.Numbers.{maxNumber}
 use Rattle.sorted_places.specs.Sorted.{sorted}
 use Rattle.tables.specs.Tables.{column}
-use Rattle.covering_sites.specs.Runs.{runAt}
+use Rattle.covering_sites.specs.Runs.{onlyWhen, runAt}
 
 -- ---- sites in the order of their starts
 
@@ -23,6 +23,10 @@ sampleSites rows count sample = filterBy (λ i. eqb (column 0 rows i) sample) (n
 -- the key of a site: keys ascend by start, and of sites with equal starts the first in the file has the greatest
 unfoldable pub siteKey : List ℕ → ℕ → ℕ
 siteKey rows i = column 2 rows i * 4096 + (4095 - i)
+
+-- the key of a site if it is the sample's
+abbrev pub ownKey : List ℕ → ℕ → ℕ → List ℕ
+ownKey rows sample i = onlyWhen (eqb (column 0 rows i) sample) (siteKey rows i)
 
 -- the site with this key
 unfoldable pub keySite : ℕ → ℕ
