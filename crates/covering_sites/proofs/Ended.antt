@@ -5,7 +5,7 @@ use lib.Dec.{ltb}
 use lib.ListN.{drop, getD, length, length-set, length-take, set}
 use lib.Seq.{getD-set-other, getD-set-same}
 use mathlib.Core.Bool.{Bool, cond, false, true}
-use mathlib.Core.List.{List, [], _∷_, foldr}
+use mathlib.Core.List.{List, [], _∷_}
 use mathlib.Core.Logic.{⊎-elim}
 use mathlib.Core.Option.{none}
 use mathlib.Core.Path.{_∙_, _≡_, refl, sym}
