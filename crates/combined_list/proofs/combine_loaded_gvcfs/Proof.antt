@@ -1,7 +1,7 @@
 -- The sites by sample, the contigs in byte order of name, then the list.
 use borrow.Author.Needs.{needs}
 use native.Mathlib.Omega.{arith}
-use Rattle.combined_list.proofs.ListReady.{firsts-within, list-ready, loaded-answered, rows-for}
+use Rattle.combined_list.proofs.ListReady.{firsts-within, keys-of-rows, list-ready, loaded-answered, rows-for}
 use Rattle.combined_list.proofs.OneContig.{taken-exactly}
 use Rattle.combined_list.proofs.combine_loaded_gvcfs.Statement.{statement}
 use Rattle.combined_list.proofs.combine_loaded_gvcfs.Tie as tie
@@ -10,7 +10,9 @@ slice-aggregate-group-by-sample : tie.Need-slice-aggregate-group-by-sample
 slice-aggregate-group-by-sample c = search needs
 
 group-by-sample-requires : tie.Need-group-by-sample-requires
-group-by-sample-requires c κs = ((c .before .before .before .before .before .before .before .before .before .before .before .before .pre .1 .for-order), omega (arith, (c .before .before .before .before .before .before .before .before .before .before .before .before .pre .0 .loaded .few)))
+group-by-sample-requires c κs =
+    let start = c .before .before .before .before .before .before .before .before .before .before .before .before in
+    (keys-of-rows (start .pre .0), (start .pre .1 .for-order, omega (arith, start .pre .0 .loaded .few)))
 
 order-contigs-requires : tie.Need-order-contigs-requires
 order-contigs-requires c κs = (omega (arith, c .before .before .before .before .before .before .before .before .before .before .before .before .before .before .before .before .before .pre .1 .for-firsts), rows-for (c .before .before .before .before .before .before .before .before .before .before .before .before .before .before .before .before .before .pre .0))
