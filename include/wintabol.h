@@ -19,8 +19,8 @@ extern "C" {
 #endif
 
 /* The combined list of cohort.kv, of clip.kv if `clipped`, and of reference.kv if `has_reference`; a text that is not given is not looked
- * at. `scratch` takes the breakpoints of a contig (row 10 if it has fewer places) and is zero at the end. Rows 1 to 14. The stack of a call
- * stays under 1 MiB. */
+ * at. `scratch` takes breakpoints of a contig, as many at a time as it has places for, and is zero at the end: one place gives the list that any
+ * more give, and row 10 is only for no place where there is a site. Rows 1 to 14. The stack of a call stays under 1 MiB. */
 size_t wintabol_combine(const uint8_t *cohort, size_t cohort_len,
                         bool clipped, const uint8_t *clip, size_t clip_len,
                         bool has_reference, const uint8_t *reference, size_t reference_len,

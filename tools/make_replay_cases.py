@@ -1,9 +1,12 @@
 """Writes crates/replay_combine/stdin, calls of the entry, and stdout, what each must give.
 
 Run it in the repository's folder. The calls are of three sorts:
-- recorded: all cases of recorded/combine that are by hand, and the first six of every other sort. The list is the Rust's, as recorded.
-- tight: each recorded case by hand again, with just the scratch and the output that it needs, with a place less (10) and with a byte less (14).
-- by hand, below: refusals, each with its number beside it from reading document 01, and a few calls just inside the rules.
+- recorded: all cases of recorded/combine that are by hand, and the first six of every other sort. The list is the Rust's, as recorded. With B
+  breakpoints on the busiest contig, those of other sorts have 8,192 places, 1, 2, B - 1, B and B + 1 by turns.
+- tight: each recorded case by hand again, with 0, 1, 2, B - 1, B and B + 1 places and just the output that it needs, and with a byte less (14).
+  With no place it is 10 if it has a site, and else the list.
+- by hand, below: refusals, each with its number beside it from reading documents 01 and 02, and calls just inside the rules; among them contigs with
+  more breakpoints than a call has places of its own.
 `judged` is a second reading of the rules, in code: the texts by make_cohort_cases.py, the list by differential/model.py. Every call goes through it,
 and where the two differ the tool stops and names the case. The lists of accepted cases by hand are the model's.
 The tool also stops if the cases no longer cover what COVERED names.
@@ -21,7 +24,7 @@ PLACES, ROOM, INPUT_ROOM = 8192, 65536, 524288  # what the program has room for
 COVERED = {f"refused {n}" for n in range(1, 15)} | {
     "joined", "clip cuts a block", "deletion over a later position", "*", "REF grows", "missing value", "several contigs", "64 samples",
     "16 alleles", "letter from the reference", "letter from a sample", "clip keeps nothing", "no records", "a site hides another",
-    "reference groups disagree",
+    "reference groups disagree", "over 1,024 breakpoints", "more breakpoints than places", "one place", "joined over 1,024 breakpoints",
 }
 CLIP, REFERENCE = ("contig", "start", "end"), ("contig", "first", "bases")
 Case = namedtuple("Case", "name cohort clip reference lent places room")
@@ -89,9 +92,9 @@ def check_interval(sites, reference, start):
 
 
 def check_contig(sites, clip, reference, places):
-    """Rows 10 to 13 of a contig, what it shows, and how many breakpoints it has."""
+    """Rows 10 to 13 of a contig, what it shows, and how many breakpoints it has. A site names it, so no place at all is 10."""
+    check(10, places > 0)
     points = model.breakpoints(sites, clip)
-    check(10, len(points) <= places)
     shown, covered = set(), 0
     for start, after in zip(points, points[1:]):
         if model.kept(clip, start, after - 1):
@@ -137,6 +140,10 @@ def judged(case):
         "several contigs": len(contigs) > 1,
         "64 samples": len(names) == 64 and sites,
         "no records": not found,
+        "over 1,024 breakpoints": most > 1024,
+        "joined over 1,024 breakpoints": most > 1024 and covered > 1024 > len(found),
+        "more breakpoints than places": most > case.places,
+        "one place": case.places == 1 and found,
     }
     return text, shown | {what for what, is_so in whole.items() if is_so}, most
 
@@ -151,12 +158,21 @@ def texts_in(folder):
     return read("cohort.kv"), clip or b"", reference or b"", lent
 
 
+def busiest(texts):
+    """The breakpoints of the contig that has the most."""
+    return judged(Case("", *texts, PLACES, ROOM))[2]
+
+
+def few_and_many(most):
+    """No place, one, two, and as many as there are breakpoints, one less and one more."""
+    return sorted({0, 1, 2, max(most - 1, 0), most, most + 1})
+
+
 def tight(number, texts, combined):
-    _, _, most = judged(Case("", *texts, PLACES, ROOM))
-    CASES.append((Case(f"tight-{number}", *texts, most, len(combined)), combined))
-    CASES.append((Case(f"tight-{number}-a-byte-less", *texts, most, len(combined) - 1), 14))
-    if most > 0:
-        CASES.append((Case(f"tight-{number}-a-place-less", *texts, most - 1, len(combined)), 10))
+    most = busiest(texts)
+    for places in few_and_many(most):
+        CASES.append((Case(f"tight-{number}-places-{places}", *texts, places, len(combined)), combined if places or not most else 10))
+    CASES.append((Case(f"tight-{number}-a-byte-less", *texts, max(most, 1), len(combined) - 1), 14))
 
 
 def recorded_cases():
@@ -165,10 +181,12 @@ def recorded_cases():
         number, sort, *_ = line.split()
         chosen.setdefault(sort, []).append(number)
     for sort, numbers in chosen.items():
-        for number in numbers if sort == "by" else numbers[:6]:
+        for i, number in enumerate(numbers if sort == "by" else numbers[:6]):
             folder = Path("recorded/combine") / number
             texts, combined = texts_in(folder), (folder / "combined.kv").read_bytes()
-            CASES.append((Case(f"recorded-{number}", *texts, PLACES, ROOM), combined))
+            most = busiest(texts)
+            places = [PLACES, 1, 2, max(most - 1, 1), most, most + 1][0 if sort == "by" else i]
+            CASES.append((Case(f"recorded-{number}", *texts, places, ROOM), combined))
             if sort == "by":
                 tight(number, texts, combined)
 
@@ -252,26 +270,58 @@ def clip_and_reference_cases():
     case("9-clip-and-reference", 9, good, "clip\n", "reference\n")
     case("9-clip-where-there-are-no-sites", 9, TWO, "\n")
     case("cohort-8-then-9", 8, one(pl="0"), "\n")
-    case("9-then-10", 9, good, None, "\n", places=0)
     case("9-then-14", 9, good, "\n", room=0)
     case("not-lent-and-faulty", None, good, "clip\n", "reference\n", lent=0)
     case("to-the-last-position", None, one(start=rules.MOST, end=rules.MOST), span("c", 1, rules.MOST), segment("c", rules.MOST, "G"))
 
 
 def place_cases():
-    long = one(end=19)
-    case("10-one-place", 10, long, places=1)
+    long, elsewhere = one(end=19), span("d", 12, 13)
     case("10-no-places", 10, long, places=0)
+    case("one-place", None, long, places=1)
     case("two-places", None, long, places=2)
     case("no-sites-no-places", None, TWO, places=0)
-    case("10-by-the-clip", 10, long, span("c", 12, 13), places=3)
-    case("four-places-with-the-clip", None, long, span("c", 12, 13), places=4)
-    case("10-where-the-clip-lets-nothing-through", 10, long, "", places=1)
-    case("two-places-clip-of-another-contig", None, long, span("d", 12, 13), places=2)
-    case("10-by-a-long-ref", 10, TWO + at(0, "ACGT", "A"), places=4)
-    case("five-places-for-a-long-ref", None, TWO + at(0, "ACGT", "A"), places=5)
-    case("10-in-the-second-contig", 10, TWO + site() + at(1, "AC", "A", contig="d"), places=2)
-    case("10-then-14", 10, long, places=1, room=0)
+    case("no-sites-no-places-with-clip-and-reference", None, TWO, span("c", 12, 13), segment("c", 1, "ACGT"), places=0)
+    case("10-by-a-site-outside-the-clip", 10, long, span("c", 30, 33), places=0)
+    case("one-place-with-the-clip", None, long, span("c", 12, 13), places=1)
+    case("10-where-the-clip-lets-nothing-through", 10, long, "", places=0)
+    case("one-place-where-the-clip-lets-nothing-through", None, long, "", places=1)
+    case("10-clip-of-another-contig", 10, long, elsewhere, places=0)
+    case("one-place-clip-of-another-contig", None, long, elsewhere, places=1)
+    case("one-place-for-a-long-ref", None, TWO + at(0, "ACGT", "A"), places=1)
+    case("one-place-for-each-of-two-contigs", None, TWO + site() + at(1, "AC", "A", contig="d"), places=1)
+    case("9-in-the-clip-then-10", 9, long, "\n", places=0)
+    case("9-in-the-reference-then-10", 9, long, None, "\n", places=0)
+    case("8-then-10", 8, one(pl="0"), places=0)
+    case("10-then-11", 10, long, span("c", 13, 14), "", places=0)
+    case("11-with-one-place", 11, long, span("c", 13, 14), "", places=1)
+    case("10-then-12", 10, TWO + at(0, "AT", "A") + at(1, "C", "G"), places=0)
+    case("12-with-one-place", 12, TWO + at(0, "AT", "A") + at(1, "C", "G"), places=1)
+    case("10-then-14", 10, long, places=0, room=0)
+    case("14-with-one-place", 14, long, places=1, room=0)
+
+
+def window_cases():
+    """More breakpoints on a contig than the 1,024 places that a call has of its own, so that it goes through several windows."""
+    # ten deletions of 128 letters, one behind the other: 1,281 breakpoints, and some of the clip, which shows the front, the end and where
+    # windows are likely to meet: halfway of 1,024 places and of as many as there are breakpoints
+    word = "ACGTTGCA" * 16
+    deletions = [at(i % 2, word, "A", start=10 + 128 * i) for i in range(10)]
+    shown = "".join(span("c", first, last) for first, last in ((1, 11), (514, 529), (648, 663), (1022, 1025), (1286, 1290)))
+    ahead, back = TWO + "".join(deletions), TWO + "".join(deletions[::-1])
+    most = busiest((ahead.encode(), shown.encode(), b"", 1))
+    for places in (0, 1, 2, 1023, 1024, 1025, most - 1, most, most + 1):
+        case(f"ten-deletions-{places}-places", None if places else 10, ahead, shown, places=places)
+    for places in (1, 1024, most):
+        case(f"ten-deletions-backwards-{places}-places", None, back, shown, places=places)
+    # one block under 520 spans, each over the end of the one before it: 1,042 breakpoints and one record
+    stairs = "".join(span("c", 4 * i + 5, 4 * i + 10) for i in range(520))
+    for places in (1, 1041):
+        case(f"a-block-joined-over-windows-{places}-places", None, one(start=1, end=3000), stairs, places=places)
+    # REFs that disagree behind the first windows, and a list that is too long by its last record
+    late = at(0, "AT", "A", start=3000) + at(1, "C", "G", start=3000)
+    case("12-in-a-later-window", 12, ahead + late, places=1)
+    case("14-in-a-later-window", 14, ahead, span("c", 1285, 1289), places=1, room=200)
 
 
 def letter_cases():
@@ -327,8 +377,9 @@ def merge_cases():
     wrong, crowd = at(0, "AT", "A", start=30) + at(1, "C", "G", start=30), many(6, 6, 6)[len(three) :]
     case("13-then-12", 13, three + wrong + crowd)
     case("12-then-13", 12, three + crowd + wrong.replace("start=30", "start=5").replace("end=30", "end=5").replace("end=31", "end=6"))
-    case("12-in-the-first-contig-then-10", 12, three + at(0, "ACGT", "A", contig="d") + wrong, places=3)
-    case("10-in-the-first-contig-then-12", 10, three + at(0, "ACGT", "A", contig="b") + wrong, places=3)
+    case("12-in-the-first-contig", 12, three + at(0, "ACGT", "A", contig="d") + wrong, places=1)
+    case("12-in-the-second-contig", 12, three + at(0, "ACGT", "A", contig="b") + wrong, places=1)
+    case("10-then-12-in-the-first-contig", 10, three + at(0, "ACGT", "A", contig="d") + wrong, places=0)
     case("11-then-12", 11, three + wrong + site(BLOCK, site=2, end=12), span("c", 11, 40), segment("c", 30, "AT"))
     case("contigs-in-byte-order", 13, three + wrong.replace("contig=c", "contig=a") + crowd.replace("contig=c", "contig=Z"))
     case("14-no-room", 14, one(), room=0)
@@ -361,7 +412,7 @@ def printed(name, answer):
 
 
 def main():
-    for part in (recorded_cases, cohort_cases, clip_and_reference_cases, place_cases, letter_cases, patched_cases, merge_cases):
+    for part in (recorded_cases, cohort_cases, clip_and_reference_cases, place_cases, window_cases, letter_cases, patched_cases, merge_cases):
         part()
     assert len({c.name for c, _ in CASES}) == len(CASES)
     stdin, stdout, covered = b"", b"", {}

@@ -16,8 +16,9 @@ fn answer(row: usize, written: usize) -> Result<usize, Refused> {
 // SAFETY, for each call below: a pointer and a length are a slice that is borrowed until the call returns, and the proved function reads
 // and writes nothing outside its slices.
 
-/// Writes the combined list of the texts to `out` and gives back its length. `scratch` takes the breakpoints of a contig, and is
-/// zero at the end. Rows 1 to 14.
+/// Writes the combined list of the texts to `out` and gives back its length. `scratch` takes breakpoints of a contig, as many at a
+/// time as it has places for, and is zero at the end: one place gives the list that any more give, and row 10 is only for no place where there
+/// is a site. Rows 1 to 14.
 pub fn combine(
     cohort: &[u8],
     clip: Option<&[u8]>,

@@ -14,6 +14,19 @@ fn writes_the_example() {
 }
 
 #[test]
+fn one_place_is_enough_and_none_is_10() {
+    let mut out = vec![9u8; 4096];
+    let mut one = [7u64; 1];
+    let n = combine(COHORT, None, None, &mut one, &mut out).unwrap();
+    assert_eq!(&out[..n], LIST);
+    assert_eq!(one, [0]);
+    assert_eq!(combine(COHORT, None, None, &mut [], &mut out), Err(Refused(10)));
+    let no_sites = b"samples=1\nsample=S\n";
+    let n = combine(no_sites, None, None, &mut [], &mut out).unwrap();
+    assert_eq!(&out[..n], b"samples=1\nsample=S\nrecords=0\n");
+}
+
+#[test]
 fn refuses_and_leaves_the_output() {
     let mut scratch = [7u64; 8];
     let mut out = [9u8; 16];

@@ -1,7 +1,7 @@
 -- From the texts of a call to its tables, and from the answer for the tables to that for the texts.
 use Prim.Native.Nat.{_*_, _<_, _≤_, ℕ}
 use borrow.Author.Tests.{leb-true}
-use lib.ListN.{getD, length, length-map}
+use lib.ListN.{length, length-map}
 use mathlib.Core.Bool.{Bool, _&&_, false, true}
 use mathlib.Core.List.{List, [], map}
 use mathlib.Core.Logic.{inl, inr, ⊎-elim}
@@ -23,9 +23,9 @@ use Rattle.definitions.specs.CombinedList.{Input, Texts, combinedList, fits, in
 use Rattle.definitions.specs.Limits.{maxSamples, maxSites, maxTextLength}
 use Rattle.definitions.specs.Lines.{Line}
 use Rattle.definitions.specs.Lists.{missingOr, numbersFrom, onlyIf}
-use Rattle.indexed_groups.proofs.ShortTables.{no-segment-rows, no-span-rows}
-use Rattle.indexed_groups.proofs.Storing.{segments-still, segments-unchanged, spans-unchanged}
-use Rattle.indexed_groups.specs.Indexed.{SegmentsGiven, SegmentsIndexed, SegmentsOnly, SpansGiven, SpansIndexed, SpansOnly}
+use Rattle.indexed_groups.proofs.ShortTables.{no-segment-rows}
+use Rattle.indexed_groups.proofs.Storing.{segments-unchanged}
+use Rattle.indexed_groups.specs.Indexed.{SegmentsGiven, SegmentsIndexed, SegmentsOnly}
 use Rattle.laws.proofs.Checked.{after-required, not-required, required, then, then-refused}
 use Rattle.laws.proofs.Every.{every-of-each}
 use Rattle.laws.proofs.Members.{length-numbers}
@@ -127,7 +127,7 @@ clip-short s clipped clip referenced reference fit there =
     let (_, short, _) = all-three (fits s) (missingOr fits (onlyIf clipped clip)) (missingOr fits (onlyIf referenced reference)) fit in
     leb-true (length clip) maxTextLength (subst (λ (b : Bool). missingOr fits (onlyIf b clip) ≡ true) there short)
 
--- ---- rows of segments and spans
+-- ---- rows of segments
 
 pub still-whole : (rows rows′ : List ℕ) → length rows′ ≡ length rows → TableWhole rows → TableWhole rows′
 still-whole rows rows′ e w = ⊎-elim (λ h. inl (omega arith)) (λ h. inr (omega arith)) w
@@ -136,46 +136,32 @@ segments-only : (given : Bool) {s rows after : List ℕ} → IfGiven given (Segm
 segments-only true x = x .there refl .only
 segments-only false x = rw (x .left-out refl) (segments-unchanged _)
 
-spans-only : (given : Bool) {s rows after : List ℕ} → IfGiven given (SpansGiven s rows after) rows after → SpansOnly rows after
-spans-only true x = x .there refl .only
-spans-only false x = rw (x .left-out refl) (spans-unchanged _)
-
 module _ {s names rows : List ℕ} {samples sites : ℕ} {clipped : Bool} {clip : List ℕ} {referenced : Bool} {reference : List ℕ}
-    (held : CohortHeld s names rows samples sites clipped clip referenced reference) {rows₁ rows₂ : List ℕ}
-    (given₁ : IfGiven referenced (SegmentsGiven reference rows rows₁) rows rows₁) (given₂ : IfGiven clipped (SpansGiven clip rows₁ rows₂) rows₁ rows₂) where
-  first : SegmentsOnly rows rows₁
-  first = segments-only referenced given₁
-
-  second : SpansOnly rows₁ rows₂
-  second = spans-only clipped given₂
-
-  same-numbers : (j : ℕ) → j < 90112 → getD rows₂ j 0 ≡ getD rows j 0
-  same-numbers j h = second .sites-segments j (omega arith) ∙ first .sites j h
+    (held : CohortHeld s names rows samples sites clipped clip referenced reference) {after : List ℕ}
+    (given : IfGiven referenced (SegmentsGiven reference rows after) rows after) where
+  only : SegmentsOnly rows after
+  only = segments-only referenced given
 
   -- the tables still hold the cohort
-  pub still-held : CohortHeld s names rows₂ samples sites clipped clip referenced reference
+  pub still-held : CohortHeld s names after samples sites clipped clip referenced reference
   unfolding sitesIn
   still-held =
-      let same = same-sites s rows rows₂ same-numbers sites (held .few-sites) in
+      let same = same-sites s rows after (only .sites) sites (held .few-sites) in
       let few : length (map (siteAt s rows) (numbersFrom 0 sites)) ≤ 4096 =
       omega (arith, held .few-sites, length-map (numbersFrom 0 sites) (siteAt s rows), length-numbers 0 sites) in
       record {
         all-fit = held .all-fit;
         value = rw same (held .value);
-        table = rw same (same-rows s rows rows₂ same-numbers few (held .table));
+        table = rw same (same-rows s rows after (only .sites) few (held .table));
         few = held .few;
         few-sites = held .few-sites;
         in-table = held .in-table;
-        whole = still-whole rows rows₂ (second .long ∙ first .long) (held .whole);
+        whole = still-whole rows after (only .long) (held .whole);
       }
 
-  pub segments-there : referenced ≡ true → SegmentsIndexed reference rows₂
-  segments-there e = ⊎-elim (λ h. segments-still reference rows₁ rows₂ second (given₁ .there e .indexed h))
-      (λ h. no-segment-rows reference rows₂ (omega (arith, first .long, second .long))) (held .whole)
-
-  pub spans-there : clipped ≡ true → SpansIndexed clip rows₂
-  spans-there e = ⊎-elim (λ h. given₂ .there e .indexed (omega (arith, first .long)))
-      (λ h. no-span-rows clip rows₂ (omega (arith, first .long, second .long))) (held .whole)
+  pub segments-there : referenced ≡ true → SegmentsIndexed reference after
+  segments-there e =
+      ⊎-elim (λ h. given .there e .indexed h) (λ h. no-segment-rows reference after (omega (arith, only .long))) (held .whole)
 
 -- ---- texts in order
 
@@ -196,8 +182,7 @@ module _ {s names rows : List ℕ} {samples sites : ℕ} {clipped : Bool} {clip 
         required 2 _ _ (held .all-fit)
         (then _ _ (held .value) (then _ _ (c .all) (then-refused _ _ (optional-refused segmentOf reference referenced e))))
 
-    module _ (r : Optional segmentOf reference referenced) (segments-indexed : referenced ≡ true → SegmentsIndexed reference rows)
-        (spans-indexed : clipped ≡ true → SpansIndexed clip rows) where
+    module _ (r : Optional segmentOf reference referenced) (segments-indexed : referenced ≡ true → SegmentsIndexed reference rows) where
       input : Input
       input = record {
         cohort = record { names = namesIn s names samples; sites = sitesIn s rows sites };
@@ -233,7 +218,12 @@ module _ {s names rows : List ℕ} {samples sites : ℕ} {clipped : Bool} {clip 
               reference-is = refl;
               sound = sound;
             };
-            clip-given = record { short = clip-short s clipped clip referenced reference (held .all-fit); spans = c .groups; spans-from = c .from; spans-indexed = spans-indexed; clip-is = refl };
+            clip-given = record {
+              short = clip-short s clipped clip referenced reference (held .all-fit);
+              spans = c .groups;
+              spans-from = c .from;
+              clip-is = refl;
+            };
             header = record {
               in-table = held .in-table;
               few = held .few;
@@ -264,7 +254,7 @@ tables-fit places n o f c whole few = record {
   for-sites = λ sites h k. let fit = few sites h k in record { for-order = omega arith; for-firsts = omega arith; for-chosen = omega arith };
 }
 
--- a table for so many sites, with no rows for the groups of other texts
+-- a table for so many sites, with no rows of segments
 pub short-fit : (places : ℕ) {names rows order firsts chosen : List ℕ} → places < maxSites → length names ≡ 2 * maxSamples → length rows ≡ places * 22
     → length order ≡ places → length firsts ≡ places → length chosen ≡ places → TablesFit names rows order firsts chosen
 short-fit places few n r o f c = tables-fit places n o f c (inr (omega arith)) (λ sites h k. omega arith)
@@ -278,7 +268,6 @@ long-fit n r o f c = tables-fit 4096 n o f c (inl (omega arith)) (λ sites h k. 
 pub rows-short : {names₀ names rows₀ rows : List ℕ} → 2 * maxSamples ≤ length names₀ → CohortUnread names₀ names rows₀ rows → length rows₀ < maxSites * 22
 rows-short e u = ⊎-elim (λ h. absurd (omega arith)) (λ h. h) (u .no-room)
 
--- the table for all has rows for all sites
 -- what a table of so many places gave, as what a longer one may give
 pub tried-longer : (texts : Texts) (scratch : ℕ) (out out′ : List ℕ) (places more : ℕ) (r : Tried) → more < maxSites * 22
     → TriedWith texts scratch out out′ places r → TriedWith texts scratch out out′ more r
@@ -286,6 +275,7 @@ unfolding TriedWith
 tried-longer texts scratch out out′ places more (tried.Done outcome) fit t = t
 tried-longer texts scratch out out′ places more tried.NoRoom fit t = (t .0, fit)
 
+-- the table for all has rows for all sites
 pub full-table : {R : Type 0} (places : ℕ) → places ≡ tableLength → places < maxSites * 22 → R
 full-table places e h = absurd (omega arith)
 

@@ -54,7 +54,7 @@ pub record IfGiven (given : Bool) (Rows : Type 0) (rows after : List ℕ) : Type
   pub there : given ≡ true → Rows
   pub left-out : given ≡ false → after ≡ rows
 
--- a table has room for the groups of the other texts, or ends before their counts
+-- a table has room for the rows of segments, or ends before it could say how many they are
 abbrev pub TableWhole : List ℕ → Type 0
 TableWhole rows = (tableLength ≤ length rows) ⊎ (length rows ≤ countsAt)
 

@@ -8,7 +8,7 @@ ghost use Rattle.definitions.specs.Checked.{isAccepted};
 ghost use Rattle.definitions.specs.ClipAndReference.{optionalGroups, segmentOf, spanOf};
 ghost use Rattle.definitions.specs.CombinedList.{fits};
 ghost use Rattle.definitions.specs.Lists.{missingOr, onlyIf};
-ghost use Rattle.indexed_groups.specs.Indexed.{SegmentsGiven, SpansGiven};
+ghost use Rattle.indexed_groups.specs.Indexed.{SegmentsGiven};
 ghost use Rattle.combine_gvcfs.specs.Combined.{CohortHeld, Combined, IfGiven, TablesFit, TextsAnswered, TextsFit, TriedWith, atMost, textsOf};
 use answers::Outcome;
 use cohort::CohortRead;
@@ -60,16 +60,6 @@ fn index_reference(referenced: bool, reference: &[u8], rows: &mut [usize])
     indexed_groups::index_segments(reference, rows);
 }
 
-// Gives the first spans of the clip, if there is one, their rows in the table.
-fn index_clip(clipped: bool, clip: &[u8], rows: &mut [usize])
-    ensures { λ _. ⌜ IfGiven clipped (SpansGiven (now (clip .entry)) (now (rows .entry)) (now (rows .exit))) (now (rows .entry)) (now (rows .exit)) ⌝ }
-{
-    if !clipped {
-        return;
-    }
-    indexed_groups::index_spans(clip, rows);
-}
-
 // Writes the list of texts that are short enough, from the tables of the cohort: rows 9 to 14.
 fn combine_cohort<'a>(
     s: &'a [u8],
@@ -97,7 +87,6 @@ fn combine_cohort<'a>(
         return Outcome::Refused(9);
     }
     index_reference(referenced, reference, rows);
-    index_clip(clipped, clip, rows);
     combined_list::combine_loaded_gvcfs(
         s,
         names,
@@ -231,7 +220,7 @@ fn combine_short<'a>(
     )
 }
 
-// Writes the list of texts that are short enough, with tables for 4,096 sites and for segments and spans: rows 1 to 14.
+// Writes the list of texts that are short enough, with tables for 4,096 sites and for reference segments: rows 1 to 14.
 fn combine_long<'a>(
     cohort: &'a [u8],
     clipped: bool,
@@ -245,7 +234,7 @@ fn combine_long<'a>(
     ensures { λ r. ⌜ TextsAnswered (textsOf (now (cohort .entry)) clipped (now (clip .entry)) referenced (now (reference .entry))) (length (now (scratch .entry))) (now (out .entry)) (now (out .exit)) r ⌝ }
 {
     let mut names = [0usize; 128];
-    let mut rows = [0usize; 99332];
+    let mut rows = [0usize; 95234];
     let mut order = [0usize; 4096];
     let mut firsts = [0usize; 4096];
     let mut chosen = [0usize; 4096];
@@ -269,16 +258,11 @@ fn combine_long<'a>(
     }
 }
 
-// Whether the texts are so short that small tables are tried first. What is answered here changes no list.
-fn is_small(cohort: &[u8], clipped: bool, clip: &[u8], referenced: bool, reference: &[u8]) -> bool
-    ensures { λ r. ⌜ r ≡ leb (length (now (cohort .entry))) 16384
-        && atMost 1024 (onlyIf clipped (now (clip .entry)))
-        && atMost 1024 (onlyIf referenced (now (reference .entry))) ⌝ }
+// Whether cohort and reference are so short that small tables are tried first. What is answered here changes no list.
+fn is_small(cohort: &[u8], referenced: bool, reference: &[u8]) -> bool
+    ensures { λ r. ⌜ r ≡ leb (length (now (cohort .entry))) 16384 && atMost 1024 (onlyIf referenced (now (reference .entry))) ⌝ }
 {
     if 16384 < cohort.len() {
-        return false;
-    }
-    if !has_at_most(clipped, clip, 1024) {
         return false;
     }
     has_at_most(referenced, reference, 1024)
@@ -298,7 +282,7 @@ fn combine_small<'a>(
     requires { ⌜ TextsFit (now cohort) clipped (now clip) referenced (now reference) ⌝ }
     ensures { λ r. ⌜ TriedWith (textsOf (now (cohort .entry)) clipped (now (clip .entry)) referenced (now (reference .entry))) (length (now (scratch .entry))) (now (out .entry)) (now (out .exit)) 5632 r ⌝ }
 {
-    if !is_small(cohort, clipped, clip, referenced, reference) {
+    if !is_small(cohort, referenced, reference) {
         return Tried::NoRoom;
     }
     if cohort.len() <= 4480 {
@@ -353,7 +337,7 @@ fn combine_texts<'a>(
 
 // The library's entry: writes the combined list of cohort.kv, of clip.kv if it is lent, and of reference.kv if it is lent. A text that
 // is not lent is not looked at. The answer is the list's length, or the row that refuses it, and then `out` is as it was. Scratch,
-// which takes the breakpoints of a contig, is zero at the end.
+// which takes breakpoints of a contig, is zero at the end; one place gives the list of any number.
 pub fn combine<'a>(
     cohort: &'a [u8],
     clipped: bool,

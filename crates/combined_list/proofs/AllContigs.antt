@@ -52,11 +52,11 @@ module _ (of-contig : ℕ → Checked (List Record)) (contigs : List ℕ) where
 -- ---- the loop
 
 module _ {s rows : List ℕ} {samples : ℕ} {clipped : Bool} {clip : List ℕ} {referenced : Bool} {reference contigs order bounds out₀ : List ℕ} {at₀ : ℕ}
-    (ready : AllReady s rows samples clipped clip referenced reference contigs order bounds out₀ at₀) (places : ℕ) where
+    (ready : AllReady s rows samples clipped clip referenced reference contigs order bounds out₀ at₀) where
   -- some records are laid, and those of the contigs from here on are left
   pub record Going (out : List ℕ) (at count c : ℕ) : Type 0 where
     pub done : List Record
-    pub left : recordsFrom (recordsOn (ready .tables) places) contigs done c ≡ allRecords (ready .tables) places
+    pub left : recordsFrom (recordsOn (ready .tables)) contigs done c ≡ allRecords (ready .tables)
     pub progress : Progress (ready .d₀) (ready .bytes ++ flatMap printedRecord done) (length done) out at count
 
   pub going-start : Going out₀ at₀ 0 0
@@ -69,7 +69,7 @@ module _ {s rows : List ℕ} {samples : ℕ} {clipped : Bool} {clip : List ℕ} 
 
   module _ {out : List ℕ} {at count c : ℕ} (g : Going out at count c) where
     pub going-end : length contigs ≤ c
-        → RecordsWalked (allRecords (ready .tables) places) (ready .d₀) (ready .bytes) 0 out (walked.To at count)
+        → RecordsWalked (allRecords (ready .tables)) (ready .d₀) (ready .bytes) 0 out (walked.To at count)
     unfolding RecordsWalked
     going-end h = record {
       list = g .done;
@@ -89,30 +89,30 @@ module _ {s rows : List ℕ} {samples : ℕ} {clipped : Bool} {clip : List ℕ} 
       }
 
       -- what walking over one contig says
-      abbrev pub OneSays : ℕ → List ℕ → Walked → Type 0
-      OneSays scratch out′ w =
+      abbrev pub OneSays : List ℕ → Walked → Type 0
+      OneSays out′ w =
           (r : OneReady s rows samples clipped clip referenced reference (getD contigs c 0) order bounds out at count)
-          → RecordsWalked (recordsOn (r .tables) scratch (getD contigs c 0)) (r .d₀) (r .bytes) (r .records) out′ w
+          → RecordsWalked (recordsOn (r .tables) (getD contigs c 0)) (r .d₀) (r .bytes) (r .records) out′ w
 
-      pub going-next : (out′ : List ℕ) (at′ count′ scratch : ℕ) {w : Walked} → scratch ≡ places → w ≡ walked.To at′ count′
-          → OneSays scratch out′ w → Going out′ at′ count′ (c + 1)
+      pub going-next : (out′ : List ℕ) (at′ count′ : ℕ) {w : Walked} → w ≡ walked.To at′ count′
+          → OneSays out′ w → Going out′ at′ count′ (c + 1)
       unfolding RecordsWalked one-ready
-      going-next out′ at′ count′ scratch {w} same e says =
-          let laid : RecordsLaid (recordsOn (ready .tables) places (getD contigs c 0)) (ready .d₀)
-          (ready .bytes ++ flatMap printedRecord (g .done)) (length (g .done)) out′ at′ count′ = rw (same, e) at (says one-ready) in
+      going-next out′ at′ count′ {w} e says =
+          let laid : RecordsLaid (recordsOn (ready .tables) (getD contigs c 0)) (ready .d₀)
+          (ready .bytes ++ flatMap printedRecord (g .done)) (length (g .done)) out′ at′ count′ = rw e at (says one-ready) in
           record {
             done = g .done ++ laid .list;
             left = sym (from-next _ contigs (g .done) c h (laid .list) (laid .merged)) ∙ g .left;
             progress = rw (flatMap-append, length-append, ← append-assoc) (laid .progress);
           }
 
-      pub going-refused : (out′ : List ℕ) (row scratch : ℕ) {w : Walked} → scratch ≡ places → w ≡ walked.Refused row
-          → OneSays scratch out′ w
-          → RecordsWalked (allRecords (ready .tables) places) (ready .d₀) (ready .bytes) 0 out′ (walked.Refused row)
+      pub going-refused : (out′ : List ℕ) (row : ℕ) {w : Walked} → w ≡ walked.Refused row
+          → OneSays out′ w
+          → RecordsWalked (allRecords (ready .tables)) (ready .d₀) (ready .bytes) 0 out′ (walked.Refused row)
       unfolding RecordsWalked one-ready
-      going-refused out′ row scratch {w} same e says =
-          let r : RecordsRefused (recordsOn (ready .tables) places (getD contigs c 0)) (ready .d₀)
-          (ready .bytes ++ flatMap printedRecord (g .done)) out′ row = rw (same, e) at (says one-ready) in
+      going-refused out′ row {w} e says =
+          let r : RecordsRefused (recordsOn (ready .tables) (getD contigs c 0)) (ready .d₀)
+          (ready .bytes ++ flatMap printedRecord (g .done)) out′ row = rw e at (says one-ready) in
           record {
             merged = sym (g .left) ∙ from-refused _ contigs (g .done) c h row (r .merged);
             list = g .done ++ r .list;

@@ -1,23 +1,50 @@
 -- From the tables of a call to the sites by sample and the contigs in order.
 use Prim.Native.Nat.{_≤_, ℕ}
+use borrow.Author.Tests.{eq-eqb, eqb-true, lt-ltb, ltb-true}
+use lib.Dec.{eqb, ltb}
 use lib.ListN.{drop, length, length-append, length-map, take}
 use lib.Seq.{take-append-seam}
-use mathlib.Core.Bool.{Bool}
-use mathlib.Core.List.{List, _++_, map}
-use mathlib.Core.Path.{_∙_, _≡_, ap, sym}
+use mathlib.Core.Bool.{Bool, _&&_, false, true}
+use mathlib.Core.List.{List, [], _++_, _∷_, flatten, map}
+use mathlib.Core.Path.{_∙_, _≡_, ap, refl, subst, sym}
+use native.Mathlib.Decide.{decLe}
 use native.Mathlib.Omega.{arith}
+use Rattle.answers.proofs.Answers.{answered-refused}
 use Rattle.answers.specs.Answered.{Answered}
+use Rattle.answers.specs.declared.Outcome.the-variants as outcome
 use Rattle.answers.specs.declared.Outcome.{Outcome}
 use Rattle.contigs.specs.Contigs.{ContigOrder, RowsFor}
 use Rattle.covering_sites.specs.Covering.{sampleSites}
 use Rattle.covering_sites.specs.Runs.{Runs}
 use Rattle.definitions.specs.Bytes.{compareBytes}
+use Rattle.definitions.specs.Checked.{Checked, _>>=_, accepted, inOrder, within}
 use Rattle.definitions.specs.Cohort.{Site}
+use Rattle.definitions.specs.CombinedList.{Input, combinedRecords, contigRecords, listOf}
 use Rattle.definitions.specs.Intervals.{contigsOf}
+use Rattle.definitions.specs.Lists.{ascending}
+use Rattle.definitions.specs.Printed.{printedList}
+use Rattle.definitions.specs.Records.{Record}
 use Rattle.kv_write.proofs.Laying.{sets-front}
+use Rattle.laws.proofs.Checked.{then-refused}
 use Rattle.laws.proofs.Every.{every-map}
 use Rattle.laws.proofs.Orders.{ascending-few}
+use Rattle.laws.proofs.ScratchPlaces.{list-any-places, list-without-place}
+use Rattle.laws.proofs.Tests.{both, both-of, clash}
 use Rattle.combined_list.specs.WrittenList.{CallLoaded, ListReady, listWithin}
+
+-- without sites the list is the same for any places
+list-without-sites : (x : Input) (places : ℕ) → length (x .cohort .sites) ≡ 0 → listOf x places ≡ listOf x 1
+unfolding listOf combinedRecords contigsOf ascending
+list-without-sites x places h = go (x .cohort .sites) h refl
+  where
+    records : ℕ → List Site → Checked (List Record)
+    records k sites = inOrder (map (contigRecords x k) (contigsOf sites)) >>= λ found. accepted (flatten found)
+
+    go : (sites : List Site) → length sites ≡ 0 → x .cohort .sites ≡ sites → listOf x places ≡ listOf x 1
+    go [] none e =
+        ap (λ (l : List Site). records places l >>= λ found. accepted (printedList (x .cohort .names) found)) e
+        ∙ sym (ap (λ (l : List Site). records 1 l >>= λ found. accepted (printedList (x .cohort .names) found)) e)
+    go (s ∷ l) none e = absurd (omega arith)
 
 module _ {s names rows : List ℕ} {samples sites : ℕ} {clipped : Bool} {clip : List ℕ} {referenced : Bool} {reference : List ℕ}
     (call : CallLoaded s names rows samples sites clipped clip referenced reference) where
@@ -53,9 +80,33 @@ module _ {s names rows : List ℕ} {samples sites : ℕ} {clipped : Bool} {clip 
         names-are = call .names-are;
       }
 
-      pub loaded-answered : (scratch : ℕ) {out out′ : List ℕ} {r : Outcome}
+      pub loaded-answered : {out out′ : List ℕ} {r : Outcome}
           → ((ready : ListReady s names rows samples clipped clip referenced reference (take n firsts) order runs)
-          → Answered (listWithin (ready .tables .loaded) scratch (length out)) out out′ r)
-          → Answered (listWithin (call .loaded) scratch (length out)) out out′ r
+          → Answered (listWithin (ready .tables .loaded) 1 (length out)) out out′ r)
+          → Answered (listWithin (call .loaded) 1 (length out)) out out′ r
       unfolding list-ready
-      loaded-answered scratch says = says list-ready
+      loaded-answered says = says list-ready
+
+  -- ---- the places of a call
+
+  -- row 10 does not come: there is a place, or no contig asks for one
+  pub placed-answered : (places : ℕ) → eqb places 0 && ltb 0 sites ≡ false → {out out′ : List ℕ} {r : Outcome}
+      → Answered (listWithin (call .loaded) 1 (length out)) out out′ r
+      → Answered (listWithin (call .loaded) places (length out)) out out′ r
+  placed-answered places placed {out} {out′} {r} a =
+      subst (λ (c : Checked (List ℕ)). Answered (c >>= within (length out)) out out′ r) (sym (go (decLe 1 places) (decLe 1 sites))) a
+    where
+      go : Dec (1 ≤ places) → Dec (1 ≤ sites) → listOf (call .loaded .input) places ≡ listOf (call .loaded .input) 1
+      go (yes some) s = list-any-places (call .loaded .input) places some
+      go (no none) (no without) = list-without-sites (call .loaded .input) places (omega (arith, call .all-sites))
+      go (no none) (yes some) =
+          clash (both (eq-eqb places 0 (omega arith)) (lt-ltb 0 sites (omega arith))) placed
+
+  -- it comes: a site and no place
+  pub placeless-refused : (places : ℕ) → eqb places 0 && ltb 0 sites ≡ true → (out : List ℕ)
+      → Answered (listWithin (call .loaded) places (length out)) out out (outcome.Refused 10)
+  placeless-refused places none out =
+      let (zero, some) = both-of (eqb places 0) (ltb 0 sites) none in
+      let site = ltb-true 0 sites some in
+      answered-refused (then-refused _ _
+      (list-without-place (call .loaded .input) places (omega (arith, call .all-sites)) (eqb-true places 0 zero))) refl

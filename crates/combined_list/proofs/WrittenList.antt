@@ -46,14 +46,14 @@ nothing-left (x ∷ part) out e = absurd (omega arith)
 -- ---- the records of an input are few, and so are their bytes
 
 module _ {s rows : List ℕ} {samples : ℕ} {referenced : Bool} {reference : List ℕ} (l : Loaded s rows samples referenced reference) where
-  module _ (scratch : ℕ) (records : List Record) (e : combinedRecords (l .input) scratch ≡ accepted records) where
+  module _ (records : List Record) (e : combinedRecords (l .input) 1 ≡ accepted records) where
     pub records-counted : length records ≤ 2147483647
     unfolding maxNumber
-    records-counted = records-few (l .input) (l .sound) scratch records e
+    records-counted = records-few (l .input) (l .sound) 1 records e
 
     pub bytes-counted : length (flatMap printedRecord records) ≤ mostRecord * 2147483647
     bytes-counted =
-        let sound = records-sound (l .input) (l .sound) scratch records e in
+        let sound = records-sound (l .input) (l .sound) 1 records e in
         let few = flatMap-few printedRecord mostRecord (every-of-each (λ before r (h : RecordAfter (length (l .input .cohort .names)) before r). record-few _ r (l .sound .cohort .names .few) (h .sound)) sound) in
         omega (arith, few, records-counted)
 
@@ -72,51 +72,50 @@ module _ {s names rows : List ℕ} {samples : ℕ} {clipped : Bool} {clip : List
   }
 
   -- what walking over the contigs says
-  abbrev pub WalkSays : List ℕ → ℕ → ℕ → List ℕ → Walked → Type 0
-  WalkSays out at scratch out′ w = (r : AllReady s rows samples clipped clip referenced reference contigs order bounds out at)
-      → RecordsWalked (allRecords (r .tables) scratch) (r .d₀) (r .bytes) 0 out′ w
+  abbrev pub WalkSays : List ℕ → ℕ → List ℕ → Walked → Type 0
+  WalkSays out at out′ w = (r : AllReady s rows samples clipped clip referenced reference contigs order bounds out at)
+      → RecordsWalked (allRecords (r .tables)) (r .d₀) (r .bytes) 0 out′ w
 
-  module _ {scratch scratch₁ : ℕ} (part : List ℕ) {w : Walked} (same : scratch₁ ≡ scratch) (says : WalkSays [] 0 scratch part w) where
-    pub list-refused : {row : ℕ} (room : ℕ) → w ≡ walked.Refused row → listWithin (ready .tables .loaded) scratch room ≡ refused row
+  module _ (part : List ℕ) {w : Walked} (says : WalkSays [] 0 part w) where
+    pub list-refused : {row : ℕ} (room : ℕ) → w ≡ walked.Refused row → listWithin (ready .tables .loaded) 1 room ≡ refused row
     unfolding RecordsWalked measuring listOf
     list-refused room e = then-refused _ _ (then-refused _ _ ((rw e at (says measuring)) .merged))
 
     pub measurement : {len count : ℕ} → w ≡ walked.To len count
-        → Measurement s names rows samples clipped clip referenced reference contigs order bounds scratch₁ len count
+        → Measurement s names rows samples clipped clip referenced reference contigs order bounds len count
     unfolding RecordsWalked measuring
     measurement {len} {count} e =
-        let laid : RecordsLaid (allRecords (ready .tables) scratch) [] [] 0 part len count = rw e at (says measuring) in
-        let few = records-counted (ready .tables .loaded) scratch (laid .list) (laid .merged) in
-        let short = bytes-counted (ready .tables .loaded) scratch (laid .list) (laid .merged) in
+        let laid : RecordsLaid (allRecords (ready .tables)) [] [] 0 part len count = rw e at (says measuring) in
+        let few = records-counted (ready .tables .loaded) (laid .list) (laid .merged) in
+        let short = bytes-counted (ready .tables .loaded) (laid .list) (laid .merged) in
         record {
           ready = ready;
           records = laid .list;
-          merged = rw same (laid .merged);
+          merged = laid .merged;
           len-is = omega (arith, laid .progress .measured .at-is);
           count-is = omega (arith, laid .progress .counted .count-is);
         }
 
     pub list-answered : {len count : ℕ} (out out₁ out₂ : List ℕ) (r : Outcome) → w ≡ walked.To len count → out₁ ≡ out
-        → ((m : Measurement s names rows samples clipped clip referenced reference contigs order bounds scratch₁ len count)
+        → ((m : Measurement s names rows samples clipped clip referenced reference contigs order bounds len count)
         → Answered (within (length out₁) (listTo m)) out₁ out₂ r)
-        → Answered (listWithin (ready .tables .loaded) scratch (length out)) out out₂ r
+        → Answered (listWithin (ready .tables .loaded) 1 (length out)) out out₂ r
     unfolding measurement listOf
     list-answered out out₁ out₂ r e kept writes =
         let m = measurement e in
-        let list : listOf (ready .tables .loaded .input) scratch ≡ accepted (listTo m) =
-        then _ _ (subst (λ (k : ℕ). allRecords (ready .tables) k ≡ accepted (m .records)) same (m .merged)) refl in
+        let list : listOf (ready .tables .loaded .input) 1 ≡ accepted (listTo m) = then _ _ (m .merged) refl in
         let answer : Answered (within (length out) (listTo m)) out out₂ r = rw kept at (writes m) in
         subst (λ (c : Checked (List ℕ)). Answered c out out₂ r) (sym (then _ (within (length out)) list refl)) answer
 
 -- ---- the second pass
 
 module _ {s names rows : List ℕ} {samples : ℕ} {clipped : Bool} {clip : List ℕ} {referenced : Bool} {reference contigs order bounds : List ℕ}
-    {scratch len count : ℕ} (m : Measurement s names rows samples clipped clip referenced reference contigs order bounds scratch len count) where
+    {len count : ℕ} (m : Measurement s names rows samples clipped clip referenced reference contigs order bounds len count) where
   pub count-low : count ≤ 2147483647
-  count-low = omega (arith, m .count-is, records-counted (m .ready .tables .loaded) scratch (m .records) (m .merged))
+  count-low = omega (arith, m .count-is, records-counted (m .ready .tables .loaded) (m .records) (m .merged))
 
   pub len-low : len ≤ mostRecord * 2147483647
-  len-low = omega (arith, m .len-is, bytes-counted (m .ready .tables .loaded) scratch (m .records) (m .merged))
+  len-low = omega (arith, m .len-is, bytes-counted (m .ready .tables .loaded) (m .records) (m .merged))
 
   abbrev pub headerOf : List ℕ
   headerOf = printedHeader (namesIn s names samples) count
@@ -147,7 +146,7 @@ module _ {s names rows : List ℕ} {samples : ℕ} {clipped : Bool} {clip : List
 
     -- there is room, and the list is written over the part that it takes
     pub fitting-answered : {written : List ℕ} (out : List ℕ) → r + len ≤ length (part ++ out)
-        → ((m : Measurement s names rows samples clipped clip referenced reference contigs order bounds scratch len count)
+        → ((m : Measurement s names rows samples clipped clip referenced reference contigs order bounds len count)
         → written ≡ sets (take (r + len) (part ++ out)) 0 (listTo m))
         → Answered (within (length out) (listTo m)) out (written ++ drop (r + len) (part ++ out)) (outcome.Written (r + len))
     fitting-answered {written} out h writes =
@@ -171,11 +170,11 @@ module _ {s names rows : List ℕ} {samples : ℕ} {clipped : Bool} {clip : List
       };
     }
 
-    pub list-written : {out₂ : List ℕ} (w : Walked) → WalkSays (m .ready) out₁ at scratch out₂ w → out₂ ≡ sets out 0 (listTo m)
+    pub list-written : {out₂ : List ℕ} (w : Walked) → WalkSays (m .ready) out₁ at out₂ w → out₂ ≡ sets out 0 (listTo m)
     unfolding RecordsWalked writing
     list-written {out₂} w says = go w (says writing)
       where
-        go : (w : Walked) → RecordsWalked (allRecords (m .ready .tables) scratch) out headerOf 0 out₂ w → out₂ ≡ sets out 0 (listTo m)
+        go : (w : Walked) → RecordsWalked (allRecords (m .ready .tables)) out headerOf 0 out₂ w → out₂ ≡ sets out 0 (listTo m)
         go (walked.Refused row) e = not-refused (sym (e .merged) ∙ m .merged)
         go (walked.To end records) laid =
             let same : laid .list ≡ m .records = accepted-same (sym (laid .merged) ∙ m .merged) in

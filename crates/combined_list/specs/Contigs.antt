@@ -1,5 +1,5 @@
 -- What walking over contigs, one after the other, finds and lays.
-use Prim.Native.Nat.{_<_, ℕ}
+use Prim.Native.Nat.{_<_, _≤_, ℕ}
 use lib.ListN.{length}
 use mathlib.Core.Bool.{Bool, cond}
 use mathlib.Core.List.{List, [], map}
@@ -13,7 +13,7 @@ use Rattle.definitions.specs.Records.{Record}
 use Rattle.laws.proofs.Every.{Every}
 use Rattle.merged_records.specs.Loaded.{Loaded}
 use Rattle.tables.specs.Tables.{column, partAt}
-use Rattle.contig_walk.specs.Walk.{ClipGiven}
+use Rattle.contig_walk.specs.Walk.{ClipGiven, WalkRoom}
 use Rattle.coalescing.specs.Steps.{Progress}
 
 -- a clip that is left out is an empty text
@@ -23,7 +23,7 @@ givenClip clipped clip = cond clipped clip []
 -- tables and texts that hold an input, and the numbers of the sites grouped by sample
 pub record Grouped (s rows : List ℕ) (samples : ℕ) (clipped : Bool) (clip : List ℕ) (referenced : Bool) (reference order bounds : List ℕ) : Type 0 where
   pub loaded : Loaded s rows samples referenced reference
-  pub clip-given : ClipGiven clipped clip rows (loaded .input)
+  pub clip-given : ClipGiven clipped clip (loaded .input)
   pub grouped : Runs order bounds samples (sampleSites rows (length (loaded .input .cohort .sites)))
 
 module _ {s rows : List ℕ} {samples : ℕ} {clipped : Bool} {clip : List ℕ} {referenced : Bool} {reference order bounds : List ℕ}
@@ -33,13 +33,13 @@ module _ {s rows : List ℕ} {samples : ℕ} {clipped : Bool} {clip : List ℕ} 
     pub known : first < length (g .loaded .input .cohort .sites)
     pub own : column 1 rows first ≡ first
 
-  -- the records of a contig, by its first site, with so much scratch
-  abbrev pub recordsOn : ℕ → ℕ → Checked (List Record)
-  recordsOn places first = contigRecords (g .loaded .input) places (partAt 7 8 s rows first)
+  -- the records of a contig, by its first site; any scratch of one place or more gives the same
+  abbrev pub recordsOn : ℕ → Checked (List Record)
+  recordsOn first = contigRecords (g .loaded .input) 1 (partAt 7 8 s rows first)
 
   -- all records
-  abbrev pub allRecords : ℕ → Checked (List Record)
-  allRecords places = combinedRecords (g .loaded .input) places
+  abbrev pub allRecords : Checked (List Record)
+  allRecords = combinedRecords (g .loaded .input) 1
 
 -- what the walk over one contig is lent
 pub record OneReady (s rows : List ℕ) (samples : ℕ) (clipped : Bool) (clip : List ℕ) (referenced : Bool) (reference : List ℕ) (first : ℕ)
@@ -60,3 +60,9 @@ pub record AllReady (s rows : List ℕ) (samples : ℕ) (clipped : Bool) (clip :
   pub d₀ : List ℕ
   pub bytes : List ℕ
   pub progress : Progress d₀ bytes 0 out at 0
+
+-- the lists and buffers that the walk over contigs fills are long enough
+pub record ContigRoom (order chosen scratch held fresh alts : List ℕ) : Type 0 where
+  pub for-chosen : length order ≤ length chosen
+  pub for-window : 2 ≤ length scratch
+  pub for-walk : WalkRoom held fresh alts

@@ -19,7 +19,7 @@ use Rattle.contig_walk.specs.Walk.{ClipGiven}
 -- the tables hold the cohort, and clip and reference are in order
 pub record CallLoaded (s names rows : List ℕ) (samples sites : ℕ) (clipped : Bool) (clip : List ℕ) (referenced : Bool) (reference : List ℕ) : Type 0 where
   pub loaded : Loaded s rows samples referenced reference
-  pub clip-given : ClipGiven clipped clip rows (loaded .input)
+  pub clip-given : ClipGiven clipped clip (loaded .input)
   pub header : HeaderNames s names samples
   pub names-are : loaded .input .cohort .names ≡ namesIn s names samples
   pub all-sites : sites ≡ length (loaded .input .cohort .sites)
@@ -30,10 +30,10 @@ pub record ListsFit (sites : ℕ) (order firsts chosen : List ℕ) : Type 0 wher
   pub for-firsts : sites ≤ length firsts
   pub for-chosen : length order ≤ length chosen
 
--- the list of an input, if there is so much room
+-- the list of an input with so many scratch places, if there is so much room
 abbrev pub listWithin : {s rows : List ℕ} {samples : ℕ} {referenced : Bool} {reference : List ℕ}
     → Loaded s rows samples referenced reference → ℕ → ℕ → Checked (List ℕ)
-listWithin l scratch room = listOf (l .input) scratch >>= within room
+listWithin l places room = listOf (l .input) places >>= within room
 
 -- the tables with the sites grouped by sample, and the contigs by their first sites, in byte order of name
 pub record ListReady (s names rows : List ℕ) (samples : ℕ) (clipped : Bool) (clip : List ℕ) (referenced : Bool) (reference contigs order bounds : List ℕ) : Type 0 where
@@ -45,15 +45,15 @@ pub record ListReady (s names rows : List ℕ) (samples : ℕ) (clipped : Bool) 
 
 -- and with all records, which were measured
 pub record Measurement (s names rows : List ℕ) (samples : ℕ) (clipped : Bool) (clip : List ℕ) (referenced : Bool) (reference contigs order bounds : List ℕ)
-    (scratch len count : ℕ) : Type 0 where
+    (len count : ℕ) : Type 0 where
   pub ready : ListReady s names rows samples clipped clip referenced reference contigs order bounds
   pub records : List Record
-  pub merged : allRecords (ready .tables) scratch ≡ accepted records
+  pub merged : allRecords (ready .tables) ≡ accepted records
   pub len-is : len ≡ length (flatMap printedRecord records)
   pub count-is : count ≡ length records
 
 -- the list of those records
 abbrev pub listTo : {s names rows : List ℕ} {samples : ℕ} {clipped : Bool} {clip : List ℕ} {referenced : Bool}
-    {reference contigs order bounds : List ℕ} {scratch len count : ℕ}
-    → Measurement s names rows samples clipped clip referenced reference contigs order bounds scratch len count → List ℕ
+    {reference contigs order bounds : List ℕ} {len count : ℕ}
+    → Measurement s names rows samples clipped clip referenced reference contigs order bounds len count → List ℕ
 listTo m = printedList (m .ready .tables .loaded .input .cohort .names) (m .records)

@@ -1,17 +1,18 @@
 // The combined list of an input whose tables are loaded: contig by contig, in two passes.
 ghost use Prim.Native.Nat.{_≤_};
+ghost use lib.Dec.{eqb, ltb};
 ghost use lib.ListN.{length};
 ghost use lib.Seq.{sets};
+ghost use mathlib.Core.Bool.{_&&_};
 ghost use mathlib.Core.Path.{_≡_};
 ghost use Rattle.answers.specs.Answered.{Answered};
 ghost use Rattle.definitions.specs.Checked.{within};
 ghost use Rattle.list_header.specs.Measured.{limit};
-ghost use Rattle.combined_list.specs.Contigs.{AllReady, OneReady, allRecords, givenClip, recordsOn};
+ghost use Rattle.combined_list.specs.Contigs.{AllReady, ContigRoom, OneReady, allRecords, givenClip, recordsOn};
 ghost use Rattle.combined_list.specs.WrittenList.{CallLoaded, ListReady, ListsFit, Measurement, listTo, listWithin};
-ghost use Rattle.contig_walk.specs.Walk.{RecordsWalked, WalkRoom};
+ghost use Rattle.contig_walk.specs.Walk.{RecordsWalked};
 use answers::Outcome;
 use contig_walk::Walked;
-use intervals::Breakpoints;
 
 // The clip text, or an empty part of it if there is no clip.
 fn given_clip<'a>(clipped: bool, clip: &'a [u8]) -> &'a [u8]
@@ -23,7 +24,7 @@ fn given_clip<'a>(clipped: bool, clip: &'a [u8]) -> &'a [u8]
     &clip[..0]
 }
 
-// Lays the records of a contig, which is named by the number of its first site: rows 10 to 13. `chosen` takes the numbers of its sites.
+// Lays the records of a contig, which is named by the number of its first site: rows 11 to 13. `chosen` takes the numbers of its sites.
 fn walk_one<'a>(
     s: &'a [u8],
     rows: &[usize],
@@ -44,41 +45,36 @@ fn walk_one<'a>(
     at: usize,
     count: usize,
 ) -> Walked
-    requires { ⌜ OneReady (now s) (now rows) samples clipped (now clip) referenced (now reference) first (now order) (now runs) (now out) at count × WalkRoom (now held) (now fresh) (now alts) × (length (now order) ≤ length (now chosen)) ⌝ }
+    requires { ⌜ OneReady (now s) (now rows) samples clipped (now clip) referenced (now reference) first (now order) (now runs) (now out) at count × ContigRoom (now order) (now chosen) (now scratch) (now held) (now fresh) (now alts) ⌝ }
     ensures { λ r. ⌜ ((ready : OneReady (now (s .entry)) (now (rows .entry)) samples clipped (now (clip .entry)) referenced (now (reference .entry)) first (now (order .entry)) (now (runs .entry)) (now (out .entry)) at count)
-        → RecordsWalked (recordsOn (ready .tables) (length (now (scratch .entry))) first) (ready .d₀) (ready .bytes) (ready .records) (now (out .exit)) r) ⌝ }
+        → RecordsWalked (recordsOn (ready .tables) first) (ready .d₀) (ready .bytes) (ready .records) (now (out .exit)) r) ⌝ }
 {
     let mut bounds = [0usize; 65];
     covering_sites::select_contig(rows, order, runs, samples, first, chosen, &mut bounds);
-    let end = bounds[samples];
     let contig = tables::contig_name(s, rows, first);
     let spans = given_clip(clipped, clip);
-    let found = intervals::collect_breakpoints(rows, &chosen[..end], spans, contig, scratch);
-    match found {
-        Breakpoints::NoRoom => Walked::Refused(10),
-        Breakpoints::Count(n) => contig_walk::walk_contig(
-            s,
-            rows,
-            samples,
-            clipped,
-            clip,
-            referenced,
-            reference,
-            contig,
-            chosen,
-            &bounds,
-            &scratch[..n],
-            held,
-            fresh,
-            alts,
-            out,
-            at,
-            count,
-        ),
-    }
+    window_walk::walk_windows(
+        s,
+        rows,
+        samples,
+        clipped,
+        spans,
+        referenced,
+        reference,
+        contig,
+        chosen,
+        &bounds,
+        scratch,
+        held,
+        fresh,
+        alts,
+        out,
+        at,
+        count,
+    )
 }
 
-// Lays the records of all contigs, which are named by the numbers of their first sites, in byte order: rows 10 to 13.
+// Lays the records of all contigs, which are named by the numbers of their first sites, in byte order: rows 11 to 13.
 fn walk_contigs<'a>(
     s: &'a [u8],
     rows: &[usize],
@@ -98,9 +94,9 @@ fn walk_contigs<'a>(
     out: &mut [u8],
     at: usize,
 ) -> Walked
-    requires { ⌜ AllReady (now s) (now rows) samples clipped (now clip) referenced (now reference) (now contigs) (now order) (now runs) (now out) at × WalkRoom (now held) (now fresh) (now alts) × (length (now order) ≤ length (now chosen)) ⌝ }
+    requires { ⌜ AllReady (now s) (now rows) samples clipped (now clip) referenced (now reference) (now contigs) (now order) (now runs) (now out) at × ContigRoom (now order) (now chosen) (now scratch) (now held) (now fresh) (now alts) ⌝ }
     ensures { λ r. ⌜ ((ready : AllReady (now (s .entry)) (now (rows .entry)) samples clipped (now (clip .entry)) referenced (now (reference .entry)) (now (contigs .entry)) (now (order .entry)) (now (runs .entry)) (now (out .entry)) at)
-        → RecordsWalked (allRecords (ready .tables) (length (now (scratch .entry)))) (ready .d₀) (ready .bytes) 0 (now (out .exit)) r) ⌝ }
+        → RecordsWalked (allRecords (ready .tables)) (ready .d₀) (ready .bytes) 0 (now (out .exit)) r) ⌝ }
 {
     let mut next = at;
     let mut count = 0;
@@ -161,8 +157,8 @@ fn write_list<'a>(
     len: usize,
     count: usize,
 )
-    requires { ⌜ Measurement (now s) (now names) (now rows) samples clipped (now clip) referenced (now reference) (now contigs) (now order) (now runs) (length (now scratch)) len count × (length (now out) ≤ limit) × WalkRoom (now held) (now fresh) (now alts) × (length (now order) ≤ length (now chosen)) ⌝ }
-    ensures { λ _. ⌜ ((m : Measurement (now (s .entry)) (now (names .entry)) (now (rows .entry)) samples clipped (now (clip .entry)) referenced (now (reference .entry)) (now (contigs .entry)) (now (order .entry)) (now (runs .entry)) (length (now (scratch .entry))) len count)
+    requires { ⌜ Measurement (now s) (now names) (now rows) samples clipped (now clip) referenced (now reference) (now contigs) (now order) (now runs) len count × (length (now out) ≤ limit) × ContigRoom (now order) (now chosen) (now scratch) (now held) (now fresh) (now alts) ⌝ }
+    ensures { λ _. ⌜ ((m : Measurement (now (s .entry)) (now (names .entry)) (now (rows .entry)) samples clipped (now (clip .entry)) referenced (now (reference .entry)) (now (contigs .entry)) (now (order .entry)) (now (runs .entry)) len count)
         → now (out .exit) ≡ sets (now (out .entry)) 0 (listTo m)) ⌝ }
 {
     let at = list_header::put_header(s, names, samples, count as u32, out);
@@ -209,8 +205,8 @@ fn write_measured<'a>(
     len: usize,
     count: usize,
 ) -> Outcome
-    requires { ⌜ Measurement (now s) (now names) (now rows) samples clipped (now clip) referenced (now reference) (now contigs) (now order) (now runs) (length (now scratch)) len count × WalkRoom (now held) (now fresh) (now alts) × (length (now order) ≤ length (now chosen)) ⌝ }
-    ensures { λ r. ⌜ ((m : Measurement (now (s .entry)) (now (names .entry)) (now (rows .entry)) samples clipped (now (clip .entry)) referenced (now (reference .entry)) (now (contigs .entry)) (now (order .entry)) (now (runs .entry)) (length (now (scratch .entry))) len count)
+    requires { ⌜ Measurement (now s) (now names) (now rows) samples clipped (now clip) referenced (now reference) (now contigs) (now order) (now runs) len count × ContigRoom (now order) (now chosen) (now scratch) (now held) (now fresh) (now alts) ⌝ }
+    ensures { λ r. ⌜ ((m : Measurement (now (s .entry)) (now (names .entry)) (now (rows .entry)) samples clipped (now (clip .entry)) referenced (now (reference .entry)) (now (contigs .entry)) (now (order .entry)) (now (runs .entry)) len count)
         → Answered (within (length (now (out .entry))) (listTo m)) (now (out .entry)) (now (out .exit)) r) ⌝ }
 {
     let header = list_header::put_header(s, names, samples, count as u32, &mut out[..0]);
@@ -242,7 +238,7 @@ fn write_measured<'a>(
     Outcome::Written(end)
 }
 
-// Writes the list of an input in order, from its contigs and its grouped sites: rows 10 to 14. The records are measured before
+// Writes the list of an input in order, from its contigs and its grouped sites: rows 11 to 14. The records are measured before
 // anything is written.
 fn combine_contigs<'a>(
     s: &'a [u8],
@@ -260,9 +256,9 @@ fn combine_contigs<'a>(
     scratch: &mut [u64],
     out: &mut [u8],
 ) -> Outcome
-    requires { ⌜ ListReady (now s) (now names) (now rows) samples clipped (now clip) referenced (now reference) (now contigs) (now order) (now runs) × (length (now order) ≤ length (now chosen)) ⌝ }
+    requires { ⌜ ListReady (now s) (now names) (now rows) samples clipped (now clip) referenced (now reference) (now contigs) (now order) (now runs) × (length (now order) ≤ length (now chosen)) × (2 ≤ length (now scratch)) ⌝ }
     ensures { λ r. ⌜ ((ready : ListReady (now (s .entry)) (now (names .entry)) (now (rows .entry)) samples clipped (now (clip .entry)) referenced (now (reference .entry)) (now (contigs .entry)) (now (order .entry)) (now (runs .entry)))
-        → Answered (listWithin (ready .tables .loaded) (length (now (scratch .entry))) (length (now (out .entry)))) (now (out .entry)) (now (out .exit)) r) ⌝ }
+        → Answered (listWithin (ready .tables .loaded) 1 (length (now (out .entry)))) (now (out .entry)) (now (out .exit)) r) ⌝ }
 {
     let mut held = [0u8; 8192];
     let mut fresh = [0u8; 8192];
@@ -312,9 +308,62 @@ fn combine_contigs<'a>(
     }
 }
 
+// Writes the list of an input in order, from its tables, with places for a window of breakpoints: rows 11 to 14.
+fn combine_in_windows<'a>(
+    s: &'a [u8],
+    names: &[usize],
+    rows: &[usize],
+    samples: usize,
+    sites: usize,
+    clipped: bool,
+    clip: &[u8],
+    referenced: bool,
+    reference: &'a [u8],
+    order: &mut [usize],
+    firsts: &mut [usize],
+    chosen: &mut [usize],
+    scratch: &mut [u64],
+    out: &mut [u8],
+) -> Outcome
+    requires { ⌜ CallLoaded (now s) (now names) (now rows) samples sites clipped (now clip) referenced (now reference) × ListsFit sites (now order) (now firsts) (now chosen) × (2 ≤ length (now scratch)) ⌝ }
+    ensures { λ r. ⌜ ((call : CallLoaded (now (s .entry)) (now (names .entry)) (now (rows .entry)) samples sites clipped (now (clip .entry)) referenced (now (reference .entry)))
+        → Answered (listWithin (call .loaded) 1 (length (now (out .entry)))) (now (out .entry)) (now (out .exit)) r) ⌝ }
+{
+    let mut runs = [0usize; 65];
+    covering_sites::group_by_sample(rows, sites, samples, order, &mut runs);
+    let count = contigs::order_contigs(s, rows, sites, firsts);
+    combine_contigs(
+        s,
+        names,
+        rows,
+        samples,
+        clipped,
+        clip,
+        referenced,
+        reference,
+        &firsts[..count],
+        order,
+        &runs,
+        chosen,
+        scratch,
+        out,
+    )
+}
+
+// Row 10: a site names a contig, and scratch has no place.
+fn lacks_place(scratch: &[u64], sites: usize) -> bool
+    ensures { λ r. ⌜ r ≡ eqb (length (now (scratch .entry))) 0 && ltb 0 sites ⌝ }
+{
+    if scratch.len() != 0 {
+        return false;
+    }
+    0 < sites
+}
+
 // Writes the list of an input in order, from its tables: rows 10 to 14. Reading has made sure of what it requires. `order`, `firsts`,
-// `chosen` and `scratch` take the sites by sample, the contigs, a contig's sites and its breakpoints: work lists that only this
-// call reads, and what they hold after it is open.
+// `chosen` and `scratch` take the sites by sample, the contigs, a contig's sites and a window of its breakpoints: work lists that only
+// this call reads, and what they hold after it is open. Fewer than 1,024 places are left aside for as many of its own: the list is the
+// same, and a long clip is not read for each few breakpoints.
 pub fn combine_loaded_gvcfs<'a>(
     s: &'a [u8],
     names: &[usize],
@@ -335,23 +384,42 @@ pub fn combine_loaded_gvcfs<'a>(
     ensures { λ r. ⌜ ((call : CallLoaded (now (s .entry)) (now (names .entry)) (now (rows .entry)) samples sites clipped (now (clip .entry)) referenced (now (reference .entry)))
         → Answered (listWithin (call .loaded) (length (now (scratch .entry))) (length (now (out .entry)))) (now (out .entry)) (now (out .exit)) r) ⌝ }
 {
-    let mut runs = [0usize; 65];
-    covering_sites::group_by_sample(rows, sites, samples, order, &mut runs);
-    let count = contigs::order_contigs(s, rows, sites, firsts);
-    combine_contigs(
+    if lacks_place(scratch, sites) {
+        return Outcome::Refused(10);
+    }
+    if 1024 <= scratch.len() {
+        return combine_in_windows(
+            s,
+            names,
+            rows,
+            samples,
+            sites,
+            clipped,
+            clip,
+            referenced,
+            reference,
+            order,
+            firsts,
+            chosen,
+            scratch,
+            out,
+        );
+    }
+    let mut own = [0u64; 1024];
+    combine_in_windows(
         s,
         names,
         rows,
         samples,
+        sites,
         clipped,
         clip,
         referenced,
         reference,
-        &firsts[..count],
         order,
-        &runs,
+        firsts,
         chosen,
-        scratch,
+        &mut own,
         out,
     )
 }

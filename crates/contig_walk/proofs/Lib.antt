@@ -2,4 +2,3 @@ pub mod OwnRows
 pub mod Behind
 pub mod LaidRecords
 pub mod Turns
-pub mod Walking

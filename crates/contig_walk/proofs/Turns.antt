@@ -3,7 +3,7 @@ use Prim.Native.Nat.{_<_, _≤_, ℕ}
 use borrow.Author.Tests.{lt-ltb}
 use lib.ListN.{length, length-map, length-take, replicate, take}
 use lib.Seq.{length-sets, length-take-le, sets, take-length}
-use mathlib.Core.Bool.{Bool, false, true}
+use mathlib.Core.Bool.{Bool}
 use mathlib.Core.List.{List, [], append-nil, flatMap, map}
 use mathlib.Core.Option.{Option}
 use mathlib.Core.Path.{_∙_, _≡_, ap, refl, sym}
@@ -16,12 +16,8 @@ use Rattle.coalescing.specs.declared.Stepped.{Stepped}
 use Rattle.definitions.specs.Checked.{Checked, refused}
 use Rattle.definitions.specs.CombinedList.{Input, intervalRecord}
 use Rattle.definitions.specs.CoveringSites.{coveringSites}
-use Rattle.definitions.specs.Intervals.{inClip}
-use Rattle.definitions.specs.Lists.{onlyIf}
 use Rattle.definitions.specs.Records.{Record}
 use Rattle.found_sites.specs.Own.{foundList, ownRows}
-use Rattle.intervals.proofs.InClip.{all-clip-spans}
-use Rattle.intervals.specs.InClip.{clipSpans}
 use Rattle.kv_text.specs.Fields.{between}
 use Rattle.merged_records.proofs.Records.{owners-beside, record-is}
 use Rattle.merged_records.specs.Found.{RecordTo, covering}
@@ -31,8 +27,7 @@ use Rattle.record_laws.proofs.Coalescing.{turn-refused}
 use Rattle.record_laws.proofs.Walking.{withInterval}
 use Rattle.record_laws.specs.Pending.{andLater}
 use Rattle.tables.specs.Tables.{column, siteAt}
-use Rattle.contig_walk.specs.Laying.{ClippedReady, LayReady, TurnReady, Turns, Underway, laidRecord, ownOf}
-use Rattle.contig_walk.specs.Walk.{ClipGiven}
+use Rattle.contig_walk.specs.Laying.{LayReady, TurnReady, Turns, laidRecord, ownOf}
 use Rattle.contig_walk.specs.declared.Turned.the-variants as turned
 
 -- as many as were found are there
@@ -42,14 +37,6 @@ front-within {n} l e = omega (arith, length-take n l)
 -- a part from the beginning on
 text-front : (t alts : List ℕ) (len : ℕ) → t ≡ between alts 0 len → t ≡ take len alts
 text-front t alts len e = e ∙ rw (sub-zero len)
-
--- ---- the clip
-
--- the spans that the clip's text and rows give are the input's clip
-clip-spans : (clipped : Bool) {clip rows : List ℕ} {x : Input} → ClipGiven clipped clip rows x → onlyIf clipped (clipSpans clip rows) ≡ x .clip
-unfolding onlyIf
-clip-spans true given = rw (all-clip-spans _ _ (given .spans-indexed refl) (given .spans-from refl)) (sym (given .clip-is))
-clip-spans false given = sym (given .clip-is)
 
 -- ---- a turn
 
@@ -175,35 +162,3 @@ module _ {s rows : List ℕ} {samples : ℕ} {referenced : Bool} {reference cont
       progress = t .progress;
       turned = λ done later. rw (has-record ready (some-covering ready found alts n place len number to) later) (t .turned done _ later (record-is on′ first (exact ready found alts n place len number to text e) last));
     }
-
--- ---- a turn where the clip is asked
-
-module _ {s rows : List ℕ} {samples : ℕ} {clipped : Bool} {clip : List ℕ} {referenced : Bool} {reference contig chosen from bounds : List ℕ}
-    {first last : ℕ} {pending : Pending} {held fresh found₀ owners₀ alts₀ : List ℕ} {at : ℕ}
-    (ready : ClippedReady s rows samples clipped clip referenced reference contig chosen from bounds first last pending held fresh found₀ owners₀ alts₀ at) where
-  abbrev x : Input
-  x = ready .runs .on .loaded .input
-
-  -- what is told by the clip's text and rows is told of the input's clip
-  pub in-input-clip : {r v : Bool} → r ≡ inClip contig (onlyIf clipped (clipSpans clip rows)) (record { first = first; last = last }) → r ≡ v
-      → inClip contig (x .clip) (record { first = first; last = last }) ≡ v
-  in-input-clip e told = rw (← clip-spans clipped (ready .clip-given)) (sym e ∙ told)
-
-  unfoldable pub inside-ready : inClip contig (x .clip) (record { first = first; last = last }) ≡ true
-      → TurnReady s rows samples referenced reference contig chosen from bounds first last pending held fresh found₀ owners₀ alts₀ at
-  inside-ready inside = record {
-    runs = ready .runs;
-    inside = inside;
-    sound = ready .sound inside;
-    ended = ready .ended;
-    fits = ready .fits;
-    room = ready .room;
-  }
-
-  pub turn-clipped : inClip contig (x .clip) (record { first = first; last = last }) ≡ false
-      → (out : List ℕ) (count : ℕ) (way : Underway s rows samples reference contig held pending out at count)
-      → Turns x s rows samples reference contig held out first last (way .waiting) (way .begun .d₀) (way .begun .bytes) (way .begun .records)
-      (turned.To (record { pending = pending; at = at; count = count }))
-  unfolding withInterval
-  turn-clipped e out count way =
-      unchanged x s rows samples reference contig first last pending held at (way .waiting) (way .begun .d₀) (way .begun .bytes) (way .begun .records) (way .holds) out count (way .begun .progress) (λ later. rw e)

@@ -28,7 +28,7 @@ use Rattle.merged_ref.specs.declared.RefAt.{RefAt}
 use Rattle.record_laws.proofs.Walking.{withInterval}
 use Rattle.record_laws.specs.Pending.{finish}
 use Rattle.tables.specs.Tables.{column}
-use Rattle.contig_walk.specs.Walk.{Begun, ClipGiven}
+use Rattle.contig_walk.specs.Walk.{Begun}
 use Rattle.contig_walk.specs.declared.Turned.{Turned}
 use Rattle.contig_walk.specs.declared.Turned.the-variants as turned
 
@@ -81,17 +81,6 @@ pub record TurnReady (s rows : List ℕ) (samples : ℕ) (referenced : Bool) (re
   pub runs : ContigRuns s rows samples referenced reference contig chosen bounds
   pub inside : inClip contig (runs .on .loaded .input .clip) (record { first = first; last = last }) ≡ true
   pub sound : 0 < length (coveringSites (runs .on .loaded .input .cohort) contig first) → SoundInterval (record { first = first; last = last })
-  pub ended : Ended rows chosen bounds from samples first
-  pub fits : PendingFits s rows reference contig held pending at
-  pub room : TurnRoom samples held fresh found owners alts
-
--- the same, where it is not known whether the interval lies in the clip
-pub record ClippedReady (s rows : List ℕ) (samples : ℕ) (clipped : Bool) (clip : List ℕ) (referenced : Bool) (reference contig chosen from bounds : List ℕ)
-    (first last : ℕ) (pending : Pending) (held fresh found owners alts : List ℕ) (at : ℕ) : Type 0 where
-  pub runs : ContigRuns s rows samples referenced reference contig chosen bounds
-  pub clip-given : ClipGiven clipped clip rows (runs .on .loaded .input)
-  pub sound : inClip contig (runs .on .loaded .input .clip) (record { first = first; last = last }) ≡ true
-      → 0 < length (coveringSites (runs .on .loaded .input .cohort) contig first) → SoundInterval (record { first = first; last = last })
   pub ended : Ended rows chosen bounds from samples first
   pub fits : PendingFits s rows reference contig held pending at
   pub room : TurnRoom samples held fresh found owners alts

@@ -9,23 +9,19 @@ use Rattle.clip_and_reference.specs.Groups.{SpansFrom}
 use Rattle.definitions.specs.Checked.{Checked, accepted, refused}
 use Rattle.definitions.specs.ClipAndReference.{Span}
 use Rattle.definitions.specs.CombinedList.{Input}
-use Rattle.definitions.specs.Intervals.{breakpoints}
 use Rattle.definitions.specs.Limits.{maxTextLength}
 use Rattle.definitions.specs.Lists.{onlyIf}
 use Rattle.definitions.specs.Printed.{printedRecord}
 use Rattle.definitions.specs.Records.{Record}
 use Rattle.coalescing.specs.Steps.{Progress}
-use Rattle.indexed_groups.specs.Indexed.{SpansIndexed}
-use Rattle.merged_records.specs.Loaded.{ContigRuns}
 use Rattle.contig_walk.specs.declared.Walked.{Walked}
 use Rattle.contig_walk.specs.declared.Walked.the-variants as walked
 
--- the clip text, if it is there, is not too long and holds the input's clip, and its first spans have rows
-pub record ClipGiven (clipped : Bool) (clip rows : List ℕ) (x : Input) : Type 0 where
+-- the clip text, if it is there, is not too long and holds the input's clip
+pub record ClipGiven (clipped : Bool) (clip : List ℕ) (x : Input) : Type 0 where
   pub short : clipped ≡ true → length clip ≤ maxTextLength
   pub spans : List Span
   pub spans-from : clipped ≡ true → SpansFrom clip 0 spans
-  pub spans-indexed : clipped ≡ true → SpansIndexed clip rows
   pub clip-is : x .clip ≡ onlyIf clipped spans
 
 -- a list was begun: so many bytes and records are laid
@@ -34,13 +30,6 @@ pub record Begun (out : List ℕ) (at count : ℕ) : Type 0 where
   pub bytes : List ℕ
   pub records : ℕ
   pub progress : Progress d₀ bytes records out at count
-
--- what the walk over a contig is lent
-pub record WalkReady (s rows : List ℕ) (samples : ℕ) (clipped : Bool) (clip : List ℕ) (referenced : Bool)
-    (reference contig chosen bounds places : List ℕ) : Type 0 where
-  pub runs : ContigRuns s rows samples referenced reference contig chosen bounds
-  pub clip-given : ClipGiven clipped clip rows (runs .on .loaded .input)
-  pub all-places : places ≡ breakpoints (runs .on .loaded .input .cohort .sites) (runs .on .loaded .input .clip) contig
 
 -- the buffers that the walk fills are long enough
 pub record WalkRoom (held fresh alts : List ℕ) : Type 0 where

@@ -5,15 +5,9 @@ ghost use mathlib.Core.Bool.{_&&_, true};
 ghost use mathlib.Core.Path.{_≡_};
 ghost use Rattle.coalescing.specs.Steps.{StepTo};
 ghost use Rattle.definitions.specs.Alleles.{isBlock};
-ghost use Rattle.definitions.specs.Intervals.{inClip};
-ghost use Rattle.definitions.specs.Lists.{onlyIf};
-ghost use Rattle.intervals.specs.InClip.{clipSpans, intervalOf};
 ghost use Rattle.merged_ref.specs.Answers.{refBytes};
-ghost use Rattle.record_laws.specs.Pending.{mergedContig};
-ghost use Rattle.contig_walk.specs.Laying.{ClippedReady, LayReady, TurnReady, Turns, Underway, laidRecord};
-ghost use Rattle.contig_walk.specs.Walk.{Begun, RecordsWalked, WalkReady, WalkRoom};
+ghost use Rattle.contig_walk.specs.Laying.{LayReady, TurnReady, Turns, Underway, laidRecord};
 use bio_ids::GenomeLoc;
-use bio_ids::GenomePosition;
 use coalescing::Pending;
 use coalescing::Stepped;
 use merged_records::RecordAt;
@@ -161,16 +155,6 @@ fn lay_record<'a>(
     )
 }
 
-// Whether an interval lies in the clip, where there is one.
-fn passes_clip(clipped: bool, clip: &[u8], rows: &[usize], contig: &[u8], loc: GenomeLoc) -> bool
-    ensures { λ r. ⌜ r ≡ inClip (now (contig .entry)) (onlyIf clipped (clipSpans (now (clip .entry)) (now (rows .entry)))) (intervalOf loc) ⌝ }
-{
-    if !clipped {
-        return true;
-    }
-    intervals::in_clip(clip, rows, contig, loc)
-}
-
 // What a turn of the walk leaves; or the row that refuses the interval's record.
 pub enum Turned {
     To(Stepped),
@@ -250,142 +234,4 @@ pub fn walk_interval<'a>(
             Turned::To(step)
         }
     }
-}
-
-// Lays the record of an interval, if it lies in the clip and sites cover it.
-fn walk_clipped<'a>(
-    s: &'a [u8],
-    rows: &[usize],
-    samples: usize,
-    clipped: bool,
-    clip: &[u8],
-    referenced: bool,
-    reference: &'a [u8],
-    contig: &[u8],
-    chosen: &[usize],
-    from: &[usize],
-    bounds: &[usize],
-    loc: GenomeLoc,
-    pending: Pending,
-    held: &mut [u8],
-    fresh: &mut [u8],
-    found: &mut [usize],
-    owners: &mut [usize],
-    alts: &mut [u8],
-    out: &mut [u8],
-    at: usize,
-    count: usize,
-) -> Turned
-    requires { ⌜ ClippedReady (now s) (now rows) samples clipped (now clip) referenced (now reference) (now contig) (now chosen) (now from) (now bounds) (loc .start .0) (loc .end .0) pending (now held) (now fresh) (now found) (now owners) (now alts) at
-        × Underway (now s) (now rows) samples (now reference) (now contig) (now held) pending (now out) at count ⌝ }
-    ensures { λ r. ⌜ ((ready : ClippedReady (now (s .entry)) (now (rows .entry)) samples clipped (now (clip .entry)) referenced (now (reference .entry)) (now (contig .entry)) (now (chosen .entry)) (now (from .entry)) (now (bounds .entry)) (loc .start .0) (loc .end .0) pending (now (held .entry)) (now (fresh .entry)) (now (found .entry)) (now (owners .entry)) (now (alts .entry)) at)
-        (way : Underway (now (s .entry)) (now (rows .entry)) samples (now (reference .entry)) (now (contig .entry)) (now (held .entry)) pending (now (out .entry)) at count)
-        → Turns (ready .runs .on .loaded .input) (now (s .entry)) (now (rows .entry)) samples (now (reference .entry)) (now (contig .entry)) (now (held .exit)) (now (out .exit)) (loc .start .0) (loc .end .0)
-        (way .waiting) (way .begun .d₀) (way .begun .bytes) (way .begun .records) r) ⌝ }
-{
-    if !passes_clip(clipped, clip, rows, contig, loc) {
-        return Turned::To(Stepped { pending, at, count });
-    }
-    walk_interval(
-        s,
-        rows,
-        samples,
-        referenced,
-        reference,
-        contig,
-        chosen,
-        from,
-        bounds,
-        loc,
-        pending,
-        held,
-        fresh,
-        found,
-        owners,
-        alts,
-        out,
-        at,
-        count,
-    )
-}
-
-// Lays the records of a contig behind those before it, as far as they fit: rows 11 to 13. `held` and `fresh` take the samples'
-// lines of the record that is held back and of the next one, `alts` its ALTs. After a refusal some records that come before it are laid.
-pub fn walk_contig<'a>(
-    s: &'a [u8],
-    rows: &[usize],
-    samples: usize,
-    clipped: bool,
-    clip: &[u8],
-    referenced: bool,
-    reference: &'a [u8],
-    contig: &[u8],
-    chosen: &[usize],
-    bounds: &[usize],
-    places: &[u64],
-    held: &mut [u8],
-    fresh: &mut [u8],
-    alts: &mut [u8],
-    out: &mut [u8],
-    at: usize,
-    count: usize,
-) -> Walked
-    requires { ⌜ WalkReady (now s) (now rows) samples clipped (now clip) referenced (now reference) (now contig) (now chosen) (now bounds) (now places) × Begun (now out) at count × WalkRoom (now held) (now fresh) (now alts) ⌝ }
-    ensures { λ r. ⌜ ((ready : WalkReady (now (s .entry)) (now (rows .entry)) samples clipped (now (clip .entry)) referenced (now (reference .entry)) (now (contig .entry)) (now (chosen .entry)) (now (bounds .entry)) (now (places .entry)))
-        (begun : Begun (now (out .entry)) at count)
-        → RecordsWalked (mergedContig (ready .runs .on .loaded .input) (now (contig .entry))) (begun .d₀) (begun .bytes) (begun .records) (now (out .exit)) r) ⌝ }
-{
-    let mut found = [0usize; 64];
-    let mut owners = [0usize; 64];
-    let mut from = [0usize; 64];
-    covering_sites::start_search(bounds, samples, &mut from);
-    let mut state = Stepped {
-        pending: Pending::Nothing,
-        at,
-        count,
-    };
-    let mut k = 0;
-    while k + 1 < places.len() {
-        let first = GenomePosition::new_1based(places[k]);
-        let last = GenomePosition::new_1based(places[k + 1] - 1);
-        let loc = GenomeLoc::new(first, last);
-        covering_sites::skip_ended(rows, chosen, bounds, samples, loc.start, &mut from);
-        let pending = state.pending;
-        let turn = walk_clipped(
-            s,
-            rows,
-            samples,
-            clipped,
-            clip,
-            referenced,
-            reference,
-            contig,
-            chosen,
-            &from,
-            bounds,
-            loc,
-            pending,
-            held,
-            fresh,
-            &mut found,
-            &mut owners,
-            alts,
-            out,
-            state.at,
-            state.count,
-        );
-        match turn {
-            Turned::Refused(row) => {
-                return Walked::Refused(row);
-            }
-            Turned::To(step) => {
-                state = step;
-                k += 1;
-            }
-        }
-    }
-    let pending = state.pending;
-    let end = coalescing::put_pending(s, rows, reference, contig, held, pending, out, state.at);
-    let total = coalescing::count_pending(state.count, pending);
-    Walked::To(list_header::cap(end), total)
 }

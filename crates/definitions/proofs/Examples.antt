@@ -147,7 +147,7 @@ refusals =
     ∷ (answerToSite "10" "12" "A" "G,<NON_REF>" "." gives "refused=7\n")
     ∷ (answerToSite "10" "10" "A" "<NON_REF>" "0,30" gives "refused=8\n")
     ∷ (answerWithin 8192 65536 (record { cohort = one; clip = none; reference = some (text "contig=c\nfirst=1\nbases=AX\n") }) gives "refused=9\n")
-    ∷ (answerWithin 1 65536 (alone (one ++ block "10" "19" "A")) gives "refused=10\n")
+    ∷ (answerWithin 0 65536 (alone (one ++ block "10" "19" "A")) gives "refused=10\n")
     ∷ (answerWithin 8192 65536 (record {
       cohort = one ++ block "10" "19" "A";
       clip = some (text "contig=c\nstart=13\nend=19\n");
@@ -179,6 +179,9 @@ slips =
     gives "13839561654909534208;13835058055282163712;0")
     ∷ (refsIn (one ++ block "10" "19" "A") "contig=c\nstart=13\nend=13\ncontig=c\nstart=14\nend=14\n"
     "contig=c\nfirst=15\nbases=T\ncontig=c\nfirst=13\nbases=G\ncontig=c\nfirst=10\nbases=AAAAAAAAAA\n" gives "G;A")
+    ∷ (answerWithin 1 65536 (alone (one ++ block "10" "19" "A"))
+    gives "samples=1\nsample=S0\nrecords=1\ncontig=c\npos=10\nend=19\nref=A\nalt=<NON_REF>\ngt=.\ngq=.\ndp=.\nad=.\npl=.\n")
+    ∷ (answerWithin 0 65536 (alone one) gives "samples=1\nsample=S0\nrecords=0\n")
     ∷ (answerToSite "10" "9" "A" "G,G" "." gives "refused=4\n")
     ∷ (answerToSite "10" "12" "A" "G,<NON_REF>" "0,30" gives "refused=7\n")
     ∷ (answer (one ++ withPl "0" "10" "10" "A" "<NON_REF>" "0,30" ++ bare "0" "010" "10" "A" "<NON_REF>") gives "refused=8\n")

@@ -1,5 +1,5 @@
 -- The tables that a call reads its texts into: the names by where they stand in the text, a row of numbers for each site, and behind
--- those of 4,096 sites a row for each of the first 1,024 reference segments and clip spans.
+-- those of 4,096 sites a row for each of the first 1,024 reference segments.
 use Prim.Native.Nat.{_%_, _*_, _+_, _/_, _<_, ℕ}
 use lib.Dec.{eqb, leb, ltb}
 use lib.ListN.{getD, length, take}
@@ -10,7 +10,7 @@ use mathlib.Core.Option.{Option, some}
 use mathlib.Core.Path.{_≡_}
 use Rattle.definitions.specs.Alleles.{Allele, RefAlts, isBlock, letters, nonRef, spanDel, spelled}
 use Rattle.definitions.specs.Bytes.{comma, fieldsOf, sameBytes}
-use Rattle.definitions.specs.ClipAndReference.{ReferenceSegment, Span}
+use Rattle.definitions.specs.ClipAndReference.{ReferenceSegment}
 use Rattle.definitions.specs.Cohort.{Site}
 use Rattle.definitions.specs.Lists.{indexWhere, numbersFrom, onlyIf}
 use Rattle.definitions.specs.Numbers.{maxNumber, numberList}
@@ -120,43 +120,30 @@ pub record SiteRows (s rows : List ℕ) (sites : List Site) : Type 0 where
       → indexWhere (sameBytes (partAt 7 8 s rows site)) (map (λ (x : Site). x .contig) sites) ≡ some (column 1 rows site)
   pub blocks : (site : ℕ) → site < length sites → eqb (column 4 rows site) 1 ≡ isBlock (siteAt s rows site .alleles)
 
--- ---- reference segments and clip spans
+-- ---- reference segments
 
--- 90,112 numbers are the rows of 4,096 sites. Behind them stand 1,024 rows of 5 for segments and 1,024 rows of 4 for spans; then how
--- many segments and how many spans have rows; then the offset at which the segments, and that at which the spans, go on in their text.
+-- 90,112 numbers are the rows of 4,096 sites. Behind them stand 1,024 rows of 5 for segments; then how many segments have rows, and
+-- the offset at which the others go on in their text.
 abbrev pub segmentsAt : ℕ
 segmentsAt = 90112
 
-abbrev pub spansAt : ℕ
-spansAt = 95232
-
 abbrev pub countsAt : ℕ
-countsAt = 99328
+countsAt = 95232
 
 abbrev pub tableLength : ℕ
-tableLength = 99332
+tableLength = 95234
 
 -- a segment's row: where the reference text has (0, 1) the contig, 2 the first position, where it has (3, 4) the bases
 unfoldable pub segmentColumn : ℕ → List ℕ → ℕ → ℕ
 segmentColumn k rows segment = getD rows (segmentsAt + segment * 5 + k) 0
 
--- a span's row: where the clip text has (0, 1) the contig, 2 start, 3 end
-unfoldable pub spanColumn : ℕ → List ℕ → ℕ → ℕ
-spanColumn k rows span = getD rows (spansAt + span * 4 + k) 0
-
 -- how many have rows
 abbrev pub segmentCount : List ℕ → ℕ
 segmentCount rows = getD rows countsAt 0
 
-abbrev pub spanCount : List ℕ → ℕ
-spanCount rows = getD rows (countsAt + 1) 0
-
 -- where those without rows begin
 abbrev pub segmentsNext : List ℕ → ℕ
-segmentsNext rows = getD rows (countsAt + 2) 0
-
-abbrev pub spansNext : List ℕ → ℕ
-spansNext rows = getD rows (countsAt + 3) 0
+segmentsNext rows = getD rows (countsAt + 1) 0
 
 -- the segment that a row stands for
 unfoldable pub segmentAt : List ℕ → List ℕ → ℕ → ReferenceSegment
@@ -164,12 +151,4 @@ segmentAt reference rows segment = record {
   contig = between reference (segmentColumn 0 rows segment) (segmentColumn 1 rows segment);
   first = segmentColumn 2 rows segment;
   bases = between reference (segmentColumn 3 rows segment) (segmentColumn 4 rows segment);
-}
-
--- the span that a row stands for
-unfoldable pub spanAt : List ℕ → List ℕ → ℕ → Span
-spanAt clip rows span = record {
-  contig = between clip (spanColumn 0 rows span) (spanColumn 1 rows span);
-  start = spanColumn 2 rows span;
-  end = spanColumn 3 rows span;
 }

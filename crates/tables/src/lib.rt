@@ -1,5 +1,5 @@
-// The tables that the texts of a call are read into: names, sites, and behind 4,096 sites the first 1,024 reference segments and clip
-// spans. Every number of a row is answered: past the table's end all columns are 0.
+// The tables that the texts of a call are read into: names, sites, and behind 4,096 sites the first 1,024 reference segments. Every number
+// of a row is answered: past the table's end all columns are 0.
 ghost use mathlib.Core.Path.{_≡_};
 ghost use Prim.Native.Nat.{_+_, _<_, _≤_};
 ghost use lib.Dec.{eqb};
@@ -12,7 +12,7 @@ ghost use Rattle.definitions.specs.Bytes.{comma, fieldsOf};
 ghost use Rattle.definitions.specs.Numbers.{numberList};
 ghost use Rattle.kv_text.specs.Fields.{between, firstNumbers};
 ghost use Rattle.kv_write.specs.Optional.{optionOf};
-ghost use Rattle.tables.specs.Tables.{adAt, codeOption, column, firstNumbersAt, halfAt, isStored, listColumns, numbersAt, partAt, plAt, segmentColumn, segmentCount, segmentsNext, spanColumn, spanCount, spansNext, storedNumbers, withNumbers, wordOf};
+ghost use Rattle.tables.specs.Tables.{adAt, codeOption, column, firstNumbersAt, halfAt, isStored, listColumns, numbersAt, partAt, plAt, segmentColumn, segmentCount, segmentsNext, storedNumbers, withNumbers, wordOf};
 use bio_ids::GenomePosition;
 use bio_ids::SampleIndex;
 use kv_text::NumbersRead;
@@ -305,10 +305,10 @@ pub fn store_numbers(rows: &mut [usize], at: usize, words: usize, numbers: &[u32
     }
 }
 
-// ---- reference segments and clip spans
+// ---- reference segments
 
-// 2^58: so many rows of 4 have as many numbers as no table has.
-const TOO_MANY_GROUPS: usize = 288230376151711744;
+// 2^58: so many rows of 5 have more numbers than any table.
+const TOO_MANY_SEGMENTS: usize = 288230376151711744;
 
 // The number at an offset of a table.
 fn number_at(rows: &[usize], at: usize) -> usize
@@ -324,7 +324,7 @@ fn number_at(rows: &[usize], at: usize) -> usize
 pub fn segment_column(rows: &[usize], segment: usize, k: usize) -> usize
     ensures { λ r. ⌜ r ≡ segmentColumn k (now (rows .entry)) segment ⌝ }
 {
-    if TOO_MANY_GROUPS <= segment {
+    if TOO_MANY_SEGMENTS <= segment {
         return 0;
     }
     if TOO_MANY_NUMBERS <= k {
@@ -333,43 +333,16 @@ pub fn segment_column(rows: &[usize], segment: usize, k: usize) -> usize
     number_at(rows, 90112 + segment * 5 + k)
 }
 
-// A number of a clip span's row.
-pub fn span_column(rows: &[usize], span: usize, k: usize) -> usize
-    ensures { λ r. ⌜ r ≡ spanColumn k (now (rows .entry)) span ⌝ }
-{
-    if TOO_MANY_GROUPS <= span {
-        return 0;
-    }
-    if TOO_MANY_NUMBERS <= k {
-        return 0;
-    }
-    number_at(rows, 95232 + span * 4 + k)
-}
-
 // How many reference segments have rows.
 pub fn segment_count(rows: &[usize]) -> usize
     ensures { λ r. ⌜ r ≡ segmentCount (now (rows .entry)) ⌝ }
 {
-    number_at(rows, 99328)
-}
-
-// How many clip spans have rows.
-pub fn span_count(rows: &[usize]) -> usize
-    ensures { λ r. ⌜ r ≡ spanCount (now (rows .entry)) ⌝ }
-{
-    number_at(rows, 99329)
+    number_at(rows, 95232)
 }
 
 // Where the reference segments without rows begin in their text.
 pub fn segments_next(rows: &[usize]) -> usize
     ensures { λ r. ⌜ r ≡ segmentsNext (now (rows .entry)) ⌝ }
 {
-    number_at(rows, 99330)
-}
-
-// Where the clip spans without rows begin in their text.
-pub fn spans_next(rows: &[usize]) -> usize
-    ensures { λ r. ⌜ r ≡ spansNext (now (rows .entry)) ⌝ }
-{
-    number_at(rows, 99331)
+    number_at(rows, 95233)
 }

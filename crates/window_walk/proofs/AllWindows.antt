@@ -2,7 +2,7 @@
 use Prim.Native.Nat.{_*_, _+_, _-_, _<_, _≤_, min, ℕ}
 use borrow.Author.Tests.{lt-ltb, ltb-false, ltb-true}
 use lib.Dec.{ltb}
-use lib.ListN.{length, length-append, length-map, length-take, take}
+use lib.ListN.{getD, length, length-append, length-map, length-take, take}
 use lib.Seq.{length-take-le}
 use mathlib.Core.Bool.{Bool, cond, false, true}
 use mathlib.Core.List.{List, [], _++_, _∷_, append-nil, flatMap, map}
@@ -43,7 +43,7 @@ use Rattle.record_laws.proofs.Coalescing.{at-end, at-end-pending}
 use Rattle.record_laws.proofs.Walking.{past-end, past-nothing, past-start, past-turn, points, recordsPast}
 use Rattle.record_laws.specs.Pending.{finish, mergedContig}
 use Rattle.window_walk.proofs.OnePlace.{ascend, nothing-at-0}
-use Rattle.window_walk.specs.Windows.{Carried, CarriedTo, Carrying, WindowReady, WindowsReady}
+use Rattle.window_walk.specs.Windows.{Carried, CarriedTo, Carrying, WindowReady, WindowsReady, numbersIn}
 use Rattle.window_walk.specs.declared.Along.{Along}
 
 -- ---- a window leaves fewer breakpoints past its end
@@ -100,8 +100,23 @@ module _ (x : Input) (contig : List ℕ) where
       filter-all (ltb 0) (points x contig) (λ a m. lt-ltb 0 a (every-member m above)) ∙ e
       ∙ ap (λ (k : List ℕ). b ∷ k) (sym (ap (filterBy (ltb b)) e ∙ past-first b l ordered))
 
-module _ {s rows : List ℕ} {samples : ℕ} {clipped : Bool} {clip : List ℕ} {referenced : Bool} {reference contig chosen bounds sites : List ℕ}
-    (ready : WindowsReady s rows samples clipped clip referenced reference contig chosen bounds sites) where
+module _ {s rows : List ℕ} {samples : ℕ} {clipped : Bool} {clip : List ℕ} {referenced : Bool} {reference contig chosen bounds : List ℕ}
+    (ready : WindowsReady s rows samples clipped clip referenced reference contig chosen bounds) where
+  abbrev sites : List ℕ
+  sites = numbersIn samples chosen bounds
+
+  some-sample : 0 < samples
+  some-sample = omega (arith, ready .runs .on .loaded .names, ready .runs .on .loaded .sound .cohort .names .some-name)
+
+  -- the numbers of the contig's sites are all there
+  pub numbers-within : getD bounds samples 0 ≤ length chosen
+  numbers-within =
+      let last : samples - 1 + 1 ≡ samples = omega (arith, some-sample) in
+      rw last at (ready .runs .in-runs .bounded .within (samples - 1) (omega (arith, some-sample)))
+
+  pub numbers-exactly : getD bounds samples 0 ≡ length (numbersIn samples chosen bounds)
+  numbers-exactly = sym (length-take-le _ chosen numbers-within)
+
   abbrev x : Input
   x = ready .runs .on .loaded .input
 

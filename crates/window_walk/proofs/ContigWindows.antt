@@ -2,7 +2,7 @@
 use Prim.Native.Nat.{_<_, _≤_, ℕ}
 use borrow.Author.Tests.{eq-eqb, eqb-true}
 use lib.Dec.{eqb}
-use lib.ListN.{getD, length, take}
+use lib.ListN.{length}
 use mathlib.Core.Bool.{Bool, cond, false, true}
 use mathlib.Core.List.{List, List·Memᴰ·append-cases, Memᴰ·append-left, Memᴰ·append-right, Memᴰ·map, [], _++_, flatMap, map}
 use mathlib.Core.Logic.{⊎-elim}
@@ -30,7 +30,7 @@ use Rattle.merged_records.specs.Loaded.{ContigRuns, OnContig}
 use Rattle.record_laws.proofs.Walking.{points}
 use Rattle.tables.proofs.SameContig.{same-contig}
 use Rattle.tables.specs.Tables.{SiteRows, column, siteAt}
-use Rattle.window_walk.specs.Windows.{WindowsReady}
+use Rattle.window_walk.specs.Windows.{WindowsReady, numbersIn}
 
 module _ {s rows : List ℕ} {samples : ℕ} {referenced : Bool} {reference contig chosen bounds : List ℕ}
     (runs : ContigRuns s rows samples referenced reference contig chosen bounds) where
@@ -44,8 +44,8 @@ module _ {s rows : List ℕ} {samples : ℕ} {referenced : Bool} {reference cont
   sites = runs .on .loaded .input .cohort .sites
 
   -- the numbers of the contig's sites
-  abbrev pub numbers : List ℕ
-  numbers = take (getD bounds samples 0) chosen
+  abbrev numbers : List ℕ
+  numbers = numbersIn samples chosen bounds
 
   -- ---- the sites by their numbers
 
@@ -130,11 +130,11 @@ module _ {s rows : List ℕ} {samples : ℕ} {referenced : Bool} {reference cont
 
   -- ---- the clip
 
-  module _ {clipped : Bool} {clip : List ℕ} (given : ClipGiven clipped clip rows x) where
-    clip-there : clipped ≡ isThere (x .clip)
+  module _ {clipped : Bool} {clip : List ℕ} (given : ClipGiven clipped clip x) where
+    pub clip-there : clipped ≡ isThere (x .clip)
     clip-there = sym (only-if-is clipped (given .spans)) ∙ ap isThere (sym (given .clip-is))
 
-    spans-are : spansOf (cond clipped clip []) contig ≡ spansOn contig (x .clip)
+    pub spans-are : spansOf (cond clipped clip []) contig ≡ spansOn contig (x .clip)
     unfolding onlyIf spansOn filterBy
     spans-are = go clipped (given .spans-from) ∙ ap (spansOn contig) (sym (given .clip-is))
       where
@@ -143,7 +143,7 @@ module _ {s rows : List ℕ} {samples : ℕ} {referenced : Bool} {reference cont
         go false f = ap (λ (l : List Span). spansOn contig (some l)) (read-end spanOf [] 0 (omega arith))
 
     -- a clip that is left out is an empty text
-    pub windows-ready : WindowsReady s rows samples clipped (cond clipped clip []) referenced reference contig chosen bounds numbers
+    unfoldable pub windows-ready : WindowsReady s rows samples clipped (cond clipped clip []) referenced reference contig chosen bounds
     windows-ready = record {
       runs = runs;
       clip-there = clip-there;

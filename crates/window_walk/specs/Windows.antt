@@ -1,6 +1,6 @@
 -- What walking over a contig's breakpoints, a window at a time, is lent and leaves.
 use Prim.Native.Nat.{_*_, _+_, _<_, _≤_, ℕ}
-use lib.ListN.{length}
+use lib.ListN.{getD, length, take}
 use mathlib.Core.Bool.{Bool}
 use mathlib.Core.List.{List, _++_, flatMap, map}
 use mathlib.Core.Option.{Option}
@@ -73,12 +73,16 @@ pub record WindowReady (s rows : List ℕ) (samples : ℕ) (clipped referenced :
   pub ended : Ended rows chosen bounds from samples past
   pub room : TurnRoom samples held fresh found owners alts
 
--- what the walk over a contig is lent: its sites in runs and their numbers, and the clip text, which gives the input's spans on the contig
+-- the numbers of a contig's sites, in runs up to the last bound
+abbrev pub numbersIn : ℕ → List ℕ → List ℕ → List ℕ
+numbersIn samples chosen bounds = take (getD bounds samples 0) chosen
+
+-- what the walk over a contig is lent: its sites in runs, and the clip text, which gives the input's spans on the contig
 pub record WindowsReady (s rows : List ℕ) (samples : ℕ) (clipped : Bool) (clip : List ℕ) (referenced : Bool)
-    (reference contig chosen bounds sites : List ℕ) : Type 0 where
+    (reference contig chosen bounds : List ℕ) : Type 0 where
   pub runs : ContigRuns s rows samples referenced reference contig chosen bounds
   pub clip-there : clipped ≡ isThere (runs .on .loaded .input .clip)
   pub spans-are : spansOf clip contig ≡ spansOn contig (runs .on .loaded .input .clip)
   pub short : length clip ≤ maxTextLength
-  pub rows-in-range : Every (RowInRange rows) sites
-  pub all-places : allBreakpoints rows sites (spansOf clip contig) ≡ points (runs .on .loaded .input) contig
+  pub rows-in-range : Every (RowInRange rows) (numbersIn samples chosen bounds)
+  pub all-places : allBreakpoints rows (numbersIn samples chosen bounds) (spansOf clip contig) ≡ points (runs .on .loaded .input) contig

@@ -1,7 +1,5 @@
 // A contig's breakpoints, a window at a time, and the records of the intervals between them, coalesced and laid.
-ghost use lib.Dec.{ltb};
 ghost use lib.ListN.{length};
-ghost use mathlib.Core.Bool.{_&&_, _||_, not};
 ghost use mathlib.Core.List.{List, _∷_};
 ghost use mathlib.Core.Path.{_≡_};
 ghost use Prim.Native.Nat.{_≤_, _/_, ℕ};
@@ -28,19 +26,6 @@ struct Along {
 enum Reached {
     To(Along),
     Refused(usize),
-}
-
-// Whether an interval goes from the last breakpoint to the next, and lies in the clip, where there is one.
-fn has_interval(clipped: bool, past: u64, depth: u64) -> bool
-    ensures { λ r. ⌜ r ≡ ltb 0 past && (not clipped || ltb 0 depth) ⌝ }
-{
-    if past == 0 {
-        return false;
-    }
-    if !clipped {
-        return true;
-    }
-    0 < depth
 }
 
 // Goes on to the next breakpoint: lays the record of the interval before it, if that lies in the clip and sites cover it.
@@ -74,7 +59,7 @@ fn walk_place<'a>(
     let past = along.past;
     let state = along.state;
     let depth = along.depth + place % 4294967296 - 2147483648;
-    if !has_interval(clipped, past, along.depth) {
+    if !breakpoint_windows::has_interval(clipped, past, along.depth) {
         return Reached::To(Along {
             past: position,
             depth,
@@ -180,7 +165,7 @@ fn walk_window<'a>(
     Reached::To(along)
 }
 
-// Lays the records of a contig behind those before it, as far as they fit: rows 11 to 13. `sites` are the numbers of its sites, and an empty
+// Lays the records of a contig behind those before it, as far as they fit: rows 11 to 13. `chosen` has its sites in runs, and an empty
 // clip text is no clip. `scratch` holds a window of the breakpoints at a time, what it holds at the end is open; `held` and `fresh` take the
 // samples' lines of the record that is held back and of the next one, `alts` its ALTs. After a refusal some records that come before it are laid.
 pub fn walk_windows<'a>(
@@ -194,7 +179,6 @@ pub fn walk_windows<'a>(
     contig: &[u8],
     chosen: &[usize],
     bounds: &[usize],
-    sites: &[usize],
     scratch: &mut [u64],
     held: &mut [u8],
     fresh: &mut [u8],
@@ -203,8 +187,8 @@ pub fn walk_windows<'a>(
     at: usize,
     count: usize,
 ) -> Walked
-    requires { ⌜ WindowsReady (now s) (now rows) samples clipped (now clip) referenced (now reference) (now contig) (now chosen) (now bounds) (now sites) × Begun (now out) at count × WalkRoom (now held) (now fresh) (now alts) × (2 ≤ length (now scratch)) ⌝ }
-    ensures { λ r. ⌜ ((ready : WindowsReady (now (s .entry)) (now (rows .entry)) samples clipped (now (clip .entry)) referenced (now (reference .entry)) (now (contig .entry)) (now (chosen .entry)) (now (bounds .entry)) (now (sites .entry)))
+    requires { ⌜ WindowsReady (now s) (now rows) samples clipped (now clip) referenced (now reference) (now contig) (now chosen) (now bounds) × Begun (now out) at count × WalkRoom (now held) (now fresh) (now alts) × (2 ≤ length (now scratch)) ⌝ }
+    ensures { λ r. ⌜ ((ready : WindowsReady (now (s .entry)) (now (rows .entry)) samples clipped (now (clip .entry)) referenced (now (reference .entry)) (now (contig .entry)) (now (chosen .entry)) (now (bounds .entry)))
         (begun : Begun (now (out .entry)) at count)
         → RecordsWalked (mergedContig (ready .runs .on .loaded .input) (now (contig .entry))) (begun .d₀) (begun .bytes) (begun .records) (now (out .exit)) r) ⌝ }
 {
@@ -212,6 +196,7 @@ pub fn walk_windows<'a>(
     let mut owners = [0usize; 64];
     let mut from = [0usize; 64];
     covering_sites::start_search(bounds, samples, &mut from);
+    let end = bounds[samples];
     let state = Stepped {
         pending: Pending::Nothing,
         at,
@@ -226,7 +211,7 @@ pub fn walk_windows<'a>(
     while more {
         let window = breakpoint_windows::next_breakpoints(
             rows,
-            sites,
+            &chosen[..end],
             clip,
             contig,
             along.past,
@@ -263,9 +248,9 @@ pub fn walk_windows<'a>(
             }
         }
     }
-    let end = along.state;
-    let pending = end.pending;
-    let next = coalescing::put_pending(s, rows, reference, contig, held, pending, out, end.at);
-    let total = coalescing::count_pending(end.count, pending);
+    let last = along.state;
+    let pending = last.pending;
+    let next = coalescing::put_pending(s, rows, reference, contig, held, pending, out, last.at);
+    let total = coalescing::count_pending(last.count, pending);
     Walked::To(list_header::cap(next), total)
 }

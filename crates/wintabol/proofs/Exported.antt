@@ -20,8 +20,8 @@ use Rattle.definitions.specs.Answers.{Answer, answerOf, writtenOf}
 use Rattle.definitions.specs.Checked.{Checked, accepted, isAccepted, refused}
 use Rattle.definitions.specs.CombinedList.{Texts}
 use Rattle.laws.proofs.Checked.{accepted-same, not-refused}
+use Rattle.laws.proofs.RefusalNumbers.{ByRow, ill, list-numbered, well}
 use Rattle.likelihoods.specs.Written.{countOf}
-use Rattle.wintabol.proofs.RefusalNumbers.{Numbered, ill, list-numbered, well}
 use Rattle.wintabol.specs.Exported.{Exported, ExportedAlts, ExportedList, UnusedAltAnswer, answer, answerAlts, answerAltsOf, outcomeAlts, outcomeNumbers}
 
 refused-same : {A : Type 0} {m n : ℕ} → _≡_ {A = Checked A} (refused m) (refused n) → m ≡ n
@@ -37,13 +37,13 @@ module _ {A : Type 0} where
   numbers-of (outcome.Refused row) (accepted list) e = not-refused e
   numbers-of (outcome.Refused row) (refused m) e = rw (refused-same e)
 
-  number-accepts : {values : Checked (List A)} {number written : ℕ} → Numbered values → answer number written ≡ answerOf values
+  number-accepts : {values : Checked (List A)} {number written : ℕ} → ByRow values → answer number written ≡ answerOf values
       → eqb number 0 ≡ isAccepted values
   unfolding answerOf isAccepted
   number-accepts (well list) e = ap (λ (a : Answer). eqb (a .number) 0) e
   number-accepts (ill row h) e = ap (λ (a : Answer). eqb (a .number) 0) e ∙ ne-eqb row 0 (λ z. omega arith)
 
-  pub exported : {values : Checked (List A)} {out out′ : List A} {r : Outcome} {number written : ℕ} → Numbered values
+  pub exported : {values : Checked (List A)} {out out′ : List A} {r : Outcome} {number written : ℕ} → ByRow values
       → Answered values out out′ r → outcomeNumbers r ≡ answer number written → Exported values out out′ number written
   exported {values = values} {r = r} n a e =
       let numbers = sym e ∙ numbers-of r values (a .answer) in
@@ -73,13 +73,13 @@ alts-numbers (alts.Written a b d) (refused row) e = not-refused (sym e)
 alts-numbers (alts.Refused row) (accepted s) e = not-refused e
 alts-numbers (alts.Refused row) (refused m) e = rw (refused-same e)
 
-alts-accepts : {subset : Checked UnusedAltSubset} {number a b d : ℕ} → Numbered subset → answerAlts number a b d ≡ answerAltsOf subset
+alts-accepts : {subset : Checked UnusedAltSubset} {number a b d : ℕ} → ByRow subset → answerAlts number a b d ≡ answerAltsOf subset
     → eqb number 0 ≡ isAccepted subset
 unfolding answerAltsOf isAccepted
 alts-accepts (well s) e = ap (λ (a : UnusedAltAnswer). eqb (a .number) 0) e
 alts-accepts (ill row h) e = ap (λ (a : UnusedAltAnswer). eqb (a .number) 0) e ∙ ne-eqb row 0 (λ z. omega arith)
 
-pub exported-alts : {subset : Checked UnusedAltSubset} {before after : Outputs} {r : UnusedAltOutcome} {number a b d : ℕ} → Numbered subset
+pub exported-alts : {subset : Checked UnusedAltSubset} {before after : Outputs} {r : UnusedAltOutcome} {number a b d : ℕ} → ByRow subset
     → UnusedAltsAnswered subset before after r → outcomeAlts r ≡ answerAlts number a b d → ExportedAlts subset before after number a b d
 exported-alts {subset = subset} {r = r} n h e =
     let numbers = sym e ∙ alts-numbers r subset (h .answer) in

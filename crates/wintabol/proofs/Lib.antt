@@ -1,2 +1,1 @@
-pub mod RefusalNumbers
 pub mod Exported

@@ -3,7 +3,7 @@
 use crate::combine::{sort_of, Texts};
 use crate::ours::{Call, Library};
 use crate::list_rows;
-use crate::rows::refusing;
+use crate::rows::{has_site, refusing};
 use oracle::generate;
 use oracle::list::write_combined;
 use oracle::rng::{mix, Rng};
@@ -55,22 +55,27 @@ fn lines_changed(rng: &mut Rng, text: &mut Vec<u8>) {
     *text = lines.join(&b'\n');
 }
 
-/// The answer must be the row of rows 1 to 9 that refuses the texts, if one does, and else a list or 10 to 13.
+/// The answer must be the row of rows 1 to 9 that refuses the texts, if one does, and else a list or 11 to 14, the same with many places and
+/// with one; without places it is 10 if there is a site.
 pub fn hold(library: &mut Library, cohort: &[u8], clip: Option<&[u8]>, reference: Option<&[u8]>) -> Result<usize, String> {
     let row = refusing(cohort, clip, reference);
-    let answer = library.combine_roomy(&Call { cohort, clip, reference, places: 2048, room: 0 });
-    let right = match (row, &answer) {
+    let mut with = |places: usize| library.combine_roomy(&Call { cohort, clip, reference, places, room: 0 });
+    let (answer, one, none) = (with(2048), with(1), with(0));
+    let first = match (row, &answer) {
         (0, Ok(_)) => true,
-        (0, Err(other)) => (10..=14).contains(other),
+        (0, Err(other)) => (11..=14).contains(other),
         (row, Err(other)) => row == *other,
         _ => false,
     };
-    if right {
+    let ten = row == 0 && has_site(cohort);
+    if first && one == answer && none == if ten { Err(10) } else { answer.clone() } {
         return Ok(row);
     }
     Err(format!(
-        "row {row} expected, {:?} answered for\n{}\nclip {:?}\nreference {:?}",
+        "row {row} expected, {:?} answered, with one place {:?}, with none {:?} for\n{}\nclip {:?}\nreference {:?}",
         answer.map(|l| l.len()),
+        one.map(|l| l.len()),
+        none.map(|l| l.len()),
         String::from_utf8_lossy(cohort),
         clip.map(String::from_utf8_lossy),
         reference.map(String::from_utf8_lossy)

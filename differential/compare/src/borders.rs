@@ -76,6 +76,14 @@ fn many_groups(count: u64) -> Lent {
     call
 }
 
+/// A block under so many clip spans that overlap: their bounds are all different, and the records join into one.
+fn stairs(count: u64) -> Lent {
+    let contig = "chromosome_of_thirty_two_bytes_5".to_string();
+    let mut call = lent(2, vec![block(0, 2, 100_000), block(1, 1, 99_999)]);
+    call.clip = Some((0..count).map(|i| ClipSpan { contig: contig.clone(), start: 4 * i + 5, end: 4 * i + 10 }).collect());
+    call
+}
+
 /// So many reference groups that hold no needed position, and behind them two that hold all of them and disagree everywhere.
 fn two_that_disagree(others: u64) -> Lent {
     let mut call = many_groups(others + 4);
@@ -102,6 +110,16 @@ fn accepted() -> Vec<(String, Lent)> {
         ("sixteen merged alleles".to_string(), crowded(14)),
         ("alleles of 255 letters".to_string(), long_alleles(128)),
     ];
+    let word_at = |start: u64, length: u64| (start..start + length).map(|p| b"ACGT"[(p * p / 3 % 4) as usize] as char).collect::<String>();
+    let deletion = |start: u64, length: u64| site(0, start, start + length - 1, &word_at(start, length), &[word_at(start, 1)]);
+    for length in [7, 8, 9, 128] {
+        // 128 deletions one behind the other, each of so many letters: about 1,024 breakpoints, and many more
+        all.push((format!("128 deletions of {length} letters"), lent(1, (0..128).map(|i| deletion(1 + i * length, length)).collect())));
+    }
+    all.push(("256 deletions of 128 letters, backwards".to_string(), lent(1, (0..256).rev().map(|i| deletion(9 + i * 128, 128)).collect())));
+    for count in [255, 256, 511, 512, 513, 3000] {
+        all.push((format!("{count} clip spans over a block, each over the end of the one before it"), stairs(count)));
+    }
     for count in [1023, 1024, 1025, 1026, 5000] {
         all.push((format!("{count} reference groups and clip spans"), many_groups(count)));
     }
@@ -156,7 +174,7 @@ pub fn check() -> Result<String, String> {
     let mut library = Library::new();
     let mut count = trimmed()?;
     for (what, lent) in accepted() {
-        combine::hold(&mut library, &lent, 0).map_err(|e| format!("{what}: {e}"))?;
+        combine::hold(&mut library, &lent, count as u64).map_err(|e| format!("{what}: {e}"))?;
         count += 1;
     }
     for lent in long_texts(MOST_BYTES) {
@@ -165,7 +183,7 @@ pub fn check() -> Result<String, String> {
         if length != Some(MOST_BYTES) {
             return Err(format!("a text of {length:?} bytes"));
         }
-        combine::hold(&mut library, &lent, 0).map_err(|e| format!("a text of {MOST_BYTES} bytes: {e}"))?;
+        combine::hold(&mut library, &lent, count as u64).map_err(|e| format!("a text of {MOST_BYTES} bytes: {e}"))?;
         count += 1;
     }
     for lent in long_texts(MOST_BYTES + 1) {

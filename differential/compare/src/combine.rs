@@ -2,7 +2,8 @@
 
 use crate::ours::{Call, Library};
 use oracle::cohort::Lent;
-use oracle::{domain, generate, record, rng};
+use oracle::rng::{mix, Rng};
+use oracle::{domain, generate, record};
 
 pub struct Texts {
     pub cohort: String,
@@ -37,7 +38,12 @@ pub fn sort_of(i: u64) -> &'static generate::Profile {
     let large = ["broad", "wide", "deep", "largest"];
     let all = &generate::PROFILES;
     let profile = &all[(i % all.len() as u64) as usize];
-    if large.contains(&profile.name) && (i / all.len() as u64) % 40 != 0 {
+    let every = match profile.name {
+        "windows" => 4,
+        name if large.contains(&name) => 40,
+        _ => 1,
+    };
+    if (i / all.len() as u64) % every != 0 {
         return &all[(i / 7 % 5) as usize];
     }
     profile
@@ -52,25 +58,39 @@ pub fn lent_of(i: u64, seed: u64) -> Lent {
     generate::patched(&lent, seed)
 }
 
-/// The library's lists of a call against the Rust's: with just enough of output and scratch and a little more, with too little of one,
-/// and with none. Gives back the records and the bytes of the list.
-pub fn hold(library: &mut Library, lent: &Lent, more: usize) -> Result<(usize, usize), String> {
+/// Numbers of scratch places for a contig with so many breakpoints: one, two, some between, as many as those, one less and one more, many.
+pub fn places_for(most: usize, rng: &mut Rng) -> [usize; 8] {
+    let between = |rng: &mut Rng| 1 + rng.below(most as u64 + 1) as usize;
+    [1, 2, between(rng), between(rng), most.max(2) - 1, most.max(1), most + 1, most + 1000]
+}
+
+/// The library's lists of a call against the Rust's: the same with any places; 14 with an output that is too short; with no place 10 if
+/// there is a site, and else the list. Gives back the records and the bytes of the list.
+pub fn hold(library: &mut Library, lent: &Lent, seed: u64) -> Result<(usize, usize), String> {
+    let mut rng = Rng::new(seed);
     let texts = Texts::of(lent);
     let (list, expected) = record::combined(lent)?;
-    let (n, places) = (expected.len(), breakpoints(lent));
-    if library.combine(&texts.call(places + more, n + more)) != Ok(expected.into_bytes()) {
-        return Err("another list".to_string());
+    let (n, most, expected) = (expected.len(), breakpoints(lent), Ok(expected.into_bytes()));
+    let several = places_for(most, &mut rng);
+    for places in several {
+        let room = n + *rng.pick(&[0, 0, 1, 7]);
+        if library.combine(&texts.call(places, room)) != expected {
+            return Err(format!("another list with {places} places for {most}"));
+        }
     }
     for room in [0, n - 1] {
-        if library.combine(&texts.call(places, room)) != Err(14) {
+        if library.combine(&texts.call(*rng.pick(&several), room)) != Err(14) {
             return Err(format!("not 14 with {room} bytes for {n}"));
         }
     }
-    if places > 0 {
-        for fewer in [0, places - 1] {
-            if library.combine(&texts.call(fewer, n)) != Err(10) {
-                return Err(format!("not 10 with {fewer} places for {places}"));
-            }
+    for room in [0, n] {
+        let none = match lent.cohort.sites.is_empty() {
+            false => Err(10),
+            true if room < n => Err(14),
+            true => expected.clone(),
+        };
+        if library.combine(&texts.call(0, room)) != none {
+            return Err(format!("another answer without places, with {room} bytes for {n}"));
         }
     }
     Ok((list.records.len(), n))
@@ -78,13 +98,16 @@ pub fn hold(library: &mut Library, lent: &Lent, more: usize) -> Result<(usize, u
 
 pub fn compare(seed: u64, count: u64) -> Result<String, String> {
     let mut library = Library::new();
-    let (mut records, mut bytes) = (0, 0);
+    let (mut records, mut bytes, mut windows) = (0, 0, 0);
     for i in 0..count {
-        let lent = lent_of(i, rng::mix(seed ^ rng::mix(i)));
-        let (r, n) = hold(&mut library, &lent, (i % 3) as usize * 7)
+        let lent = lent_of(i, mix(seed ^ mix(i)));
+        windows += u64::from(breakpoints(&lent) > 1024);
+        let (r, n) = hold(&mut library, &lent, mix(seed.wrapping_add(i)))
             .map_err(|what| format!("seed {seed}, cohort {i}, sort {}: {what}", sort_of(i).name))?;
         records += r;
         bytes += n;
     }
-    Ok(format!("{count} cohorts, {records} records, {bytes} bytes of lists: no difference\n"))
+    Ok(format!(
+        "{count} cohorts, {windows} with over 1,024 breakpoints on a contig, {records} records, {bytes} bytes of lists: no difference\n"
+    ))
 }

@@ -1,6 +1,6 @@
 //! Demand 3 on the bytes that the compiled library writes: samples put into a cohort change nothing that its list said.
 
-use crate::combine::{breakpoints, lent_of, Texts};
+use crate::combine::{breakpoints, lent_of, places_for, Texts};
 use crate::ours::Library;
 use oracle::cohort::{Cohort, Lent};
 use oracle::list::{read_combined, List, ListRecord, ListSample};
@@ -84,10 +84,10 @@ fn lost(first: &List, second: &List) -> Option<String> {
     None
 }
 
-/// The list that the library writes, read back; none if it refuses the cohort.
-fn written(library: &mut Library, lent: &Lent) -> Result<Option<List>, String> {
+/// The list that the library writes with so many places, read back; none if it refuses the cohort.
+fn written(library: &mut Library, lent: &Lent, places: usize) -> Result<Option<List>, String> {
     let texts = Texts::of(lent);
-    let Ok(bytes) = library.combine_roomy(&texts.call(breakpoints(lent), 0)) else { return Ok(None) };
+    let Ok(bytes) = library.combine_roomy(&texts.call(places, 0)) else { return Ok(None) };
     let text = String::from_utf8(bytes).map_err(|e| e.to_string())?;
     read_combined(&text, Rules::On).map(Some).map_err(|r| r.to_string())
 }
@@ -107,8 +107,13 @@ pub fn check(seed: u64, count: u64) -> Result<String, String> {
         let first = Lent { cohort: without(&second.cohort, &struck), ..second.clone() };
         let told = |what: String| format!("seed {seed}, pair {i}: {what}");
         // a cohort without some sites may need a reference letter that the other does not need
-        let Some(one) = written(&mut library, &first).map_err(told)? else { continue };
-        let Some(two) = written(&mut library, &second).map_err(told)? else { continue };
+        let mut places = |lent: &Lent| {
+            let several = places_for(breakpoints(lent), &mut rng);
+            *rng.pick(&several)
+        };
+        let (of_first, of_second) = (places(&first), places(&second));
+        let Some(one) = written(&mut library, &first, of_first).map_err(told)? else { continue };
+        let Some(two) = written(&mut library, &second, of_second).map_err(told)? else { continue };
         if let Some(what) = lost(&one, &two) {
             return Err(told(what));
         }

@@ -22,6 +22,12 @@ pub fn refusing(cohort: &[u8], clip: Option<&[u8]>, reference: Option<&[u8]>) ->
     }
 }
 
+/// Whether a cohort that no row refuses has a site.
+pub fn has_site(cohort: &[u8]) -> bool {
+    let all = lines(cohort);
+    sample_names(&all).is_ok_and(|names| all.len() > 1 + names.len())
+}
+
 /// Lines of a text, one after the other.
 pub type Group<'a> = [Option<&'a [u8]>];
 

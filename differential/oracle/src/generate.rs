@@ -29,6 +29,8 @@ pub struct Profile {
     /// So many different values in the whole cohort; 0: all free.
     palette: u64,
     clip: u64,
+    /// At most so many clip spans more, of up to 12 positions.
+    short_spans: u64,
     reference: u64,
     /// Reference groups overlap and disagree where a letter is needed.
     patched: bool,
@@ -51,11 +53,12 @@ const PLAIN: Profile = Profile {
     odd_names: 15,
     palette: 0,
     clip: 30,
+    short_spans: 0,
     reference: 40,
     patched: false,
 };
 
-pub const PROFILES: [Profile; 18] = [
+pub const PROFILES: [Profile; 19] = [
     Profile {
         name: "tiny",
         samples: (1, 2),
@@ -203,6 +206,22 @@ pub const PROFILES: [Profile; 18] = [
         patched: true,
         ..PLAIN
     },
+    Profile {
+        name: "windows",
+        samples: (1, 3),
+        contigs: (1, 2),
+        sites: (30, 90),
+        span: 3500,
+        kinds: [35, 10, 5, 40, 10],
+        longest_ref: 128,
+        most_alts: 2,
+        longest_block: 300,
+        palette: 3,
+        clip: 40,
+        short_spans: 700,
+        reference: 20,
+        ..PLAIN
+    },
 ];
 
 pub fn profile(name: &str) -> Option<&'static Profile> {
@@ -271,7 +290,11 @@ fn draw(p: &Profile, rng: &mut Rng) -> Lent {
         reference: None,
     };
     if rng.chance(p.clip) {
-        lent.clip = Some(clip(rng, &land));
+        let mut spans = clip(rng, &land);
+        if p.short_spans > 0 {
+            add_short_spans(p, rng, &land, &mut spans);
+        }
+        lent.clip = Some(spans);
     }
     if rng.chance(p.reference) {
         lent.reference = Some(reference(rng, &land, &lent));
@@ -603,6 +626,16 @@ fn alt(rng: &mut Rng, ref_allele: &str, sort: u64, longest: u64) -> String {
             let length = rng.range(1, longest);
             word(rng, length)
         }
+    }
+}
+
+/// Many clip spans, in any order, that touch, overlap and leave gaps.
+fn add_short_spans(p: &Profile, rng: &mut Rng, land: &Land, spans: &mut Vec<ClipSpan>) {
+    for _ in 0..rng.below(p.short_spans + 1) {
+        let start = rng.range(land.first, land.last);
+        let end = (start + rng.below(12)).min(MAX_NUMBER);
+        let contig = rng.pick(&land.contigs).clone();
+        spans.push(ClipSpan { contig, start, end });
     }
 }
 

@@ -13,7 +13,7 @@ use crate::{cohort, domain};
 use std::fs;
 use std::path::{Path, PathBuf};
 
-/// How many calls of each sort are recorded. "largest" is too large for the recorded files.
+/// How many calls of each sort are recorded. "largest" and "windows" are too large for the recorded files.
 const COHORT_COUNTS: [(&str, usize); 17] = [
     ("tiny", 30),
     ("plain", 50),

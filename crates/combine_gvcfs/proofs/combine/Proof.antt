@@ -17,7 +17,9 @@ same-length-2 : tie.Need-same-length-2
 same-length-2 c = search needs
 
 returns : tie.Need-returns
-returns c = combined _ ((c .before .before .before .before .before .before .before .before .combine-texts .ensures)) ((c .before .before .before .before .before .before .before .before .combine-texts .kept .1 .1 .1 .1 .1 .0)) ((c .before .before .clear-places .ensures))
+returns c =
+    let at-texts = c .before .before .before .before .before .before .before .before in
+    combined _ (at-texts .combine-texts .ensures) (at-texts .combine-texts .kept .1 .1 .1 .1 .1 .0) (c .before .before .clear-places .ensures)
 
 pub combine-spec : {M : Type 1} → statement M
 combine-spec =

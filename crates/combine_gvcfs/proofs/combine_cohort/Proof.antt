@@ -1,8 +1,8 @@
--- Clip and reference are in order or refused with 9; then their first groups get rows, and the list is that of the input.
+-- Clip and reference are in order or refused with 9; then the first segments get rows, and the list is that of the input.
 use borrow.Author.Needs.{needs}
 use borrow.Author.Tests.{not-false, not-true}
 use mathlib.Core.Path.{_∙_, refl, sym}
-use Rattle.combine_gvcfs.proofs.Loading.{call-loaded, clip-refused, optional-in-order, reference-refused, segments-there, spans-there, still-held, texts-answered, texts-refused}
+use Rattle.combine_gvcfs.proofs.Loading.{call-loaded, clip-refused, optional-in-order, reference-refused, segments-there, still-held, texts-answered, texts-refused}
 use Rattle.definitions.specs.ClipAndReference.{segmentOf, spanOf}
 use Rattle.combine_gvcfs.proofs.combine_cohort.Statement.{statement}
 use Rattle.combine_gvcfs.proofs.combine_cohort.Tie as tie
@@ -11,32 +11,35 @@ clip-in-order-requires : tie.Need-clip-in-order-requires
 clip-in-order-requires c κs = search needs
 
 returns : tie.Need-returns
-returns c = texts-refused (clip-refused (c .before .before .before .before .before .before .before .before .before .before .before .before .pre .0) (sym ((c .before .clip-in-order .ensures)) ∙ not-true _ ((c .if1 .taken)))) refl
+returns c =
+    let at-start = c .before .before .before .before .before .before .before .before .before .before .before .before in
+    texts-refused (clip-refused (at-start .pre .0) (sym (c .before .clip-in-order .ensures) ∙ not-true _ (c .if1 .taken))) refl
 
 reference-in-order-requires : tie.Need-reference-in-order-requires
 reference-in-order-requires c κs = search needs
 
 returns-2 : tie.Need-returns-2
-returns-2 c = let spans = optional-in-order spanOf _ _ (sym ((c .before .before .before .clip-in-order .ensures)) ∙ not-false _ ((c .before .before .if1 .left))) in
-    texts-refused (reference-refused (c .before .before .before .before .before .before .before .before .before .before .before .before .before .before .pre .0) spans (sym ((c .before .reference-in-order .ensures)) ∙ not-true _ ((c .if2 .taken)))) refl
+returns-2 c =
+    let at-clip = c .before .before in
+    let at-start = at-clip .before .before .before .before .before .before .before .before .before .before .before .before in
+    let spans = optional-in-order spanOf _ _ (sym (at-clip .before .clip-in-order .ensures) ∙ not-false _ (at-clip .if1 .left)) in
+    let refused-9 = reference-refused (at-start .pre .0) spans (sym (c .before .reference-in-order .ensures) ∙ not-true _ (c .if2 .taken)) in
+    texts-refused refused-9 refl
 
 index-reference-requires : tie.Need-index-reference-requires
 index-reference-requires c κs = search needs
 
-index-clip-requires : tie.Need-index-clip-requires
-index-clip-requires c κs = search needs
-
 combine-loaded-gvcfs-requires : tie.Need-combine-loaded-gvcfs-requires
 combine-loaded-gvcfs-requires c κs =
-    let at-reference = c .before .before .before .before .before .before .before .before .before .before .before .before .before .before in
-    let spans = optional-in-order spanOf _ _ (sym (at-reference .before .before .before .clip-in-order .ensures) ∙ not-false _ (at-reference .before .before .if1 .left)) in
+    let at-rows = c .before .before .before .before .before .before .before .before in
+    let at-reference = at-rows .before .before in
+    let at-clip = at-reference .before .before in
+    let at-start = at-clip .before .before .before .before .before .before .before .before .before .before .before .before in
+    let spans = optional-in-order spanOf _ _ (sym (at-clip .before .clip-in-order .ensures) ∙ not-false _ (at-clip .if1 .left)) in
     let segments = optional-in-order segmentOf _ _ (sym (at-reference .before .reference-in-order .ensures) ∙ not-false _ (at-reference .if2 .left)) in
-    let first = c .before .before .before .before .before .before .before .before .before .before .before .before .index-reference .ensures in
-    let second = c .before .before .before .before .before .before .before .before .index-clip .ensures in
-    let held = c .before .before .before .before .before .before .before .before .before .before .before .before .before .before .before .before .before .before .before .before .before .before .before .before .before .before .before .before .pre .0 in (
-      call-loaded (still-held held first second) spans segments (segments-there held first second) (spans-there held first second),
-      c .before .before .before .before .before .before .before .before .before .before .before .before .before .before .before .before .before .before .before .before .before .before .before .before .before .before .before .before .pre .1,
-    )
+    let held = at-start .pre .0 in
+    let given = at-rows .index-reference .ensures in
+    (call-loaded (still-held held given) spans segments (segments-there held given), at-start .pre .1)
 
 same-length : tie.Need-same-length
 same-length c = search needs
@@ -58,14 +61,16 @@ same-length-6 c = search needs
 
 returns-3 : tie.Need-returns-3
 returns-3 c =
-    let at-reference = c .before .before .before .before .before .before .before .before .before .before .before .before .before .before .before .before .before .before .before .before .before .before .before .before .before in
-    let spans = optional-in-order spanOf _ _ (sym (at-reference .before .before .before .clip-in-order .ensures) ∙ not-false _ (at-reference .before .before .if1 .left)) in
+    let at-list = c .before .before .before .before .before .before .before .before .before .before in
+    let at-rows = at-list .before .before .before .before .before .before .before .before .before in
+    let at-reference = at-rows .before .before in
+    let at-clip = at-reference .before .before in
+    let at-start = at-clip .before .before .before .before .before .before .before .before .before .before .before .before in
+    let spans = optional-in-order spanOf _ _ (sym (at-clip .before .clip-in-order .ensures) ∙ not-false _ (at-clip .if1 .left)) in
     let segments = optional-in-order segmentOf _ _ (sym (at-reference .before .reference-in-order .ensures) ∙ not-false _ (at-reference .if2 .left)) in
-    let first = c .before .before .before .before .before .before .before .before .before .before .before .before .before .before .before .before .before .before .before .before .before .before .before .index-reference .ensures in
-    let second = c .before .before .before .before .before .before .before .before .before .before .before .before .before .before .before .before .before .before .before .index-clip .ensures in
-    let held = c .before .before .before .before .before .before .before .before .before .before .before .before .before .before .before .before .before .before .before .before .before .before .before .before .before .before .before .before .before .before .before .before .before .before .before .before .before .before .before .pre .0 in
-    texts-answered (still-held held first second) spans segments (segments-there held first second) (spans-there held first second) _
-    (c .before .before .before .before .before .before .before .before .before .before .combine-loaded-gvcfs .ensures)
+    let held = at-start .pre .0 in
+    let given = at-rows .index-reference .ensures in
+    texts-answered (still-held held given) spans segments (segments-there held given) _ (at-list .combine-loaded-gvcfs .ensures)
 
 pub combine-cohort-spec : {M : Type 1} → statement M
 combine-cohort-spec =
@@ -76,7 +81,6 @@ combine-cohort-spec =
     reference-in-order-requires
     returns-2
     index-reference-requires
-    index-clip-requires
     combine-loaded-gvcfs-requires
     same-length
     same-length-2

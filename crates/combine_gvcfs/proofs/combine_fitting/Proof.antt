@@ -35,7 +35,11 @@ same-length-4 c = search needs
 
 returns-2 : tie.Need-returns-2
 unfolding TriedWith
-returns-2 c = let h = rw ((c .before .before .before .before .before .before .before .enum-told .given .1)) at ((c .before .before .before .before .before .before .before .before .before .before .before .before .before .combine-small .ensures)) in tried-again ((c .before .before .before .before .before .before .before .before .before .before .before .before .before .combine-small .kept .1 .1 .1 .1 .1 .0)) (h .0) ((c .before .before .before .before .combine-long .ensures))
+returns-2 c =
+    let at-told = c .before .before .before .before .before .before .before in
+    let at-small = at-told .before .before .before .before .before .before in
+    let no-room = rw (at-told .enum-told .given .1) at (at-small .combine-small .ensures) in
+    tried-again (at-small .combine-small .kept .1 .1 .1 .1 .1 .0) (no-room .0) (c .before .before .before .before .combine-long .ensures)
 
 pub combine-fitting-spec : {M : Type 1} → statement M
 combine-fitting-spec =

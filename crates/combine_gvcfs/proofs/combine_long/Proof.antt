@@ -22,7 +22,9 @@ slice-aggregate-combine-with-5 : tie.Need-slice-aggregate-combine-with-5
 slice-aggregate-combine-with-5 c = search needs
 
 combine-with-requires : tie.Need-combine-with-requires
-combine-with-requires c κs = ((c .before .before .before .before .before .before .before .before .before .before .before .before .pre), long-fit refl refl refl refl refl)
+combine-with-requires c κs =
+    let at-start = c .before .before .before .before .before .before .before .before .before .before .before .before in
+    (at-start .pre, long-fit refl refl refl refl refl)
 
 enum-known-tried : tie.Need-enum-known-tried
 enum-known-tried c = search needs
@@ -38,7 +40,9 @@ same-length-2 c = search needs
 
 returns : tie.Need-returns
 unfolding TriedWith
-returns c = rw ((c .before .tried .given .1)) at ((c .before .before .before .before .before .before .before .before .before .before .before .before .combine-with .ensures))
+returns c =
+    let at-tables = c .before .before .before .before .before .before .before .before .before .before .before .before in
+    rw (c .before .tried .given .1) at (at-tables .combine-with .ensures)
 
 same-length-3 : tie.Need-same-length-3
 same-length-3 c = search needs
@@ -48,7 +52,10 @@ same-length-4 c = search needs
 
 returns-2 : tie.Need-returns-2
 unfolding TriedWith
-returns-2 c = let h = rw ((c .enum-told .given .1)) at ((c .before .before .before .before .before .before .before .before .before .before .before .combine-with .ensures)) in full-table _ refl (h .1)
+returns-2 c =
+    let at-tables = c .before .before .before .before .before .before .before .before .before .before .before in
+    let no-room = rw (c .enum-told .given .1) at (at-tables .combine-with .ensures) in
+    full-table _ refl (no-room .1)
 
 pub combine-long-spec : {M : Type 1} → statement M
 combine-long-spec =

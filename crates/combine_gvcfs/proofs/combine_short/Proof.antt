@@ -22,7 +22,9 @@ slice-aggregate-combine-with-5 : tie.Need-slice-aggregate-combine-with-5
 slice-aggregate-combine-with-5 c = search needs
 
 combine-with-requires : tie.Need-combine-with-requires
-combine-with-requires c κs = ((c .before .before .before .before .before .before .before .before .before .before .before .before .pre), short-fit 256 (omega arith) refl refl refl refl refl)
+combine-with-requires c κs =
+    let at-start = c .before .before .before .before .before .before .before .before .before .before .before .before in
+    (at-start .pre, short-fit 256 (omega arith) refl refl refl refl refl)
 
 same-length : tie.Need-same-length
 same-length c = search needs

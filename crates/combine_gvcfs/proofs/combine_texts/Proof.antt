@@ -10,22 +10,39 @@ is-short-requires : tie.Need-is-short-requires
 is-short-requires c κs = search needs
 
 returns : tie.Need-returns
-returns c = texts-refused (cohort-long ((c .before .before .before .before .before .before .before .args .cohort .now)) ((c .before .before .before .before .before .before .before .args .clipped)) ((c .before .before .before .before .before .before .before .args .clip .now)) ((c .before .before .before .before .before .before .before .args .referenced)) ((c .before .before .before .before .before .before .before .args .reference .now)) (sym ((c .before .is-short .ensures)) ∙ not-true _ ((c .if1 .taken)))) refl
+returns c =
+    let a = c .before .before .before .before .before .before .before .args in
+    let long = sym (c .before .is-short .ensures) ∙ not-true _ (c .if1 .taken) in
+    texts-refused (cohort-long (a .cohort .now) (a .clipped) (a .clip .now) (a .referenced) (a .reference .now) long) refl
 
 is-short-requires-2 : tie.Need-is-short-requires-2
 is-short-requires-2 c κs = search needs
 
 returns-2 : tie.Need-returns-2
-returns-2 c = texts-refused (clip-long ((c .before .before .before .before .before .before .before .before .before .args .cohort .now)) ((c .before .before .before .before .before .before .before .before .before .args .clipped)) ((c .before .before .before .before .before .before .before .before .before .args .clip .now)) ((c .before .before .before .before .before .before .before .before .before .args .referenced)) ((c .before .before .before .before .before .before .before .before .before .args .reference .now)) (sym ((c .before .is-short2 .ensures)) ∙ not-true _ ((c .if2 .taken)))) refl
+returns-2 c =
+    let a = c .before .before .before .before .before .before .before .before .before .args in
+    let long = sym (c .before .is-short2 .ensures) ∙ not-true _ (c .if2 .taken) in
+    texts-refused (clip-long (a .cohort .now) (a .clipped) (a .clip .now) (a .referenced) (a .reference .now) long) refl
 
 is-short-requires-3 : tie.Need-is-short-requires-3
 is-short-requires-3 c κs = search needs
 
 returns-3 : tie.Need-returns-3
-returns-3 c = texts-refused (reference-long ((c .before .before .before .before .before .before .before .before .before .before .before .args .cohort .now)) ((c .before .before .before .before .before .before .before .before .before .before .before .args .clipped)) ((c .before .before .before .before .before .before .before .before .before .before .before .args .clip .now)) ((c .before .before .before .before .before .before .before .before .before .before .before .args .referenced)) ((c .before .before .before .before .before .before .before .before .before .before .before .args .reference .now)) (sym ((c .before .is-short3 .ensures)) ∙ not-true _ ((c .if3 .taken)))) refl
+returns-3 c =
+    let a = c .before .before .before .before .before .before .before .before .before .before .before .args in
+    let long = sym (c .before .is-short3 .ensures) ∙ not-true _ (c .if3 .taken) in
+    texts-refused (reference-long (a .cohort .now) (a .clipped) (a .clip .now) (a .referenced) (a .reference .now) long) refl
 
 combine-fitting-requires : tie.Need-combine-fitting-requires
-combine-fitting-requires c κs = none-long ((c .before .before .before .before .before .before .before .before .before .before .before .before .before .args .cohort .now)) ((c .before .before .before .before .before .before .before .before .before .before .before .before .before .args .clipped)) ((c .before .before .before .before .before .before .before .before .before .before .before .before .before .args .clip .now)) ((c .before .before .before .before .before .before .before .before .before .before .before .before .before .args .referenced)) ((c .before .before .before .before .before .before .before .before .before .before .before .before .before .args .reference .now)) (sym ((c .before .before .before .before .before .before .before .is-short .ensures)) ∙ not-false _ ((c .before .before .before .before .before .before .if1 .left))) (sym ((c .before .before .before .before .before .is-short2 .ensures)) ∙ not-false _ ((c .before .before .before .before .if2 .left))) (sym ((c .before .before .before .is-short3 .ensures)) ∙ not-false _ ((c .before .before .if3 .left)))
+combine-fitting-requires c κs =
+    let at-reference = c .before .before in
+    let at-clip = at-reference .before .before in
+    let at-cohort = at-clip .before .before in
+    let a = at-cohort .before .before .before .before .before .before .before .args in
+    none-long (a .cohort .now) (a .clipped) (a .clip .now) (a .referenced) (a .reference .now)
+    (sym (at-cohort .before .is-short .ensures) ∙ not-false _ (at-cohort .if1 .left))
+    (sym (at-clip .before .is-short2 .ensures) ∙ not-false _ (at-clip .if2 .left))
+    (sym (at-reference .before .is-short3 .ensures) ∙ not-false _ (at-reference .if3 .left))
 
 same-length : tie.Need-same-length
 same-length c = search needs

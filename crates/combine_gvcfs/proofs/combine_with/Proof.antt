@@ -22,8 +22,16 @@ enum-known-read-2 c = search needs
 
 combine-cohort-requires : tie.Need-combine-cohort-requires
 unfolding CohortAt
-combine-cohort-requires c κs = let to = rw ((c .before .before .before .before .before .before .before .before .read2 .given .1)) at ((c .before .before .before .before .before .before .before .before .before .before .before .before .before .before .read-cohort .ensures .1)) in
-    (cohort-held _ _ _ _ _ (c .before .before .before .before .before .before .before .before .before .before .before .before .before .before .before .before .before .before .before .before .before .before .before .before .before .before .before .pre .0) (omega (arith, (c .before .before .before .before .before .before .before .before .before .before .before .before .before .before .before .before .before .before .before .before .before .before .before .before .before .before .before .pre .1 .for-names), (c .before .before .before .before .before .before .before .before .before .before .before .before .before .before .read-cohort .kept .1 .0))) (still-whole (c .before .before .before .before .before .before .before .before .before .before .before .before .before .before .before .before .before .before .before .before .before .before .before .before .before .before .before .args .rows .now) (c .before .before .before .before .before .before .before .before .before .before .before .before .before .before .read-cohort .last .1 .1 .0) ((c .before .before .before .before .before .before .before .before .before .before .before .before .before .before .read-cohort .kept .1 .1 .0)) ((c .before .before .before .before .before .before .before .before .before .before .before .before .before .before .before .before .before .before .before .before .before .before .before .before .before .before .before .pre .1 .whole))) to, ((c .before .before .before .before .before .before .before .before .before .before .before .before .before .before .before .before .before .before .before .before .before .before .before .before .before .before .before .pre .1 .for-sites) _ (to .few-sites) (to .room .for-rows)))
+combine-cohort-requires c κs =
+    let at-told = c .before .before .before .before .before .before .before .before in
+    let at-read = at-told .before .before .before .before .before .before in
+    let at-start = at-read .before .before .before .before .before .before .before .before .before .before .before .before .before in
+    let tables = at-start .pre .1 in
+    let to = rw (at-told .read2 .given .1) at (at-read .read-cohort .ensures .1) in
+    let whole = still-whole (at-start .args .rows .now) (at-read .read-cohort .last .1 .1 .0) (at-read .read-cohort .kept .1 .1 .0) (tables .whole) in
+    let names-kept = at-read .read-cohort .kept .1 .0 in
+    let held = cohort-held _ _ _ _ _ (at-start .pre .0) (omega (arith, tables .for-names, names-kept)) whole to in
+    (held, tables .for-sites _ (to .few-sites) (to .room .for-rows))
 
 same-length : tie.Need-same-length
 same-length c = search needs
@@ -33,7 +41,10 @@ same-length-2 c = search needs
 
 returns : tie.Need-returns
 unfolding CohortAt TriedWith
-returns c = (refl, rows-short ((c .before .before .before .before .before .before .before .before .before .before .before .before .before .before .before .before .before .before .before .pre .1 .for-names)) (rw ((c .enum-told .given .1)) at ((c .before .before .before .before .before .before .read-cohort .ensures .1))))
+returns c =
+    let at-read = c .before .before .before .before .before .before in
+    let at-start = at-read .before .before .before .before .before .before .before .before .before .before .before .before .before in
+    (refl, rows-short (at-start .pre .1 .for-names) (rw (c .enum-told .given .1) at (at-read .read-cohort .ensures .1)))
 
 same-length-3 : tie.Need-same-length-3
 same-length-3 c = search needs
@@ -43,7 +54,11 @@ same-length-4 c = search needs
 
 returns-2 : tie.Need-returns-2
 unfolding CohortAt TriedWith
-returns-2 c = texts-refused (cohort-refused _ _ _ _ _ (c .before .before .before .before .before .before .before .before .before .before .before .before .before .before .before .before .before .before .before .before .pre .0) ((rw ((c .before .read .given .1)) at ((c .before .before .before .before .before .before .before .read-cohort .ensures .1))) .value)) refl
+returns-2 c =
+    let at-read = c .before .before .before .before .before .before .before in
+    let at-start = at-read .before .before .before .before .before .before .before .before .before .before .before .before .before in
+    let to = rw (c .before .read .given .1) at (at-read .read-cohort .ensures .1) in
+    texts-refused (cohort-refused _ _ _ _ _ (at-start .pre .0) (to .value)) refl
 
 same-length-5 : tie.Need-same-length-5
 same-length-5 c = search needs

@@ -18,7 +18,9 @@ same-length c = search needs
 returns-2 : tie.Need-returns-2
 returns-2 c = record {
   there = λ _. c .before .before .index-segments .ensures;
-  left-out = λ e. clash (not-false (c .before .before .before .before .before .before .before .args .referenced) (c .before .before .before .before .if1 .left)) e;
+  left-out = λ e.
+      let at-test = c .before .before .before .before in
+      clash (not-false (at-test .before .before .before .args .referenced) (at-test .if1 .left)) e;
 }
 
 pub index-reference-spec : {M : Type 1} → statement M

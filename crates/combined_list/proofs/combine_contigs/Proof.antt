@@ -22,7 +22,16 @@ slice-aggregate-walk-contigs-4 : tie.Need-slice-aggregate-walk-contigs-4
 slice-aggregate-walk-contigs-4 c = search needs
 
 walk-contigs-requires : tie.Need-walk-contigs-requires
-walk-contigs-requires c κs = (measuring (c .before .before .before .before .before .before .before .before .before .before .before .before .before .before .before .before .before .pre .0), record { for-held = omega arith; for-fresh = omega arith; for-alts = omega arith }, (c .before .before .before .before .before .before .before .before .before .before .before .before .before .before .before .before .before .pre .1))
+walk-contigs-requires c κs =
+    let start = c .before .before .before .before .before .before .before .before .before .before .before .before .before .before .before .before .before in
+    let pre = start .pre in (
+      measuring (pre .0),
+      record {
+        for-chosen = pre .1;
+        for-window = pre .2;
+        for-walk = record { for-held = omega arith; for-fresh = omega arith; for-alts = omega arith };
+      },
+    )
 
 enum-known-measured : tie.Need-enum-known-measured
 enum-known-measured c = search needs
@@ -40,7 +49,23 @@ slice-aggregate-write-measured-3 : tie.Need-slice-aggregate-write-measured-3
 slice-aggregate-write-measured-3 c = search needs
 
 write-measured-requires : tie.Need-write-measured-requires
-write-measured-requires c κs = (measurement (c .before .before .before .before .before .before .before .before .before .before .before .before .before .before .before .before .before .before .before .before .before .before .before .before .before .before .before .before .before .before .before .before .before .before .before .before .pre .0) _ (c .before .before .before .before .before .before .before .before .before .before .before .before .before .before .before .before .before .before .walk-contigs .kept .1 .1 .1 .1 .1 .1 .1 .1 .1 .1 .1 .0) (c .before .before .before .before .before .before .before .before .before .before .before .before .before .before .before .before .before .before .walk-contigs .ensures) (c .before .before .before .before .before .before .before .measured2 .given .1), record { for-held = omega (arith, (c .before .before .before .before .before .before .before .before .before .before .before .before .before .before .before .before .before .before .walk-contigs .kept .1 .1 .1 .1 .1 .1 .1 .1 .1 .1 .1 .1 .0)); for-fresh = omega (arith, (c .before .before .before .before .before .before .before .before .before .before .before .before .before .before .before .before .before .before .walk-contigs .kept .1 .1 .1 .1 .1 .1 .1 .1 .1 .1 .1 .1 .1 .0)); for-alts = omega (arith, (c .before .before .before .before .before .before .before .before .before .before .before .before .before .before .before .before .before .before .walk-contigs .kept .1 .1 .1 .1 .1 .1 .1 .1 .1 .1 .1 .1 .1 .1 .0)) }, omega (arith, (c .before .before .before .before .before .before .before .before .before .before .before .before .before .before .before .before .before .before .before .before .before .before .before .before .before .before .before .before .before .before .before .before .before .before .before .before .pre .1), (c .before .before .before .before .before .before .before .before .before .before .before .before .before .before .before .before .before .before .walk-contigs .kept .1 .1 .1 .1 .1 .1 .1 .1 .1 .1 .0)))
+write-measured-requires c κs =
+    let at-measured2 = c .before .before .before .before .before .before .before in
+    let at-walk-contigs = at-measured2 .before .before .before .before .before .before .before .before .before .before .before in
+    let start = at-walk-contigs .before .before .before .before .before .before .before .before .before .before .before .before .before .before .before .before .before .before in
+    let pre = start .pre in
+    let kept = at-walk-contigs .walk-contigs .kept in (
+      measurement (pre .0) _ (at-walk-contigs .walk-contigs .ensures) (at-measured2 .measured2 .given .1),
+      record {
+        for-chosen = omega (arith, pre .1, kept .1 .1 .1 .1 .1 .1 .1 .1 .1 .1 .0);
+        for-window = omega (arith, pre .2, kept .1 .1 .1 .1 .1 .1 .1 .1 .1 .1 .1 .0);
+        for-walk = record {
+          for-held = omega (arith, kept .1 .1 .1 .1 .1 .1 .1 .1 .1 .1 .1 .1 .0);
+          for-fresh = omega (arith, kept .1 .1 .1 .1 .1 .1 .1 .1 .1 .1 .1 .1 .1 .0);
+          for-alts = omega (arith, kept .1 .1 .1 .1 .1 .1 .1 .1 .1 .1 .1 .1 .1 .1 .0);
+        };
+      },
+    )
 
 same-length : tie.Need-same-length
 same-length c = search needs
@@ -52,7 +77,12 @@ same-length-3 : tie.Need-same-length-3
 same-length-3 c = search needs
 
 returns : tie.Need-returns
-returns c = λ ready. answered-refused (list-refused ready _ (c .before .before .before .before .before .before .before .before .before .before .before .before .walk-contigs .kept .1 .1 .1 .1 .1 .1 .1 .1 .1 .1 .1 .0) (c .before .before .before .before .before .before .before .before .before .before .before .before .walk-contigs .ensures) _ (c .before .measured .given .1)) (nothing-left (c .before .before .before .before .before .before .before .before .before .before .before .before .walk-contigs .last .1 .1 .1 .1 .1 .1 .1 .1 .1 .1 .1 .1 .1 .1 .1 .0) _ (c .before .before .before .before .before .before .before .before .before .before .before .before .walk-contigs .kept .1 .1 .1 .1 .1 .1 .1 .1 .1 .1 .1 .1 .1 .1 .1 .0))
+returns c =
+    let at-walk-contigs = c .before .before .before .before .before .before .before .before .before .before .before .before in
+    λ ready.
+    let walked = at-walk-contigs .walk-contigs in
+    answered-refused (list-refused ready _ (walked .ensures) _ (c .before .measured .given .1))
+    (nothing-left (walked .last .1 .1 .1 .1 .1 .1 .1 .1 .1 .1 .1 .1 .1 .1 .1 .0) _ (walked .kept .1 .1 .1 .1 .1 .1 .1 .1 .1 .1 .1 .1 .1 .1 .1 .0))
 
 same-length-4 : tie.Need-same-length-4
 same-length-4 c = search needs
@@ -64,7 +94,15 @@ same-length-6 : tie.Need-same-length-6
 same-length-6 c = search needs
 
 returns-2 : tie.Need-returns-2
-returns-2 c = λ ready. list-answered ready _ (c .before .before .before .before .before .before .before .before .before .before .before .before .before .before .before .before .before .before .before .before .before .before .before .before .before .before .before .before .walk-contigs .kept .1 .1 .1 .1 .1 .1 .1 .1 .1 .1 .1 .0) (c .before .before .before .before .before .before .before .before .before .before .before .before .before .before .before .before .before .before .before .before .before .before .before .before .before .before .before .before .walk-contigs .ensures) _ _ _ _ (c .before .before .before .before .before .before .before .before .before .before .before .before .before .before .before .before .before .measured2 .given .1) (nothing-left (c .before .before .before .before .before .before .before .before .before .before .before .before .before .before .before .before .before .before .before .before .before .before .before .before .before .before .before .before .walk-contigs .last .1 .1 .1 .1 .1 .1 .1 .1 .1 .1 .1 .1 .1 .1 .1 .0) _ (c .before .before .before .before .before .before .before .before .before .before .before .before .before .before .before .before .before .before .before .before .before .before .before .before .before .before .before .before .walk-contigs .kept .1 .1 .1 .1 .1 .1 .1 .1 .1 .1 .1 .1 .1 .1 .1 .0)) (c .before .before .before .before .before .before .before .before .before .write-measured .ensures)
+returns-2 c =
+    let at-write-measured = c .before .before .before .before .before .before .before .before .before in
+    let at-measured2 = at-write-measured .before .before .before .before .before .before .before .before in
+    let at-walk-contigs = at-measured2 .before .before .before .before .before .before .before .before .before .before .before in
+    λ ready.
+    let walked = at-walk-contigs .walk-contigs in
+    list-answered ready _ (walked .ensures) _ _ _ _ (at-measured2 .measured2 .given .1)
+    (nothing-left (walked .last .1 .1 .1 .1 .1 .1 .1 .1 .1 .1 .1 .1 .1 .1 .1 .0) _ (walked .kept .1 .1 .1 .1 .1 .1 .1 .1 .1 .1 .1 .1 .1 .1 .1 .0))
+    (at-write-measured .write-measured .ensures)
 
 pub combine-contigs-spec : {M : Type 1} → statement M
 combine-contigs-spec =

@@ -1,34 +1,25 @@
--- The sites by sample, the contigs in byte order of name, then the list.
+-- Row 10; then the list, in the places that are lent or in the call's own.
 use borrow.Author.Needs.{needs}
 use native.Mathlib.Omega.{arith}
-use Rattle.combined_list.proofs.ListReady.{firsts-within, list-ready, loaded-answered, rows-for}
-use Rattle.combined_list.proofs.OneContig.{taken-exactly}
+use mathlib.Core.Path.{_∙_, sym}
+use Rattle.combined_list.proofs.ListReady.{placed-answered, placeless-refused}
 use Rattle.combined_list.proofs.combine_loaded_gvcfs.Statement.{statement}
 use Rattle.combined_list.proofs.combine_loaded_gvcfs.Tie as tie
 
-slice-aggregate-group-by-sample : tie.Need-slice-aggregate-group-by-sample
-slice-aggregate-group-by-sample c = search needs
-
-group-by-sample-requires : tie.Need-group-by-sample-requires
-group-by-sample-requires c κs = ((c .before .before .before .before .before .before .before .before .before .before .before .before .pre .1 .for-order), omega (arith, (c .before .before .before .before .before .before .before .before .before .before .before .before .pre .0 .loaded .few)))
-
-order-contigs-requires : tie.Need-order-contigs-requires
-order-contigs-requires c κs = (omega (arith, c .before .before .before .before .before .before .before .before .before .before .before .before .before .before .before .before .before .pre .1 .for-firsts), rows-for (c .before .before .before .before .before .before .before .before .before .before .before .before .before .before .before .before .before .pre .0))
-
-slice-reshare-prefix-combine-contigs : tie.Need-slice-reshare-prefix-combine-contigs
-slice-reshare-prefix-combine-contigs c = omega (arith, firsts-within ((c .before .before .before .before .before .before .before .before .before .before .before .before .before .before .before .before .before .before .before .before .pre .0)) ((c .before .before .before .before .before .before .before .before .before .before .before .before .before .before .before .before .before .before .before .before .pre .1 .for-firsts)) (c .before .before .order-contigs .ensures (rows-for (c .before .before .before .before .before .before .before .before .before .before .before .before .before .before .before .before .before .before .before .before .pre .0))))
-
-slice-aggregate-combine-contigs : tie.Need-slice-aggregate-combine-contigs
-slice-aggregate-combine-contigs c = taken-exactly _ _ (omega (arith, firsts-within ((c .before .before .before .before .before .before .before .before .before .before .before .before .before .before .before .before .before .before .before .before .before .pre .0)) ((c .before .before .before .before .before .before .before .before .before .before .before .before .before .before .before .before .before .before .before .before .before .pre .1 .for-firsts)) (c .before .before .before .order-contigs .ensures (rows-for (c .before .before .before .before .before .before .before .before .before .before .before .before .before .before .before .before .before .before .before .before .before .pre .0)))))
-
-slice-aggregate-combine-contigs-2 : tie.Need-slice-aggregate-combine-contigs-2
-slice-aggregate-combine-contigs-2 c = search needs
-
-combine-contigs-requires : tie.Need-combine-contigs-requires
-combine-contigs-requires c κs = (list-ready ((c .before .before .before .before .before .before .before .before .before .before .before .before .before .before .before .before .before .before .before .before .before .before .before .before .before .before .pre .0)) ((c .before .before .before .before .before .before .before .before .before .before .before .before .before .before .before .before .before .before .before .before .before .before .before .before .before .before .pre .1 .for-firsts)) (c .before .before .before .before .before .before .before .before .order-contigs .ensures (rows-for (c .before .before .before .before .before .before .before .before .before .before .before .before .before .before .before .before .before .before .before .before .before .before .before .before .before .before .pre .0))) ((c .before .before .before .before .before .before .before .before .before .before .before .before .before .group-by-sample .ensures .0)), omega (arith, (c .before .before .before .before .before .before .before .before .before .before .before .before .before .before .before .before .before .before .before .before .before .before .before .before .before .before .pre .1 .for-chosen), (c .before .before .before .before .before .before .before .before .before .before .before .before .before .group-by-sample .kept .1 .1 .1 .0)))
+lacks-place-requires : tie.Need-lacks-place-requires
+lacks-place-requires c κs = search needs
 
 same-length : tie.Need-same-length
 same-length c = search needs
+
+returns : tie.Need-returns
+returns c = λ call. placeless-refused call _ (sym (c .before .lacks-place .ensures) ∙ c .if1 .taken) _
+
+combine-in-windows-requires : tie.Need-combine-in-windows-requires
+combine-in-windows-requires c κs =
+    let start = c .before .before .before .before .before .before .before .before .before .before .before .before .before .before .before .before .before .before .before in
+    let pre = start .pre in
+    (pre .0, pre .1, omega arith)
 
 same-length-2 : tie.Need-same-length-2
 same-length-2 c = search needs
@@ -42,23 +33,66 @@ same-length-4 c = search needs
 same-length-5 : tie.Need-same-length-5
 same-length-5 c = search needs
 
-returns : tie.Need-returns
-returns c = λ call. loaded-answered call ((c .before .before .before .before .before .before .before .before .before .before .before .before .before .before .before .before .before .before .before .before .before .before .before .before .before .before .before .before .before .before .before .before .before .pre .1 .for-firsts)) (c .before .before .before .before .before .before .before .before .before .before .before .before .before .before .before .order-contigs .ensures (rows-for call)) ((c .before .before .before .before .before .before .before .before .before .before .before .before .before .before .before .before .before .before .before .before .group-by-sample .ensures .0)) _ ((c .before .before .before .before .before .before .combine-contigs .ensures))
+same-length-6 : tie.Need-same-length-6
+same-length-6 c = search needs
+
+returns-2 : tie.Need-returns-2
+returns-2 c =
+    let at-combine-in-windows = c .before .before .before .before .before .before .before .before .before .before in
+    let at-if1 = at-combine-in-windows .before .before .before .before .before .before .before in
+    let at-lacks-place = at-if1 .before in
+    λ call. placed-answered call _ (sym (at-lacks-place .lacks-place .ensures) ∙ at-if1 .if1 .left) (at-combine-in-windows .combine-in-windows .ensures call)
+
+slice-aggregate-combine-in-windows : tie.Need-slice-aggregate-combine-in-windows
+slice-aggregate-combine-in-windows c = search needs
+
+combine-in-windows-requires-2 : tie.Need-combine-in-windows-requires-2
+combine-in-windows-requires-2 c κs =
+    let start = c .before .before .before .before .before .before .before .before .before .before .before .before .before .before .before .before .before .before .before in
+    let pre = start .pre in
+    (pre .0, pre .1, omega arith)
+
+same-length-7 : tie.Need-same-length-7
+same-length-7 c = search needs
+
+same-length-8 : tie.Need-same-length-8
+same-length-8 c = search needs
+
+same-length-9 : tie.Need-same-length-9
+same-length-9 c = search needs
+
+same-length-10 : tie.Need-same-length-10
+same-length-10 c = search needs
+
+same-length-11 : tie.Need-same-length-11
+same-length-11 c = search needs
+
+returns-3 : tie.Need-returns-3
+returns-3 c =
+    let at-combine-in-windows2 = c .before .before .before .before .before .before .before .before .before in
+    let at-if1 = at-combine-in-windows2 .before .before .before .before .before .before .before in
+    let at-lacks-place = at-if1 .before in
+    λ call. placed-answered call _ (sym (at-lacks-place .lacks-place .ensures) ∙ at-if1 .if1 .left) (at-combine-in-windows2 .combine-in-windows2 .ensures call)
 
 pub combine-loaded-gvcfs-spec : {M : Type 1} → statement M
 combine-loaded-gvcfs-spec =
     tie.close
     (tie.spec
-    slice-aggregate-group-by-sample
-    group-by-sample-requires
-    order-contigs-requires
-    slice-reshare-prefix-combine-contigs
-    slice-aggregate-combine-contigs
-    slice-aggregate-combine-contigs-2
-    combine-contigs-requires
+    lacks-place-requires
     same-length
+    returns
+    combine-in-windows-requires
     same-length-2
     same-length-3
     same-length-4
     same-length-5
-    returns)
+    same-length-6
+    returns-2
+    slice-aggregate-combine-in-windows
+    combine-in-windows-requires-2
+    same-length-7
+    same-length-8
+    same-length-9
+    same-length-10
+    same-length-11
+    returns-3)

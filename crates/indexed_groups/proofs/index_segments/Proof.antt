@@ -17,16 +17,17 @@ slice-write-rows : tie.Need-slice-write-rows
 slice-write-rows c = search needs
 
 slice-write-rows-2 : tie.Need-slice-write-rows-2
-slice-write-rows-2 c = simp length-set (omega (arith, (c .before .before .before .before .if1 .left), (c .before .before .store-segments .kept .1 .0)))
+slice-write-rows-2 c =
+    simp length-set (omega (arith, c .before .before .before .before .if1 .left, c .before .before .store-segments .kept .1 .0))
 
 same-length : tie.Need-same-length
-same-length c = simp length-set ((c .before .before .store-segments .kept .1 .0))
+same-length c = simp length-set (c .before .before .store-segments .kept .1 .0)
 
 returns-2 : tie.Need-returns-2
 returns-2 c =
-    let room : 99332 ≤ length (c .before .before .store-segments .last .1 .0) =
-    omega (arith, c .before .before .before .before .if1 .left, c .before .before .store-segments .kept .1 .0) in
-    segments-given room _ (c .before .before .store-segments .ensures .0) (c .before .before .store-segments .ensures .1)
+    let stored = c .before .before in
+    let room : 95234 ≤ length (stored .store-segments .last .1 .0) = omega (arith, stored .before .before .if1 .left, stored .store-segments .kept .1 .0) in
+    segments-given room (stored .store-segments .ensures .0) (stored .store-segments .ensures .1)
 
 pub index-segments-spec : {M : Type 1} → statement M
 index-segments-spec =

@@ -1,12 +1,11 @@
--- The loop's invariant: the groups are those of the rows so far, and behind them those from here on.
+-- The loop's invariant: the segments are those of the rows so far, and behind them those from here on.
 use Prim.Native.Nat.{_-_, _≤_}
 use borrow.Author.Needs.{needs}
 use lib.ListN.{length}
-use mathlib.Core.Path.{_∙_}
 use native.Mathlib.Omega.{arith}
 use Rattle.clip_and_reference.proofs.Places.{placed-faulty}
 use Rattle.clip_and_reference.specs.Groups.{SegmentRead}
-use Rattle.indexed_groups.proofs.Storing.{counted-all, counted-most, none-stored, rows-for-segments, segment-stored}
+use Rattle.indexed_groups.proofs.Storing.{counted-all, counted-most, none-stored, segment-stored}
 use Rattle.indexed_groups.specs.Indexed.{SegmentsStored}
 use Rattle.indexed_groups.proofs.store_segments.Statement.{statement}
 use Rattle.indexed_groups.proofs.store_segments.Tie as tie
@@ -18,7 +17,7 @@ abbrev μ-loop : tie.MeasureT-loop
 μ-loop reference rows₀ at₀ count₀ rows at count = 1024 - count
 
 loop-holds : tie.Need-loop-holds Inv-loop μ-loop
-loop-holds c = none-stored _ _ _ _ _
+loop-holds c = none-stored _ _
 
 segment-at-requires : tie.Need-segment-at-requires Inv-loop μ-loop
 segment-at-requires c κs = search needs
@@ -37,7 +36,7 @@ unfolding SegmentRead
 returns c =
     let inv = c .before .before .before .before .loop .inv in
     let ended = placed-faulty _ _ (rw (c .enum-told .given .1) at (c .before .before .segment-at .ensures)) in
-    (inv, counted-all _ (inv .indexed) ended ∙ rows-for-segments _)
+    (inv, counted-all _ (inv .in-rows) ended)
 
 get-requires : tie.Need-get-requires Inv-loop μ-loop
 get-requires c κs = search needs
@@ -53,30 +52,37 @@ slice-aggregate-store-row c = search needs
 
 store-row-requires : tie.Need-store-row-requires Inv-loop μ-loop
 store-row-requires c κs =
-    omega (arith, c .before .before .before .before .before .before .before .before .before .before .before .pre, c .before .before .before .before .before .before .before .before .loop .inv .only .long, c .before .before .before .before .before .before .before .loop-test .taken)
+    let at-test = c .before .before .before .before .before .before .before in
+    let at-loop = at-test .before in
+    omega (arith, at-loop .before .before .before .pre, at-loop .loop .inv .only .long, at-test .loop-test .taken)
 
 add-count : tie.Need-add-count Inv-loop μ-loop
-add-count c = omega (arith, c .before .before .before .before .before .before .before .before .before .before .loop-test .taken)
+add-count c =
+    let at-test = c .before .before .before .before .before .before .before .before .before .before in
+    omega (arith, at-test .loop-test .taken)
 
 loop-less : tie.Need-loop-less Inv-loop μ-loop
-loop-less c = omega (arith, c .before .before .before .before .before .before .before .before .before .before .loop-test .taken)
+loop-less c =
+    let at-test = c .before .before .before .before .before .before .before .before .before .before in
+    omega (arith, at-test .loop-test .taken)
 
 loop-again : tie.Need-loop-again Inv-loop μ-loop
 unfolding SegmentRead
 loop-again c =
-    let at-loop = c .before .before .before .before .before .before .before .before .before .before .before in
+    let at-test = c .before .before .before .before .before .before .before .before .before .before in
+    let at-loop = at-test .before in
     let at-group = c .before .before .before .before .before .before .before in
     let inv = at-loop .loop .inv in
     let g = rw (at-group .group .given .1) at (at-group .before .before .segment-at .ensures) in
     let group = rw (← c .before .before .before .before .before .get .ensures) at (g .0) in
-    let room : 99332 ≤ length (at-loop .loop .rows) = omega (arith, at-loop .before .before .before .pre, inv .only .long) in
-    rw (c .before .before .store-row .ensures) (segment-stored _ _ _ _ _ _ _ _ (c .before .before .before .before .before .before .before .before .before .before .loop-test .taken) room inv group (g .2))
+    let room : 95234 ≤ length (at-loop .loop .rows) = omega (arith, at-loop .before .before .before .pre, inv .only .long) in
+    rw (c .before .before .store-row .ensures) (segment-stored _ _ _ _ _ _ _ _ (at-test .loop-test .taken) room inv group (g .2))
 
 same-length-2 : tie.Need-same-length-2 Inv-loop μ-loop
 same-length-2 c = c .before .loop .inv .only .long
 
 returns-2 : tie.Need-returns-2 Inv-loop μ-loop
-returns-2 c = let inv = c .before .loop .inv in (inv, counted-most _ (inv .indexed) (c .loop-test .left) ∙ rows-for-segments _)
+returns-2 c = let inv = c .before .loop .inv in (inv, counted-most _ (inv .in-rows) (c .loop-test .left))
 
 pub store-segments-spec : {M : Type 1} → statement M
 store-segments-spec =

@@ -10,7 +10,7 @@ use Rattle.bio_ids.proofs.GenomeLoc.new.Reads as new-reads
 use Rattle.bio_ids.proofs.GenomePosition.new_1based.Reads as new-1based-reads
 use Rattle.contig_walk.proofs.walk_interval.Reads as walk-interval-reads
 use Rattle.covering_sites.proofs.skip_ended.Reads as skip-ended-reads
-use Rattle.window_walk.proofs.has_interval.Reads as has-interval-reads
+use Rattle.breakpoint_windows.proofs.has_interval.Reads as has-interval-reads
 
 add-depth : tie.Need-add-depth
 add-depth c =

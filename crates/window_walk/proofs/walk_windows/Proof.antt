@@ -2,10 +2,10 @@
 use Prim.Native.Nat.{_+_, _≤_, ℕ}
 use borrow.Author.Needs.{needs}
 use lib.Dec.{ltb}
-use lib.ListN.{length}
+use lib.ListN.{getD, length}
 use mathlib.Core.Bool.{Bool, cond, false}
 use mathlib.Core.List.{List, []}
-use mathlib.Core.Path.{_∙_, _≡_, refl}
+use mathlib.Core.Path.{_∙_, _≡_, ap, refl}
 use native.Mathlib.Omega.{arith}
 use Rattle.breakpoint_windows.specs.Breakpoints.{allBreakpoints, spansOf}
 use Rattle.contig_walk.specs.Laying.{TurnRoom}
@@ -13,13 +13,13 @@ use Rattle.contig_walk.specs.Walk.{Begun, RecordsWalked, WalkRoom}
 use Rattle.covering_sites.proofs.Ended.{ended-start}
 use Rattle.covering_sites.specs.Ended.{Ended}
 use Rattle.definitions.specs.Lists.{filterBy}
-use Rattle.window_walk.proofs.AllWindows.{carried-end, carried-start, end-fits, ends, fewer, in-order, none-left, stored-exactly, stored-within, window-ready}
-use Rattle.window_walk.specs.Windows.{Carried, WalkedTo, WindowsReady}
+use Rattle.window_walk.proofs.AllWindows.{carried-end, carried-start, end-fits, ends, fewer, in-order, none-left, numbers-exactly, numbers-within, stored-exactly, stored-within, window-ready}
+use Rattle.window_walk.specs.Windows.{Carried, WalkedTo, WindowsReady, numbersIn}
 use Rattle.window_walk.specs.declared.Along.{Along}
 use Rattle.window_walk.proofs.walk_windows.Statement.{statement}
 use Rattle.window_walk.proofs.walk_windows.Tie as tie
 
-record Inv (s rows : List ℕ) (samples : ℕ) (clipped : Bool) (clip : List ℕ) (referenced : Bool) (reference contig chosen bounds sites scratch₀ held₀ fresh₀ alts₀ out₀ : List ℕ)
+record Inv (s rows : List ℕ) (samples : ℕ) (clipped : Bool) (clip : List ℕ) (referenced : Bool) (reference contig chosen bounds scratch₀ held₀ fresh₀ alts₀ out₀ : List ℕ)
     (at count : ℕ) (scratch held fresh alts out found owners from : List ℕ) (along : Along) (more : Bool) : Type 0 where
   scratch-long : length scratch ≡ length scratch₀
   held-long : length held ≡ length held₀
@@ -30,13 +30,13 @@ record Inv (s rows : List ℕ) (samples : ℕ) (clipped : Bool) (clip : List ℕ
   owners-long : length owners ≡ 64
   from-long : length from ≡ 64
   ended : Ended rows chosen bounds from samples (along .past)
-  none-past : more ≡ false → filterBy (ltb (along .past)) (allBreakpoints rows sites (spansOf clip contig)) ≡ []
-  way : (ready : WindowsReady s rows samples clipped clip referenced reference contig chosen bounds sites) (begun : Begun out₀ at count)
+  none-past : more ≡ false → filterBy (ltb (along .past)) (allBreakpoints rows (numbersIn samples chosen bounds) (spansOf clip contig)) ≡ []
+  way : (ready : WindowsReady s rows samples clipped clip referenced reference contig chosen bounds) (begun : Begun out₀ at count)
       → Carried (ready .runs .on .loaded .input) s rows samples reference contig (begun .d₀) (begun .bytes) (begun .records) held out along
 
-module _ {s rows : List ℕ} {samples : ℕ} {clipped : Bool} {clip : List ℕ} {referenced : Bool} {reference contig chosen bounds sites scratch₀ held₀ fresh₀ alts₀ out₀ : List ℕ}
+module _ {s rows : List ℕ} {samples : ℕ} {clipped : Bool} {clip : List ℕ} {referenced : Bool} {reference contig chosen bounds scratch₀ held₀ fresh₀ alts₀ out₀ : List ℕ}
     {at count : ℕ} {scratch held fresh alts out found owners from : List ℕ} {along : Along} {more : Bool}
-    (inv : Inv s rows samples clipped clip referenced reference contig chosen bounds sites scratch₀ held₀ fresh₀ alts₀ out₀ at count scratch held fresh alts out found owners from along more) where
+    (inv : Inv s rows samples clipped clip referenced reference contig chosen bounds scratch₀ held₀ fresh₀ alts₀ out₀ at count scratch held fresh alts out found owners from along more) where
   room-here : samples ≤ 64 → WalkRoom held₀ fresh₀ alts₀ → TurnRoom samples held fresh found owners alts
   room-here few r = record {
     for-held = omega (arith, inv .held-long, r .for-held);
@@ -49,24 +49,34 @@ module _ {s rows : List ℕ} {samples : ℕ} {clipped : Bool} {clip : List ℕ} 
   }
 
 abbrev Inv-loop : tie.InvT-loop
-Inv-loop s rows samples clipped clip referenced reference contig chosen bounds sites scratch₀ held₀ fresh₀ alts₀ out₀ at count found₀ owners₀ from₀ along₀ more₀ scratch held fresh alts out found owners from along more =
-    Inv s rows samples clipped clip referenced reference contig chosen bounds sites scratch₀ held₀ fresh₀ alts₀ out₀ at count scratch held fresh alts out found owners from along more
+Inv-loop s rows samples clipped clip referenced reference contig chosen bounds scratch₀ held₀ fresh₀ alts₀ out₀ at count found₀ owners₀ from₀ end along₀ more₀ scratch held fresh alts out found owners from along more =
+    Inv s rows samples clipped clip referenced reference contig chosen bounds scratch₀ held₀ fresh₀ alts₀ out₀ at count scratch held fresh alts out found owners from along more
 
 abbrev μ-loop : tie.MeasureT-loop
-μ-loop s rows samples clipped clip referenced reference contig chosen bounds sites scratch₀ held₀ fresh₀ alts₀ out₀ at count found₀ owners₀ from₀ along₀ more₀ scratch held fresh alts out found owners from along more =
-    length (filterBy (ltb (along .past)) (allBreakpoints rows sites (spansOf clip contig))) + cond more 1 0
+μ-loop s rows samples clipped clip referenced reference contig chosen bounds scratch₀ held₀ fresh₀ alts₀ out₀ at count found₀ owners₀ from₀ end along₀ more₀ scratch held fresh alts out found owners from along more =
+    length (filterBy (ltb (along .past)) (allBreakpoints rows (numbersIn samples chosen bounds) (spansOf clip contig))) + cond more 1 0
 
 slice-aggregate-start-search : tie.Need-slice-aggregate-start-search Inv-loop μ-loop
 slice-aggregate-start-search c = search needs
 
 start-search-requires : tie.Need-start-search-requires Inv-loop μ-loop
 start-search-requires c κs =
-    let ready = c .before .before .before .before .before .before .before .before .before .before .before .before .before .before .pre .0 in
+    let start = c .before .before .before .before .before .before .before .before .before .before .before .before .before in
+    let ready = start .pre .0 in
     (ready .runs .in-runs .bounded .long, omega (arith, ready .runs .on .loaded .few))
+
+mul-end : tie.Need-mul-end Inv-loop μ-loop
+mul-end c = search needs
+
+shared-slice-read-end : tie.Need-shared-slice-read-end Inv-loop μ-loop
+shared-slice-read-end c =
+    let start = c .before .before .before .before .before .before .before .before .before .before .before .before .before .before .before .before in
+    start .pre .0 .runs .in-runs .bounded .long
 
 loop-holds : tie.Need-loop-holds Inv-loop μ-loop
 loop-holds c =
-    let ready = c .before .before .before .before .before .before .before .before .before .before .before .before .before .before .before .before .pre .0 in
+    let start = c .before .before .before .before .before .before .before .before .before .before .before .before .before .before .before .before in
+    let ready = start .pre .0 in
     record {
       scratch-long = refl;
       held-long = refl;
@@ -75,26 +85,36 @@ loop-holds c =
       out-long = refl;
       found-long = refl;
       owners-long = refl;
-      from-long = c .before .start-search .kept .1 .1 .0;
-      ended = ended-start (ready .runs .in-runs .bounded) (omega (arith, ready .runs .on .loaded .few)) (c .before .start-search .ensures);
+      from-long = c .before .before .start-search .kept .1 .1 .0;
+      ended = ended-start (ready .runs .in-runs .bounded) (omega (arith, ready .runs .on .loaded .few)) (c .before .before .start-search .ensures);
       none-past = λ never. let z : _≡_ {A = ℕ} 0 1 = cc in absurd (omega arith);
       way = λ ready begun. carried-start ready begun;
     }
 
+slice-aggregate-next-breakpoints : tie.Need-slice-aggregate-next-breakpoints Inv-loop μ-loop
+slice-aggregate-next-breakpoints c =
+    let start = c .before .before .before .before .before .before .before .before .before .before .before .before .before .before .before .before .before .before .before in
+    numbers-exactly (start .pre .0)
+
 next-breakpoints-requires : tie.Need-next-breakpoints-requires Inv-loop μ-loop
 next-breakpoints-requires c κs =
-    let at-loop = c .before .before in
+    let at-loop = c .before .before .before in
     let start = at-loop .before .before .before .before .before .before .before .before .before .before .before .before .before .before .before .before .before in
-    (omega (arith, at-loop .loop .inv .scratch-long, start .pre .3), (start .pre .0 .rows-in-range, start .pre .0 .short))
+    let ready = start .pre .0 in
+    (omega (arith, at-loop .loop .inv .scratch-long, start .pre .3), (ready .rows-in-range, ready .short))
 
 slice-aggregate-walk-window : tie.Need-slice-aggregate-walk-window Inv-loop μ-loop
 slice-aggregate-walk-window c = search needs
 
 slice-reshare-prefix-walk-window : tie.Need-slice-reshare-prefix-walk-window Inv-loop μ-loop
-slice-reshare-prefix-walk-window c = stored-within (c .before .before .before .next-breakpoints .ensures)
+slice-reshare-prefix-walk-window c =
+    let at-next-breakpoints = c .before .before .before in
+    stored-within (at-next-breakpoints .next-breakpoints .ensures)
 
 slice-aggregate-walk-window-2 : tie.Need-slice-aggregate-walk-window-2 Inv-loop μ-loop
-slice-aggregate-walk-window-2 c = stored-exactly (c .before .before .before .before .next-breakpoints .ensures)
+slice-aggregate-walk-window-2 c =
+    let at-next-breakpoints = c .before .before .before .before in
+    stored-exactly (at-next-breakpoints .next-breakpoints .ensures)
 
 slice-aggregate-walk-window-3 : tie.Need-slice-aggregate-walk-window-3 Inv-loop μ-loop
 slice-aggregate-walk-window-3 c = search needs
@@ -105,14 +125,14 @@ slice-aggregate-walk-window-4 c = search needs
 walk-window-requires : tie.Need-walk-window-requires Inv-loop μ-loop
 unfolding window-ready
 walk-window-requires c κs =
-    let at-found = c .before .before .before .before .before .before .before .before .before .before in
-    let at-loop = at-found .before .before .before in
+    let at-next-breakpoints = c .before .before .before .before .before .before .before .before .before .before in
+    let at-loop = at-next-breakpoints .before .before .before .before in
     let start = at-loop .before .before .before .before .before .before .before .before .before .before .before .before .before .before .before .before .before in
     let inv = at-loop .loop .inv in
     let ready = start .pre .0 in
     let begun = start .pre .1 in
     let room = room-here inv (ready .runs .on .loaded .few) (start .pre .2) in (
-      window-ready ready (at-found .next-breakpoints .ensures) (inv .ended) room,
+      window-ready ready (at-next-breakpoints .next-breakpoints .ensures) (inv .ended) room,
       record { d₀ = begun .d₀; bytes = begun .bytes; records = begun .records; carried = inv .way ready begun },
     )
 
@@ -121,39 +141,45 @@ enum-known-turn c = search needs
 
 same-length : tie.Need-same-length Inv-loop μ-loop
 same-length c =
-    let at-walk = c .before .before .before .before .before .before .before .before .before .before .before .before .before .before in
-    at-walk .before .before .before .before .before .before .before .before .before .before .before .next-breakpoints .ensures .long ∙ at-walk .before .before .before .before .before .before .before .before .before .before .before .before .before .before .loop .inv .scratch-long
+    let at-next-breakpoints = c .before .before .before .before .before .before .before .before .before .before .before .before .before .before .before .before .before .before .before .before .before .before .before .before .before in
+    let at-loop = at-next-breakpoints .before .before .before .before in
+    at-next-breakpoints .next-breakpoints .ensures .long ∙ at-loop .loop .inv .scratch-long
 
 same-length-2 : tie.Need-same-length-2 Inv-loop μ-loop
 same-length-2 c =
-    let at-walk = c .before .before .before .before .before .before .before .before .before .before .before .before .before .before in
-    at-walk .walk-window .kept .1 .1 .1 .1 .1 .1 .1 .1 .1 .1 .1 .1 .0 ∙ at-walk .before .before .before .before .before .before .before .before .before .before .before .before .before .before .loop .inv .held-long
+    let at-walk-window = c .before .before .before .before .before .before .before .before .before .before .before .before .before .before in
+    let at-loop = at-walk-window .before .before .before .before .before .before .before .before .before .before .before .before .before .before .before in
+    at-walk-window .walk-window .kept .1 .1 .1 .1 .1 .1 .1 .1 .1 .1 .1 .1 .0 ∙ at-loop .loop .inv .held-long
 
 same-length-3 : tie.Need-same-length-3 Inv-loop μ-loop
 same-length-3 c =
-    let at-walk = c .before .before .before .before .before .before .before .before .before .before .before .before .before .before in
-    at-walk .walk-window .kept .1 .1 .1 .1 .1 .1 .1 .1 .1 .1 .1 .1 .1 .0 ∙ at-walk .before .before .before .before .before .before .before .before .before .before .before .before .before .before .loop .inv .fresh-long
+    let at-walk-window = c .before .before .before .before .before .before .before .before .before .before .before .before .before .before in
+    let at-loop = at-walk-window .before .before .before .before .before .before .before .before .before .before .before .before .before .before .before in
+    at-walk-window .walk-window .kept .1 .1 .1 .1 .1 .1 .1 .1 .1 .1 .1 .1 .1 .0 ∙ at-loop .loop .inv .fresh-long
 
 same-length-4 : tie.Need-same-length-4 Inv-loop μ-loop
 same-length-4 c =
-    let at-walk = c .before .before .before .before .before .before .before .before .before .before .before .before .before .before in
-    at-walk .walk-window .kept .1 .1 .1 .1 .1 .1 .1 .1 .1 .1 .1 .1 .1 .1 .1 .1 .0 ∙ at-walk .before .before .before .before .before .before .before .before .before .before .before .before .before .before .loop .inv .alts-long
+    let at-walk-window = c .before .before .before .before .before .before .before .before .before .before .before .before .before .before in
+    let at-loop = at-walk-window .before .before .before .before .before .before .before .before .before .before .before .before .before .before .before in
+    at-walk-window .walk-window .kept .1 .1 .1 .1 .1 .1 .1 .1 .1 .1 .1 .1 .1 .1 .1 .1 .0 ∙ at-loop .loop .inv .alts-long
 
 same-length-5 : tie.Need-same-length-5 Inv-loop μ-loop
 same-length-5 c =
-    let at-walk = c .before .before .before .before .before .before .before .before .before .before .before .before .before .before in
-    at-walk .walk-window .kept .1 .1 .1 .1 .1 .1 .1 .1 .1 .1 .1 .1 .1 .1 .1 .1 .1 .0 ∙ at-walk .before .before .before .before .before .before .before .before .before .before .before .before .before .before .loop .inv .out-long
+    let at-walk-window = c .before .before .before .before .before .before .before .before .before .before .before .before .before .before in
+    let at-loop = at-walk-window .before .before .before .before .before .before .before .before .before .before .before .before .before .before .before in
+    at-walk-window .walk-window .kept .1 .1 .1 .1 .1 .1 .1 .1 .1 .1 .1 .1 .1 .1 .1 .1 .1 .0 ∙ at-loop .loop .inv .out-long
 
 returns : tie.Need-returns Inv-loop μ-loop
 unfolding window-ready WalkedTo RecordsWalked
-returns c = λ ready begun.
-    let at-walk = c .before .before .before .before .before .before .before .before .before .before .before .before .before .before in
-    let at-found = at-walk .before .before .before .before .before .before .before .before .before .before .before in
-    let found = at-found .next-breakpoints .ensures in
-    let at-loop = at-found .before .before .before in
-    let inv = at-loop .loop .inv in
+returns c =
+    let at-walk-window = c .before .before .before .before .before .before .before .before .before .before .before .before .before .before in
+    let at-next-breakpoints = at-walk-window .before .before .before .before .before .before .before .before .before .before .before in
+    let at-loop = at-next-breakpoints .before .before .before .before in
     let start = at-loop .before .before .before .before .before .before .before .before .before .before .before .before .before .before .before .before .before in
-    rw (c .before .turn .given .1) at (at-walk .walk-window .ensures
+    λ ready begun.
+    let found = at-next-breakpoints .next-breakpoints .ensures in
+    let inv = at-loop .loop .inv in
+    rw (c .before .turn .given .1) at (at-walk-window .walk-window .ensures
     (window-ready ready found (inv .ended) (room-here inv (ready .runs .on .loaded .few) (start .pre .2)))
     (record { d₀ = begun .d₀; bytes = begun .bytes; records = begun .records; carried = inv .way ready begun }))
 
@@ -163,45 +189,46 @@ enum-known-turn-2 c = search needs
 loop-less : tie.Need-loop-less Inv-loop μ-loop
 unfolding window-ready WalkedTo
 loop-less c =
-    let at-walk = c .before .before .before .before .before .before .before .before .before .before .before .before .before .before in
-    let at-found = at-walk .before .before .before .before .before .before .before .before .before .before .before in
-    let found = at-found .next-breakpoints .ensures in
-    let at-loop = at-found .before .before .before in
-    let inv = at-loop .loop .inv in
+    let at-walk-window = c .before .before .before .before .before .before .before .before .before .before .before .before .before .before in
+    let at-next-breakpoints = at-walk-window .before .before .before .before .before .before .before .before .before .before .before in
+    let at-loop-test = at-next-breakpoints .before .before .before in
+    let at-loop = at-loop-test .before in
     let start = at-loop .before .before .before .before .before .before .before .before .before .before .before .before .before .before .before .before .before in
+    let found = at-next-breakpoints .next-breakpoints .ensures in
+    let inv = at-loop .loop .inv in
     let ready = start .pre .0 in
     let begun = start .pre .1 in
-    let walked = rw (c .before .turn2 .given .1) at (at-walk .walk-window .ensures
+    let walked = rw (c .before .turn2 .given .1) at (at-walk-window .walk-window .ensures
     (window-ready ready found (inv .ended) (room-here inv (ready .runs .on .loaded .few) (start .pre .2)))
     (record { d₀ = begun .d₀; bytes = begun .bytes; records = begun .records; carried = inv .way ready begun })) in
-    fewer found (in-order ready) (ends ready found (walked .there)) (at-found .before .before .loop-test .taken)
+    fewer found (in-order ready) (ends ready found (walked .there)) (at-loop-test .loop-test .taken)
 
 loop-again : tie.Need-loop-again Inv-loop μ-loop
 unfolding window-ready WalkedTo
 loop-again c =
-    let at-walk = c .before .before .before .before .before .before .before .before .before .before .before .before .before .before in
-    let at-found = at-walk .before .before .before .before .before .before .before .before .before .before .before in
-    let found = at-found .next-breakpoints .ensures in
-    let at-loop = at-found .before .before .before in
-    let inv = at-loop .loop .inv in
+    let at-walk-window = c .before .before .before .before .before .before .before .before .before .before .before .before .before .before in
+    let at-next-breakpoints = at-walk-window .before .before .before .before .before .before .before .before .before .before .before in
+    let at-loop = at-next-breakpoints .before .before .before .before in
     let start = at-loop .before .before .before .before .before .before .before .before .before .before .before .before .before .before .before .before .before in
+    let found = at-next-breakpoints .next-breakpoints .ensures in
+    let inv = at-loop .loop .inv in
     let ready = start .pre .0 in
     let begun = start .pre .1 in
-    let walked = rw (c .before .turn2 .given .1) at (at-walk .walk-window .ensures
+    let walked = rw (c .before .turn2 .given .1) at (at-walk-window .walk-window .ensures
     (window-ready ready found (inv .ended) (room-here inv (ready .runs .on .loaded .few) (start .pre .2)))
     (record { d₀ = begun .d₀; bytes = begun .bytes; records = begun .records; carried = inv .way ready begun })) in
     record {
       scratch-long = found .long ∙ inv .scratch-long;
-      held-long = at-walk .walk-window .kept .1 .1 .1 .1 .1 .1 .1 .1 .1 .1 .1 .1 .0 ∙ inv .held-long;
-      fresh-long = at-walk .walk-window .kept .1 .1 .1 .1 .1 .1 .1 .1 .1 .1 .1 .1 .1 .0 ∙ inv .fresh-long;
-      alts-long = at-walk .walk-window .kept .1 .1 .1 .1 .1 .1 .1 .1 .1 .1 .1 .1 .1 .1 .1 .1 .0 ∙ inv .alts-long;
-      out-long = at-walk .walk-window .kept .1 .1 .1 .1 .1 .1 .1 .1 .1 .1 .1 .1 .1 .1 .1 .1 .1 .0 ∙ inv .out-long;
-      found-long = at-walk .walk-window .kept .1 .1 .1 .1 .1 .1 .1 .1 .1 .1 .1 .1 .1 .1 .0 ∙ inv .found-long;
-      owners-long = at-walk .walk-window .kept .1 .1 .1 .1 .1 .1 .1 .1 .1 .1 .1 .1 .1 .1 .1 .0 ∙ inv .owners-long;
-      from-long = at-walk .walk-window .kept .1 .1 .1 .1 .1 .1 .1 .1 .0 ∙ inv .from-long;
+      held-long = at-walk-window .walk-window .kept .1 .1 .1 .1 .1 .1 .1 .1 .1 .1 .1 .1 .0 ∙ inv .held-long;
+      fresh-long = at-walk-window .walk-window .kept .1 .1 .1 .1 .1 .1 .1 .1 .1 .1 .1 .1 .1 .0 ∙ inv .fresh-long;
+      alts-long = at-walk-window .walk-window .kept .1 .1 .1 .1 .1 .1 .1 .1 .1 .1 .1 .1 .1 .1 .1 .1 .0 ∙ inv .alts-long;
+      out-long = at-walk-window .walk-window .kept .1 .1 .1 .1 .1 .1 .1 .1 .1 .1 .1 .1 .1 .1 .1 .1 .1 .0 ∙ inv .out-long;
+      found-long = at-walk-window .walk-window .kept .1 .1 .1 .1 .1 .1 .1 .1 .1 .1 .1 .1 .1 .1 .0 ∙ inv .found-long;
+      owners-long = at-walk-window .walk-window .kept .1 .1 .1 .1 .1 .1 .1 .1 .1 .1 .1 .1 .1 .1 .1 .0 ∙ inv .owners-long;
+      from-long = at-walk-window .walk-window .kept .1 .1 .1 .1 .1 .1 .1 .1 .0 ∙ inv .from-long;
       ended = walked .ended;
       none-past = none-left found (in-order ready) (ends ready found (walked .there));
-      way = λ ready begun. (rw (c .before .turn2 .given .1) at (at-walk .walk-window .ensures
+      way = λ ready begun. (rw (c .before .turn2 .given .1) at (at-walk-window .walk-window .ensures
           (window-ready ready found (inv .ended) (room-here inv (ready .runs .on .loaded .few) (start .pre .2)))
           (record { d₀ = begun .d₀; bytes = begun .bytes; records = begun .records; carried = inv .way ready begun }))) .carried;
     }
@@ -219,25 +246,40 @@ cap-requires : tie.Need-cap-requires Inv-loop μ-loop
 cap-requires c κs = search needs
 
 same-length-6 : tie.Need-same-length-6 Inv-loop μ-loop
-same-length-6 c = c .before .before .before .before .before .before .before .before .before .loop .inv .scratch-long
+same-length-6 c =
+    let at-loop = c .before .before .before .before .before .before .before .before .before in
+    at-loop .loop .inv .scratch-long
 
 same-length-7 : tie.Need-same-length-7 Inv-loop μ-loop
-same-length-7 c = c .before .before .before .before .before .before .before .before .before .loop .inv .held-long
+same-length-7 c =
+    let at-loop = c .before .before .before .before .before .before .before .before .before in
+    at-loop .loop .inv .held-long
 
 same-length-8 : tie.Need-same-length-8 Inv-loop μ-loop
-same-length-8 c = c .before .before .before .before .before .before .before .before .before .loop .inv .fresh-long
+same-length-8 c =
+    let at-loop = c .before .before .before .before .before .before .before .before .before in
+    at-loop .loop .inv .fresh-long
 
 same-length-9 : tie.Need-same-length-9 Inv-loop μ-loop
-same-length-9 c = c .before .before .before .before .before .before .before .before .before .loop .inv .alts-long
+same-length-9 c =
+    let at-loop = c .before .before .before .before .before .before .before .before .before in
+    at-loop .loop .inv .alts-long
 
 same-length-10 : tie.Need-same-length-10 Inv-loop μ-loop
-same-length-10 c = c .before .before .before .before .put-pending .kept .1 .1 .1 .1 .1 .1 .0 ∙ c .before .before .before .before .before .before .before .before .before .loop .inv .out-long
+same-length-10 c =
+    let at-put-pending = c .before .before .before .before in
+    let at-loop = at-put-pending .before .before .before .before .before in
+    at-put-pending .put-pending .kept .1 .1 .1 .1 .1 .1 .0 ∙ at-loop .loop .inv .out-long
 
 returns-2 : tie.Need-returns-2 Inv-loop μ-loop
-returns-2 c = λ ready begun.
-    let inv = c .before .before .before .before .before .before .before .before .before .loop .inv in
+returns-2 c =
+    let at-put-pending = c .before .before .before .before in
+    let at-loop-test = at-put-pending .before .before .before .before in
+    let at-loop = at-loop-test .before in
+    λ ready begun.
+    let inv = at-loop .loop .inv in
     rw (c .cap .ensures, c .before .count-pending .ensures)
-    (carried-end ready (inv .way ready begun) (inv .none-past (c .before .before .before .before .before .before .before .before .loop-test .left)) _ _ (c .before .before .before .before .put-pending .ensures))
+    (carried-end ready (inv .way ready begun) (inv .none-past (at-loop-test .loop-test .left)) _ _ (at-put-pending .put-pending .ensures))
 
 pub walk-windows-spec : {M : Type 1} → statement M
 walk-windows-spec =
@@ -247,7 +289,10 @@ walk-windows-spec =
     μ-loop
     slice-aggregate-start-search
     start-search-requires
+    mul-end
+    shared-slice-read-end
     loop-holds
+    slice-aggregate-next-breakpoints
     next-breakpoints-requires
     slice-aggregate-walk-window
     slice-reshare-prefix-walk-window

@@ -1,7 +1,7 @@
 -- The outcome of the entry as two numbers.
 use borrow.Author.Needs.{needs}
 use Rattle.wintabol.proofs.Exported.{exported}
-use Rattle.wintabol.proofs.RefusalNumbers.{called-numbered}
+use Rattle.laws.proofs.RefusalNumbers.{called-numbered}
 use Rattle.wintabol.proofs.wintabol_call.Statement.{statement}
 use Rattle.wintabol.proofs.wintabol_call.Tie as tie
 

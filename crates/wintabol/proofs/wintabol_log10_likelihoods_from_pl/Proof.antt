@@ -1,7 +1,7 @@
 -- The outcome of the entry as two numbers.
 use borrow.Author.Needs.{needs}
 use Rattle.wintabol.proofs.Exported.{exported, written-count}
-use Rattle.wintabol.proofs.RefusalNumbers.{within-numbered}
+use Rattle.laws.proofs.RefusalNumbers.{within-numbered}
 use Rattle.wintabol.proofs.wintabol_log10_likelihoods_from_pl.Statement.{statement}
 use Rattle.wintabol.proofs.wintabol_log10_likelihoods_from_pl.Tie as tie
 

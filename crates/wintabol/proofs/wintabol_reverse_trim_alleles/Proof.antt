@@ -1,7 +1,7 @@
 -- The outcome of the entry as two numbers.
 use borrow.Author.Needs.{needs}
 use Rattle.wintabol.proofs.Exported.{exported}
-use Rattle.wintabol.proofs.RefusalNumbers.{trimmed-numbered}
+use Rattle.laws.proofs.RefusalNumbers.{trimmed-numbered}
 use Rattle.wintabol.proofs.wintabol_reverse_trim_alleles.Statement.{statement}
 use Rattle.wintabol.proofs.wintabol_reverse_trim_alleles.Tie as tie
 

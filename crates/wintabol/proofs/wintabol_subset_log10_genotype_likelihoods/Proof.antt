@@ -1,7 +1,7 @@
 -- The outcome of the entry as two numbers.
 use borrow.Author.Needs.{needs}
 use Rattle.wintabol.proofs.Exported.{exported, written-count}
-use Rattle.wintabol.proofs.RefusalNumbers.{subset-numbered}
+use Rattle.laws.proofs.RefusalNumbers.{subset-numbered}
 use Rattle.wintabol.proofs.wintabol_subset_log10_genotype_likelihoods.Statement.{statement}
 use Rattle.wintabol.proofs.wintabol_subset_log10_genotype_likelihoods.Tie as tie
 

@@ -1,7 +1,7 @@
 -- The outcome of the entry as four numbers.
 use borrow.Author.Needs.{needs}
 use Rattle.wintabol.proofs.Exported.{exported-alts, likelihood-count}
-use Rattle.wintabol.proofs.RefusalNumbers.{unused-numbered}
+use Rattle.laws.proofs.RefusalNumbers.{unused-numbered}
 use Rattle.wintabol.proofs.wintabol_subset_unused_alts.Statement.{statement}
 use Rattle.wintabol.proofs.wintabol_subset_unused_alts.Tie as tie
 

@@ -1,2 +1,0 @@
-pub mod Breakpoints
-pub mod InClip
