@@ -4,7 +4,8 @@ against recorded answers of the Rust:
 
     python3 model.py ../recorded
 
-It assumes accepted inputs and prints what differs."""
+It assumes accepted inputs and prints what differs. A part that the folder lacks is passed over, so it
+also takes a folder that `compare lists` wrote, which has the library's answers."""
 
 import struct
 import sys
@@ -75,6 +76,15 @@ def breakpoints(sites, clip):
     return sorted(found)
 
 
+def taken_at(sites, position):
+    """Of each sample's sites over the position the one that starts last; of equal starts the first in the file."""
+    taken = {}
+    for s in sites:
+        if s.start <= position <= s.end and (s.sample not in taken or taken[s.sample].start < s.start):
+            taken[s.sample] = s
+    return taken
+
+
 def kept(clip, start, end):
     return clip is None or any(int(c["start"]) <= start and end <= int(c["end"]) for c in clip)
 
@@ -142,10 +152,7 @@ def contig_records(sites, clip, reference, samples):
     for start, after in zip(places, places[1:]):
         if not kept(clip, start, after - 1):
             continue
-        taken = {}
-        for s in sites:
-            if s.start <= start <= s.end:
-                taken.setdefault(s.sample, s)
+        taken = taken_at(sites, start)
         if not taken:
             continue
         ref = ref_of(taken, start, reference)
@@ -295,11 +302,15 @@ def main(recorded):
         ("combine", "combined.kv", combined_list),
         ("call", "called.kv", called_list),
     ):
+        if not (recorded / part).is_dir():
+            continue
         cases = sorted(p for p in (recorded / part).iterdir() if p.is_dir())
         different = [p for p in cases if make(p) != (p / answer).read_text()]
         print(f"{part}: {len(cases)} lists, {len(different)} differ", *different)
         faults += len(different)
     for kind, size in KINDS.items():
+        if not (recorded / f"{kind.__name__}.kv").exists():
+            continue
         found = groups(lines(recorded / f"{kind.__name__}.kv"), size)
         different = [g for g in found if not kind(g)]
         print(f"{kind.__name__}: {len(found)} groups, {len(different)} differ", *different)

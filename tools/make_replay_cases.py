@@ -1,7 +1,8 @@
 """Writes crates/replay_combine/stdin, calls of the entry, and stdout, what each must give.
 
 Run it in the repository's folder. The calls are of three sorts:
-- recorded: all cases of recorded/combine that are by hand, and the first six of every other sort. The list is the Rust's, as recorded. With B
+- recorded: all cases of recorded/combine that are by hand, and the first six of every other sort. The list is the Rust's, as recorded, and the model's
+  where sites of a sample overlap. With B
   breakpoints on the busiest contig, those of other sorts have 8,192 places, 1, 2, B - 1, B and B + 1 by turns.
 - tight: each recorded case by hand again, with 0, 1, 2, B - 1, B and B + 1 places and just the output that it needs, and with a byte less (14).
   With no place it is 10 if it has a site, and else the list.
@@ -21,10 +22,12 @@ import make_cohort_cases as rules
 from make_cohort_cases import BLOCK, ONE, SMALL, SNP, TWO, Refused, check, header, model, pl, site
 
 PLACES, ROOM, INPUT_ROOM = 8192, 65536, 524288  # what the program has room for
+LONG = 16000  # bytes of a recorded cohort that is left out, for room
 COVERED = {f"refused {n}" for n in range(1, 15)} | {
     "joined", "clip cuts a block", "deletion over a later position", "*", "REF grows", "missing value", "several contigs", "64 samples",
     "16 alleles", "letter from the reference", "letter from a sample", "clip keeps nothing", "no records", "a site hides another",
     "reference groups disagree", "over 1,024 breakpoints", "more breakpoints than places", "one place", "joined over 1,024 breakpoints",
+    "a later site supersedes an earlier one in the file", "the first in the file starts last", "equal starts", "three deep", "a superseded deletion",
 }
 CLIP, REFERENCE = ("contig", "start", "end"), ("contig", "first", "bases")
 Case = namedtuple("Case", "name cohort clip reference lent places room")
@@ -55,17 +58,36 @@ def groups(text, keys, group_of):
     return found
 
 
-def taken_at(sites, position):
-    taken = {}
+def covering_at(sites, position):
+    """For each sample its sites over a position, as they stand in the file."""
+    covering = {}
     for s in sites:
         if s.start <= position <= s.end:
-            taken.setdefault(s.sample, s)
-    return taken
+            covering.setdefault(s.sample, []).append(s)
+    return covering
+
+
+def nearest(covering):
+    """The site that starts last; of equal starts the first, which `max` takes."""
+    return max(covering, key=lambda s: s.start)
+
+
+def shown_of_overlaps(covering):
+    """What the sites of one sample over a position show."""
+    taken, starts = nearest(covering), [s.start for s in covering]
+    return {
+        "a later site supersedes an earlier one in the file": taken is not covering[0],
+        "the first in the file starts last": len(set(starts)) > 1 and taken is covering[0],
+        "equal starts": starts.count(taken.start) > 1,
+        "three deep": len(set(starts)) > 2,
+        "a superseded deletion": taken.block and any(not s.block and s.start < taken.start for s in covering),
+    }
 
 
 def check_interval(sites, reference, start):
     """Rows 11 to 13 of an interval, and what it shows. Nothing if no site covers it."""
-    taken = taken_at(sites, start)
+    covering = covering_at(sites, start)
+    taken = {sample: nearest(own) for sample, own in covering.items()}
     letters = {g["bases"][start - g["first"]] for g in reference or [] if 0 <= start - g["first"] < len(g["bases"])}
     refs = [s.alleles[0] for s in taken.values() if s.start == start]
     if taken and not refs and reference is not None:
@@ -85,9 +107,11 @@ def check_interval(sites, reference, start):
         "letter from the reference": not refs and reference is not None,
         "letter from a sample": not refs and reference is None,
         "reference groups disagree": not refs and len(letters) > 1,
-        "a site hides another": sum(s.start <= start <= s.end for s in sites) > len(taken),
+        "a site hides another": any(len(own) > 1 for own in covering.values()),
         "taken": True,
     }
+    for own in covering.values():
+        shown = {what: is_so or shown.get(what) for what, is_so in {**shown, **shown_of_overlaps(own)}.items()}
     return {what for what, is_so in shown.items() if is_so}
 
 
@@ -184,6 +208,8 @@ def recorded_cases():
         for i, number in enumerate(numbers if sort == "by" else numbers[:6]):
             folder = Path("recorded/combine") / number
             texts, combined = texts_in(folder), (folder / "combined.kv").read_bytes()
+            if len(texts[0]) > LONG:
+                continue
             most = busiest(texts)
             places = [PLACES, 1, 2, max(most - 1, 1), most, most + 1][0 if sort == "by" else i]
             CASES.append((Case(f"recorded-{number}", *texts, places, ROOM), combined))
@@ -358,6 +384,26 @@ def patched_cases():
     case("a-correction-in-a-row-of-a-group-in-the-text", None, block, cut, fix + elsewhere * 1023 + whole)
 
 
+def nested_cases():
+    """Sites of one sample over each other: what refuses follows from the ones that start last."""
+    long, inside = at(0, "ACGTACGT", "A"), at(0, "G", "T", start=12)
+    cut = span("c", 12, 12)
+    case("no-letter-needed-where-a-site-starts-in-a-deletion", None, TWO + long + inside, cut, "")
+    case("the-same-in-the-other-order", None, TWO + inside + long, cut, "")
+    case("11-behind-a-site-in-a-deletion", 11, TWO + long + inside, span("c", 13, 13), "")
+    case("12-by-a-site-in-a-deletion", 12, TWO + long + inside + at(1, "C", "T", start=12))
+    case("12-by-the-first-of-equal-starts", 12, TWO + at(0, "C", "T") + at(0, "A", "T") + at(1, "A", "G"))
+    case("refs-differ-by-a-superseded-site", None, TWO + at(0, "A", "T") + at(0, "C", "T") + at(1, "A", "G"))
+    crowd = [at(i, "A", *[letter + "T" * k for k in range(6)], start=20) for i, letter in enumerate("CGT")]
+    three = header("S0", "S1", "S2")
+    case("13-by-sites-in-a-deletion", 13, three + at(0, "A" * 30, "A") + "".join(crowd))
+    case("thirteen-alleles-where-one-crowd-is-superseded", None, three + at(2, "A", "C", start=20) + "".join(crowd))
+    # twenty sites of one sample, each inside the one before it, in both orders
+    stack = [site(BLOCK, start=i, end=50 - i, gq=i) for i in range(1, 21)]
+    case("twenty-deep", None, TWO + "".join(stack), places=1)
+    case("twenty-deep-backwards", None, TWO + "".join(stack[::-1]))
+
+
 def merge_cases():
     three = header("S0", "S1", "S2")
     for refs in (("A", "C", "AT"), ("AT", "A", "C"), ("C", "AT", "A"), ("AT", "AT", "AG")):
@@ -412,7 +458,7 @@ def printed(name, answer):
 
 
 def main():
-    for part in (recorded_cases, cohort_cases, clip_and_reference_cases, place_cases, window_cases, letter_cases, patched_cases, merge_cases):
+    for part in (recorded_cases, cohort_cases, clip_and_reference_cases, place_cases, window_cases, letter_cases, patched_cases, nested_cases, merge_cases):
         part()
     assert len({c.name for c, _ in CASES}) == len(CASES)
     stdin, stdout, covered = b"", b"", {}

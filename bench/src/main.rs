@@ -18,7 +18,7 @@ fn time(mut f: impl FnMut()) -> Duration {
 
 fn measure(turns: usize, shape: &str, samples: usize, sites: usize, out: &mut [u8]) {
     let cohort = shapes::cohort(shape, samples, sites, 20261115);
-    let (text, loaded) = (write_cohort(&cohort), loaded_gvcfs(&cohort));
+    let (text, loaded) = (write_cohort(&cohort), loaded_gvcfs(&cohort.for_the_rust()));
     let mut scratch = vec![0u64; shapes::places(&cohort)];
     let list = wintabol::combine(text.as_bytes(), None, None, &mut scratch, out).expect("a list");
     let (mut rust, mut ours) = (Vec::new(), Vec::new());

@@ -72,6 +72,20 @@ pub fn descending(kind: &str, sites: usize, seed: u64) -> Cohort {
     }
 }
 
+/// One sample with blocks of 10 positions and 5 positions without a site behind each.
+#[allow(dead_code)]
+pub fn with_gaps(sites: usize, seed: u64) -> Cohort {
+    let mut rng = Rng::new(seed);
+    let next = |i: usize| {
+        let start = 1000 + i as u64 * 15;
+        site(&mut rng, 0, "chr01".to_string(), start, start + 9, letter(start).to_string(), vec![])
+    };
+    Cohort {
+        samples: vec!["seedling00".to_string()],
+        sites: (0..sites).map(next).collect(),
+    }
+}
+
 /// As many places as the sites can have breakpoints: two for a block, and for any other site one for each position and one behind it.
 #[allow(dead_code)]
 pub fn places(cohort: &Cohort) -> usize {
@@ -100,7 +114,8 @@ fn next_site(shape: &str, rng: &mut Rng, sample: usize, contig: String, start: u
         return site(rng, sample, contig, start, start + length - 1, letter(start).to_string(), vec![]);
     }
     let length = match shape {
-        "overlaps" => rng.range(8, 24),
+        // by the position, so that deletions that start together are one allele: 64 samples would have over 16
+        "overlaps" => 8 + start * 7 % 17,
         _ if rng.chance(20) => rng.range(2, 6),
         _ => 1,
     };

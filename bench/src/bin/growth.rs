@@ -1,4 +1,4 @@
-//! Inputs along which the cost may grow faster than their size: long clips, sites in descending order, few scratch places.
+//! Inputs along which the cost may grow faster than their size: long clips, sites in descending order, sites with gaps, few scratch places.
 //! growth [CASE [NUMBER]]: the Rust's `combine_loaded_gvcfs` and Wintabol's `combine`, the middle of some turns each. With a third
 //! word, `ours` or `rust`, that side alone is called so many times (the fourth word) and nothing is printed, for counting instructions.
 
@@ -13,7 +13,7 @@ use std::hint::black_box;
 use std::time::{Duration, Instant};
 
 /// A case and how many clip spans, sites or places it has.
-const CASES: [(&str, usize); 17] = [
+const CASES: [(&str, usize); 18] = [
     ("clip-outside", 1_000),
     ("clip-outside", 10_000),
     ("clip-outside", 100_000),
@@ -28,6 +28,7 @@ const CASES: [(&str, usize); 17] = [
     ("descending-snps", 4_096),
     ("descending-deletions", 256),
     ("descending-deletions", 512),
+    ("gaps", 4_096),
     ("places", 1),
     ("places", 64),
     ("places", 8_192),
@@ -60,6 +61,7 @@ fn input(case: &str, number: usize) -> Input {
             shapes::cohort("mixed", 2, 64, 1),
             Some(spans("chr02", number, |i| 1_000_000 + 20 * i)),
         ),
+        "gaps" => (shapes::with_gaps(number, 1), None),
         "descending-blocks" => (shapes::descending("blocks", number, 1), None),
         "descending-snps" => (shapes::descending("snps", number, 1), None),
         "descending-deletions" => (shapes::descending("deletions", number, 1), None),
@@ -96,7 +98,7 @@ fn of(cohort: Cohort, spans: Option<Vec<ClipSpan>>, places: usize) -> Input {
     Input {
         text: write_cohort(&cohort),
         clip: spans.map(|s| write_clip(&s)),
-        loaded: loaded_gvcfs(&cohort),
+        loaded: loaded_gvcfs(&cohort.for_the_rust()),
         spans: map,
         places,
     }

@@ -63,7 +63,7 @@ fn stack(f: impl FnOnce()) -> usize {
 
 fn measure(shape: &str, samples: usize, sites: usize) {
     let cohort = shapes::cohort(shape, samples, sites, 20261115);
-    let (text, loaded) = (write_cohort(&cohort), loaded_gvcfs(&cohort));
+    let (text, loaded) = (write_cohort(&cohort), loaded_gvcfs(&cohort.for_the_rust()));
     let (mut scratch, mut out) = (vec![0u64; shapes::places(&cohort)], vec![0u8; 1 << 24]);
     let rust = heap(|| drop(black_box(combine_loaded_gvcfs(black_box(&loaded), None, None))));
     let mut call = || {

@@ -12,7 +12,7 @@ fn main() {
     let words: Vec<String> = std::env::args().collect();
     let number = |i: usize| words[i].parse::<usize>().expect("a number");
     let cohort = shapes::cohort(&words[2], number(3), number(4), 20261115);
-    let (text, loaded) = (write_cohort(&cohort), loaded_gvcfs(&cohort));
+    let (text, loaded) = (write_cohort(&cohort), loaded_gvcfs(&cohort.for_the_rust()));
     let mut scratch = vec![0u64; shapes::places(&cohort)];
     let mut out = vec![0u8; 1 << 24];
     for _ in 0..number(5) {

@@ -14,7 +14,8 @@ use Rattle.answers.specs.Answered.{Answered}
 use Rattle.answers.specs.declared.Outcome.the-variants as outcome
 use Rattle.answers.specs.declared.Outcome.{Outcome}
 use Rattle.contigs.specs.Contigs.{ContigOrder, RowsFor}
-use Rattle.covering_sites.specs.Covering.{sampleSites}
+use Rattle.covering_sites.proofs.Keys.{keys-fit}
+use Rattle.covering_sites.specs.Covering.{KeysFit, sampleKeys}
 use Rattle.covering_sites.specs.Runs.{Runs}
 use Rattle.definitions.specs.Bytes.{compareBytes}
 use Rattle.definitions.specs.Checked.{Checked, _>>=_, accepted, inOrder, within}
@@ -52,6 +53,12 @@ module _ {s names rows : List ℕ} {samples sites : ℕ} {clipped : Bool} {clip 
   abbrev pub rows-for : RowsFor s rows sites
   rows-for = record { sites = call .loaded .input .cohort .sites; table = call .loaded .table; all-sites = call .all-sites }
 
+  -- and the keys that group_by_sample makes of it
+  pub keys-of-rows : KeysFit rows sites
+  keys-of-rows =
+      let cohort = call .loaded .sound .cohort in
+      rw (call .all-sites) (keys-fit (call .loaded .table) (cohort .sites) (cohort .few-sites))
+
   module _ {zeros firsts : List ℕ} {n : ℕ} (long : sites ≤ length zeros)
       (o : ContigOrder s rows (call .loaded .input .cohort .sites) zeros firsts n) where
     contigs-few : length (o .firsts) ≤ length zeros
@@ -70,7 +77,7 @@ module _ {s names rows : List ℕ} {samples sites : ℕ} {clipped : Bool} {clip 
     firsts-are : take n firsts ≡ o .firsts
     firsts-are = rw (o .counted, all-stored) (take-append-seam (o .firsts) _)
 
-    module _ {order runs : List ℕ} (g : Runs order runs samples (sampleSites rows sites)) where
+    module _ {order runs : List ℕ} (g : Runs order runs samples (sampleKeys rows sites)) where
       pub list-ready : ListReady s names rows samples clipped clip referenced reference (take n firsts) order runs
       list-ready = record {
         tables = record { loaded = call .loaded; clip-given = call .clip-given; grouped = rw (← call .all-sites) g };

@@ -4,7 +4,7 @@ use lib.ListN.{length}
 use mathlib.Core.Bool.{Bool, cond}
 use mathlib.Core.List.{List, [], map}
 use mathlib.Core.Path.{_≡_}
-use Rattle.covering_sites.specs.Covering.{sampleSites}
+use Rattle.covering_sites.specs.Covering.{sampleKeys}
 use Rattle.covering_sites.specs.Runs.{Runs}
 use Rattle.definitions.specs.Checked.{Checked}
 use Rattle.definitions.specs.CombinedList.{combinedRecords, contigRecords}
@@ -20,11 +20,11 @@ use Rattle.coalescing.specs.Steps.{Progress}
 abbrev pub givenClip : Bool → List ℕ → List ℕ
 givenClip clipped clip = cond clipped clip []
 
--- tables and texts that hold an input, and the numbers of the sites grouped by sample
+-- tables and texts that hold an input, and the keys of the sites grouped by sample
 pub record Grouped (s rows : List ℕ) (samples : ℕ) (clipped : Bool) (clip : List ℕ) (referenced : Bool) (reference order bounds : List ℕ) : Type 0 where
   pub loaded : Loaded s rows samples referenced reference
   pub clip-given : ClipGiven clipped clip (loaded .input)
-  pub grouped : Runs order bounds samples (sampleSites rows (length (loaded .input .cohort .sites)))
+  pub grouped : Runs order bounds samples (sampleKeys rows (length (loaded .input .cohort .sites)))
 
 module _ {s rows : List ℕ} {samples : ℕ} {clipped : Bool} {clip : List ℕ} {referenced : Bool} {reference order bounds : List ℕ}
     (g : Grouped s rows samples clipped clip referenced reference order bounds) where

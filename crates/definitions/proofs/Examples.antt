@@ -182,6 +182,8 @@ slips =
     ∷ (answerWithin 1 65536 (alone (one ++ block "10" "19" "A"))
     gives "samples=1\nsample=S0\nrecords=1\ncontig=c\npos=10\nend=19\nref=A\nalt=<NON_REF>\ngt=.\ngq=.\ndp=.\nad=.\npl=.\n")
     ∷ (answerWithin 0 65536 (alone one) gives "samples=1\nsample=S0\nrecords=0\n")
+    ∷ (allelesIn (one ++ bare "0" "10" "13" "ACGT" "A,<NON_REF>" ++ bare "0" "12" "12" "G" "T,<NON_REF>" ++ bare "0" "12" "12" "G" "C,<NON_REF>")
+    gives "ACGT,A,<NON_REF>;A,*,<NON_REF>;G,T,<NON_REF>;A,*,<NON_REF>")
     ∷ (answerToSite "10" "9" "A" "G,G" "." gives "refused=4\n")
     ∷ (answerToSite "10" "12" "A" "G,<NON_REF>" "0,30" gives "refused=7\n")
     ∷ (answer (one ++ withPl "0" "10" "10" "A" "<NON_REF>" "0,30" ++ bare "0" "010" "10" "A" "<NON_REF>") gives "refused=8\n")

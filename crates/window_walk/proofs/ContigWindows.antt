@@ -19,7 +19,7 @@ use Rattle.definitions.specs.ClipAndReference.{Span, spanOf}
 use Rattle.definitions.specs.Cohort.{Site}
 use Rattle.definitions.specs.CombinedList.{Input}
 use Rattle.definitions.specs.Intervals.{breakpoints, siteBreakpoints, sitesOn, spanBreakpoints, spansOn}
-use Rattle.definitions.specs.Limits.{maxTextLength}
+use Rattle.definitions.specs.Limits.{maxSites, maxTextLength}
 use Rattle.definitions.specs.Lists.{filterBy, isThere, numbersFrom, onlyIf}
 use Rattle.laws.proofs.Every.{Every, every-member, every-of}
 use Rattle.laws.proofs.Members.{_∈_, filter-member, flatMap-member, member-filter, member-flatMap, member-map, member-numbers, numbers-member}
@@ -67,6 +67,9 @@ module _ {s rows : List ℕ} {samples : ℕ} {referenced : Bool} {reference cont
   unfolding siteAt
   sample-known k below = omega (arith, on .loaded .names, every-member (site-in k below) (on .loaded .sound .cohort .known))
 
+  few-sites : length sites ≤ maxSites
+  few-sites = on .loaded .sound .cohort .few-sites
+
   -- a site's contig, by the number of the first site on it
   same-name : (k : ℕ) → k < length sites → eqb (column 1 rows k) (on .first) ≡ sameBytes contig (siteAt s rows k .contig)
   unfolding siteAt
@@ -76,13 +79,13 @@ module _ {s rows : List ℕ} {samples : ℕ} {referenced : Bool} {reference cont
 
   on-contig : {k : ℕ} → k ∈ numbers → (k < length sites) × (sameBytes contig (siteAt s rows k .contig) ≡ true)
   on-contig {k} m =
-      let (known, its) = contig-member rows (length sites) (on .first) samples (subst (λ (l : List ℕ). k ∈ l) (runs .in-runs .whole) m) in
+      let (known, its) = contig-member rows few-sites (on .first) samples (subst (λ (l : List ℕ). k ∈ l) (runs .in-runs .whole) m) in
       (known, sym (same-name k known) ∙ eq-eqb (column 1 rows k) (on .first) its)
 
   listed : (k : ℕ) → k < length sites → sameBytes contig (siteAt s rows k .contig) ≡ true → k ∈ numbers
   listed k known same =
       let its = eqb-true (column 1 rows k) (on .first) (same-name k known ∙ same) in
-      subst (λ (l : List ℕ). k ∈ l) (sym (runs .in-runs .whole)) (member-contig rows (length sites) (on .first) samples (sample-known k known) known its)
+      subst (λ (l : List ℕ). k ∈ l) (sym (runs .in-runs .whole)) (member-contig rows few-sites (on .first) samples (sample-known k known) known its)
 
   -- ---- their breakpoints
 

@@ -31,8 +31,9 @@ use Rattle.laws.proofs.ClipDepth.{breakpoints-bounded, depth, in-clip, spans-wh
 use Rattle.laws.proofs.ClipDepth.{covers as spanCovers}
 use Rattle.laws.proofs.Every.{Every, Pairwise, every-member}
 use Rattle.laws.proofs.Fillings.{PlaceStep, place-step}
+use Rattle.laws.proofs.Greatest.{greatest-found}
 use Rattle.laws.proofs.IntervalsSound.{SoundInterval, every-breakpoint}
-use Rattle.laws.proofs.Members.{_∈_, filter-few, first-found, member-filter, member-filterMap, nil-of}
+use Rattle.laws.proofs.Members.{_∈_, filter-few, member-filter, member-filterMap, nil-of}
 use Rattle.laws.proofs.Orders.{ascending-numbers}
 use Rattle.laws.proofs.Places.{position}
 use Rattle.laws.proofs.SoundInput.{SoundSite}
@@ -51,7 +52,7 @@ none-covers : (c : Cohort) (contig : List ℕ) → Every SoundSite (c .sites) �
 unfolding coveringSites coveringSite covers
 none-covers c contig sound = nil-of (coveringSites c contig 0) (λ z m.
     let (k, n, e) = member-filterMap (coveringSite (c .sites) contig 0) _ m in
-    let (there, test) = first-found _ (c .sites) e in
+    let (there, test) = member-filter _ (c .sites) (greatest-found _ _ e) in
     let (_, covering) = both-of (eqb (z .sample) k) (sameBytes contig (z .contig) && leb (z .start) 0 && leb 0 (z .end)) test in
     let (same, from, to) = all-three (sameBytes contig (z .contig)) (leb (z .start) 0) (leb 0 (z .end)) covering in
     let one = every-member there sound .from-one in

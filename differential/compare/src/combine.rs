@@ -4,6 +4,7 @@ use crate::ours::{Call, Library};
 use oracle::cohort::Lent;
 use oracle::rng::{mix, Rng};
 use oracle::{domain, generate, record};
+use std::path::Path;
 
 pub struct Texts {
     pub cohort: String,
@@ -96,18 +97,43 @@ pub fn hold(library: &mut Library, lent: &Lent, seed: u64) -> Result<(usize, usi
     Ok((list.records.len(), n))
 }
 
+/// Writes so many cohorts whose samples' sites overlap into a folder, each with the list that the library gives, for model.py. No list
+/// comes from the Rust.
+pub fn lists(seed: u64, count: u64, folder: &Path) -> Result<String, String> {
+    let mut library = Library::new();
+    let (mut written, mut i) = (0, 0);
+    while written < count {
+        let lent = lent_of(i, mix(seed ^ mix(i)));
+        i += 1;
+        if !lent.cohort.overlaps_itself() || lent.cohort.sites.len() > 200 {
+            continue;
+        }
+        let mut rng = Rng::new(mix(seed.wrapping_add(i)));
+        let places = *rng.pick(&places_for(breakpoints(&lent), &mut Rng::new(i)));
+        let list = library.combine_roomy(&Texts::of(&lent).call(places, 0)).map_err(|row| format!("cohort {i}: {row}"))?;
+        let list = String::from_utf8(list).map_err(|e| e.to_string())?;
+        for (name, text) in lent.files().into_iter().chain([("combined.kv", list)]) {
+            record::write_file(&folder.join(format!("combine/{written:06}/{name}")), &text)?;
+        }
+        written += 1;
+    }
+    Ok(format!("{count} cohorts with their lists in {}\n", folder.display()))
+}
+
 pub fn compare(seed: u64, count: u64) -> Result<String, String> {
     let mut library = Library::new();
-    let (mut records, mut bytes, mut windows) = (0, 0, 0);
+    let (mut records, mut bytes, mut windows, mut overlaps) = (0, 0, 0, 0);
     for i in 0..count {
         let lent = lent_of(i, mix(seed ^ mix(i)));
         windows += u64::from(breakpoints(&lent) > 1024);
+        overlaps += u64::from(lent.cohort.overlaps_itself());
         let (r, n) = hold(&mut library, &lent, mix(seed.wrapping_add(i)))
             .map_err(|what| format!("seed {seed}, cohort {i}, sort {}: {what}", sort_of(i).name))?;
         records += r;
         bytes += n;
     }
     Ok(format!(
-        "{count} cohorts, {windows} with over 1,024 breakpoints on a contig, {records} records, {bytes} bytes of lists: no difference\n"
+        "{count} cohorts, {windows} with over 1,024 breakpoints on a contig, {overlaps} with overlapping sites of a sample, \
+         {records} records, {bytes} bytes of lists: no difference\n"
     ))
 }

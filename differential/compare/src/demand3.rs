@@ -94,7 +94,7 @@ fn written(library: &mut Library, lent: &Lent, places: usize) -> Result<Option<L
 
 pub fn check(seed: u64, count: u64) -> Result<String, String> {
     let mut library = Library::new();
-    let (mut pairs, mut records, mut i) = (0, 0, 0);
+    let (mut pairs, mut records, mut overlaps, mut i) = (0, 0, 0, 0);
     while pairs < count {
         let mut rng = Rng::new(mix(seed ^ mix(i)));
         let second = lent_of(i, rng.any());
@@ -119,6 +119,9 @@ pub fn check(seed: u64, count: u64) -> Result<String, String> {
         }
         pairs += 1;
         records += one.records.len();
+        overlaps += u64::from(first.cohort.overlaps_itself());
     }
-    Ok(format!("{pairs} pairs of cohorts, {records} records of the first lists: all said again\n"))
+    Ok(format!(
+        "{pairs} pairs of cohorts, {overlaps} with overlapping sites of an old sample, {records} records of the first lists: all said again\n"
+    ))
 }

@@ -1,10 +1,13 @@
 //! The commands: generated inputs from a seed, so many of them, and the borders of the domain.
 
 use compare::{bad, borders, call, combine, demand3, groups};
+use std::path::Path;
 use std::process::ExitCode;
 
 const USAGE: &str = "\
   compare combine SEED COUNT    COUNT cohorts of every sort through the Rust and through the library
+  compare lists SEED COUNT FOLDER
+                                COUNT cohorts with overlapping sites of a sample and the library's lists, into FOLDER, for model.py
   compare call SEED COUNT       COUNT combined lists: the called list
   compare KIND SEED COUNT       COUNT groups; KIND is trim, likelihoods, gq, subset or unused_alts
   compare demand3 SEED COUNT    COUNT pairs of cohorts: what the first list says stands in the second
@@ -18,6 +21,7 @@ fn run(words: &[&str]) -> Result<String, String> {
     match *words {
         ["borders"] => borders::check(),
         ["combine", seed, count] => combine::compare(number(seed)?, number(count)?),
+        ["lists", seed, count, folder] => combine::lists(number(seed)?, number(count)?, Path::new(folder)),
         ["call", seed, count] => call::compare(number(seed)?, number(count)?),
         ["demand3", seed, count] => demand3::check(number(seed)?, number(count)?),
         ["bad", seed, count] => bad::check(number(seed)?, number(count)?),

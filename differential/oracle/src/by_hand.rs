@@ -20,6 +20,88 @@ const NONE: HandCohort = HandCohort {
     reference: None,
 };
 
+/// Sites of one sample over each other: the one that starts last is taken, of equal starts the first in the file.
+pub const NESTED: &[HandCohort] = &[
+    HandCohort {
+        shows: "a block and a deletion of one sample start together: the block is taken, the deletion gives breakpoints only",
+        samples: 1,
+        sites: &[
+            "0 c 5 9 A <NON_REF> 1 2 3,4 0,20,30",
+            "0 c 5 7 ACG A,<NON_REF> 2 3 4,5,6 1,2,3,4,5,6",
+        ],
+        ..NONE
+    },
+    HandCohort {
+        shows: "the same in the other order: the deletion is taken, and behind it the block",
+        samples: 1,
+        sites: &[
+            "0 c 5 7 ACG A,<NON_REF> 2 3 4,5,6 1,2,3,4,5,6",
+            "0 c 5 9 A <NON_REF> 1 2 3,4 0,20,30",
+        ],
+        ..NONE
+    },
+    HandCohort {
+        shows: "nested three deep, and a sample beside it",
+        sites: &[
+            "0 c 5 12 ACGTACGT A,<NON_REF> 1 2 3,4,5 9,8,7,6,5,4",
+            "0 c 7 10 GTAC G,<NON_REF> 2 3 4,5,6 1,2,3,4,5,6",
+            "0 c 8 8 T A,<NON_REF> 3 4 5,6,7 20,0,30,40,50,60",
+            "1 c 4 14 T <NON_REF> 4 5 6,0 0,12,120",
+        ],
+        ..NONE
+    },
+    HandCohort {
+        shows: "the same with the sites in descending order",
+        sites: &[
+            "1 c 4 14 T <NON_REF> 4 5 6,0 0,12,120",
+            "0 c 8 8 T A,<NON_REF> 3 4 5,6,7 20,0,30,40,50,60",
+            "0 c 7 10 GTAC G,<NON_REF> 2 3 4,5,6 1,2,3,4,5,6",
+            "0 c 5 12 ACGTACGT A,<NON_REF> 1 2 3,4,5 9,8,7,6,5,4",
+        ],
+        ..NONE
+    },
+    HandCohort {
+        shows: "a superseded deletion shows no * and gives no letter; its breakpoints part no block",
+        samples: 1,
+        sites: &[
+            "0 c 5 10 ACGTAC A,<NON_REF> 1 2 3,4,5 9,8,7,6,5,4",
+            "0 c 6 12 C <NON_REF> 2 3 4,0 0,20,30",
+        ],
+        ..NONE
+    },
+    HandCohort {
+        shows: "the same beside another sample's deletion, with a reference whose letters part the block",
+        sites: &[
+            "0 c 5 10 ACGTAC A,<NON_REF> 1 2 3,4,5 9,8,7,6,5,4",
+            "0 c 6 12 C <NON_REF> 2 3 4,0 0,20,30",
+            "1 c 11 12 GG G,<NON_REF> 3 4 5,6,7 20,0,30,40,50,60",
+        ],
+        reference: Some(&["c 1 TTTTACGGGCGG"]),
+        ..NONE
+    },
+    HandCohort {
+        shows: "a clip that begins inside a deletion and a site in it",
+        samples: 1,
+        sites: &[
+            "0 c 5 10 ACGTAC A,<NON_REF> 1 2 3,4,5 9,8,7,6,5,4",
+            "0 c 7 8 GT G,<NON_REF> 2 3 4,5,6 1,2,3,4,5,6",
+        ],
+        clip: Some(&["c 8 9"]),
+        ..NONE
+    },
+    HandCohort {
+        shows: "four sites of one sample start together: the second in the file lies on another contig, the first is taken",
+        samples: 1,
+        sites: &[
+            "0 c 5 6 AC A,<NON_REF> 1 2 3,4,5 9,8,7,6,5,4",
+            "0 d 5 5 A <NON_REF> 2 3 4,0 0,20,30",
+            "0 c 5 5 A T,<NON_REF> 3 4 5,6,7 20,0,30,40,50,60",
+            "0 c 5 8 A <NON_REF> 4 5 6,0 0,12,120",
+        ],
+        ..NONE
+    },
+];
+
 pub const COHORTS: &[HandCohort] = &[
     HandCohort {
         shows: "document 01's printed example",
@@ -222,7 +304,7 @@ pub const COHORTS: &[HandCohort] = &[
         ..NONE
     },
     HandCohort {
-        shows: "two sites of one sample over a position: the first in the file is taken",
+        shows: "a SNP inside the sample's own deletion, in front of it in the file: it is taken at its position",
         samples: 1,
         sites: &[
             "0 c 6 6 C T,<NON_REF> 1 2 3,4,5 9,8,7,6,5,4",

@@ -37,6 +37,39 @@ pub struct Cohort {
     pub sites: Vec<Site>,
 }
 
+impl Cohort {
+    /// Two sites of one sample share a position.
+    pub fn overlaps_itself(&self) -> bool {
+        let mut sites: Vec<&Site> = self.sites.iter().collect();
+        sites.sort_by_key(|s| (s.sample, &s.contig, s.start));
+        let mut last: Option<(usize, &str, u64)> = None;
+        for s in sites {
+            match last {
+                Some((sample, contig, end)) if sample == s.sample && contig == s.contig && s.start <= end => return true,
+                _ => last = Some((s.sample, &s.contig, s.end)),
+            }
+        }
+        false
+    }
+
+    /// The same sites, those that start later first, equal starts in the file's order: where the Rust takes a sample's first site over a
+    /// position, that is then the one with the greatest start, and of equal starts the first in the file.
+    pub fn latest_first(&self) -> Cohort {
+        let mut cohort = self.clone();
+        cohort.sites.sort_by_key(|s| std::cmp::Reverse(s.start));
+        cohort
+    }
+
+    /// The sites in the order in which the Rust is fed them: as they stand, or those that start later first where sites of a sample overlap.
+    pub fn for_the_rust(&self) -> Cohort {
+        if self.overlaps_itself() {
+            self.latest_first()
+        } else {
+            self.clone()
+        }
+    }
+}
+
 #[derive(Debug, Clone, PartialEq, Eq)]
 pub struct ClipSpan {
     pub contig: String,

@@ -59,12 +59,15 @@ pub fn intervals<'a>(lent: &'a Lent, contig: &'a str) -> Vec<Interval<'a>> {
         if !kept(lent, contig, start, end) {
             continue;
         }
+        // of equal starts `max_by_key` takes the last, which is the first in the file
         let taken: Vec<&Site> = (0..lent.cohort.samples.len())
             .filter_map(|sample| {
                 sites
                     .iter()
+                    .rev()
                     .copied()
-                    .find(|s| s.sample == sample && s.covers(start))
+                    .filter(|s| s.sample == sample && s.covers(start))
+                    .max_by_key(|s| s.start)
             })
             .collect();
         if !taken.is_empty() {

@@ -58,7 +58,7 @@ const PLAIN: Profile = Profile {
     patched: false,
 };
 
-pub const PROFILES: [Profile; 19] = [
+pub const PROFILES: [Profile; 20] = [
     Profile {
         name: "tiny",
         samples: (1, 2),
@@ -220,6 +220,18 @@ pub const PROFILES: [Profile; 19] = [
         clip: 40,
         short_spans: 700,
         reference: 20,
+        ..PLAIN
+    },
+    Profile {
+        name: "nested",
+        samples: (1, 3),
+        sites: (6, 18),
+        span: 6,
+        kinds: [25, 20, 5, 45, 5],
+        longest_ref: 8,
+        longest_block: 9,
+        most_alts: 2,
+        tracks: 0,
         ..PLAIN
     },
 ];

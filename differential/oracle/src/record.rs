@@ -1,7 +1,7 @@
 //! The recorded answers: made from a seed, and held against the Rust again.
 
 use crate::alleles::{answer_group, answer_text, KINDS};
-use crate::by_hand::{HandCohort, COHORTS, COMBINED_LISTS, GROUPS};
+use crate::by_hand::{HandCohort, COHORTS, COMBINED_LISTS, GROUPS, NESTED};
 use crate::call::{call, call_by_the_whole, sums_fit, without_depths};
 use crate::cohort::{read_cohort, Lent};
 use crate::combine::combine;
@@ -14,7 +14,7 @@ use std::fs;
 use std::path::{Path, PathBuf};
 
 /// How many calls of each sort are recorded. "largest" and "windows" are too large for the recorded files.
-const COHORT_COUNTS: [(&str, usize); 17] = [
+const COHORT_COUNTS: [(&str, usize); 18] = [
     ("tiny", 30),
     ("plain", 50),
     ("contigs", 25),
@@ -32,6 +32,7 @@ const COHORT_COUNTS: [(&str, usize); 17] = [
     ("wide", 5),
     ("deep", 5),
     ("patched", 4),
+    ("nested", 12),
 ];
 const GENERATED_LISTS: usize = 130;
 const GROUPS_OF_EACH: usize = 150;
@@ -46,10 +47,11 @@ const READABLE: usize = 24_000;
 
 type Files = Vec<(String, String)>;
 
-/// The list of a call that the scope accepts, checked for what a list must be.
+/// The list of a call that the scope accepts, checked for what a list must be. Where a sample's sites overlap the Rust is fed those that
+/// start later first.
 pub fn combined(lent: &Lent) -> Result<(List, String), String> {
     domain::check(lent).map_err(|r| r.to_string())?;
-    let list = combine(lent)?;
+    let list = combine(&Lent { cohort: lent.cohort.for_the_rust(), ..lent.clone() })?;
     let text = write_combined(&list);
     let back =
         read_combined(&text, Rules::On).map_err(|r| format!("the Rust's list read back: {r}"))?;
@@ -93,8 +95,12 @@ fn record_combine(folder: &Path, seed: u64) -> Result<Vec<(usize, String)>, Stri
         }
         files.push(("combined.kv".to_string(), text.clone()));
         write_folder(&folder.join(format!("combine/{number:03}")), &files)?;
-        index.push_str(&format!("{number:03} {from}\n"));
-        lists.push((number, text));
+        let by_model = if lent.cohort.overlaps_itself() { " (sites of a sample overlap: model.py)" } else { "" };
+        index.push_str(&format!("{number:03} {from}{by_model}\n"));
+        // combined lists for `call` come from the other sorts
+        if !from.starts_with("nested") && !NESTED.iter().any(|hand| from.ends_with(hand.shows)) {
+            lists.push((number, text));
+        }
         number += 1;
         Ok(())
     };
@@ -121,6 +127,11 @@ fn record_combine(folder: &Path, seed: u64) -> Result<Vec<(usize, String)>, Stri
                 made += 1;
             }
         }
+    }
+    for hand in NESTED {
+        let lent = hand_cohort(hand)?;
+        let (_, text) = combined(&lent).map_err(|e| format!("{}: {e}", hand.shows))?;
+        keep(&lent, text, format!("by hand: {}", hand.shows))?;
     }
     write_file(&folder.join("combine/INDEX.txt"), &index)?;
     Ok(lists)

@@ -1,7 +1,7 @@
 -- The sites by sample, the contigs in byte order of name, then the list.
 use borrow.Author.Needs.{needs}
 use native.Mathlib.Omega.{arith}
-use Rattle.combined_list.proofs.ListReady.{firsts-within, list-ready, loaded-answered, rows-for}
+use Rattle.combined_list.proofs.ListReady.{firsts-within, keys-of-rows, list-ready, loaded-answered, rows-for}
 use Rattle.combined_list.proofs.OneContig.{taken-exactly}
 use Rattle.combined_list.proofs.combine_in_windows.Statement.{statement}
 use Rattle.combined_list.proofs.combine_in_windows.Tie as tie
@@ -13,7 +13,7 @@ group-by-sample-requires : tie.Need-group-by-sample-requires
 group-by-sample-requires c κs =
     let start = c .before .before .before .before .before .before .before .before .before .before .before .before in
     let pre = start .pre in
-    (pre .1 .for-order, omega (arith, pre .0 .loaded .few))
+    (keys-of-rows (pre .0), (pre .1 .for-order, omega (arith, pre .0 .loaded .few)))
 
 order-contigs-requires : tie.Need-order-contigs-requires
 order-contigs-requires c κs =
