@@ -1,6 +1,6 @@
 // The breakpoints of a contig, a window at a time: the least ones past a position, as many as the places hold, ascending, each a number
 // position * 2^32 + 2^31 + d, where d is how many clip spans start there less how many end before it.
-ghost use mathlib.Core.Bool.{_&&_, cond};
+ghost use mathlib.Core.Bool.{_&&_, _||_, cond, not};
 ghost use mathlib.Core.List.{[], _++_, _∷_, flatMap, map};
 ghost use mathlib.Core.Path.{_≡_};
 ghost use Prim.Native.Nat.{_+_, _-_, _<_, _≤_, suc};
@@ -323,4 +323,17 @@ pub fn next_breakpoints(
         count,
         more: taken.limit < 4294967295,
     }
+}
+
+// Whether an interval goes from the last breakpoint to the next, and lies in the clip, where there is one.
+pub fn has_interval(clipped: bool, past: u64, depth: u64) -> bool
+    ensures { λ r. ⌜ r ≡ ltb 0 past && (not clipped || ltb 0 depth) ⌝ }
+{
+    if past == 0 {
+        return false;
+    }
+    if !clipped {
+        return true;
+    }
+    0 < depth
 }
