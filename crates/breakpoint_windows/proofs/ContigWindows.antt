@@ -46,7 +46,7 @@ module _ {all : List ℕ} {spans : List Span} {past : ℕ} {entry exit : List �
     unfolding end
     parts = ap length (windows ordered past (n .limit)) ∙ length-append (window past (n .limit) all) _
 
-    pub fewer : {past′ : ℕ} {again : Bool} → past′ ≡ windowEnd past (window past (n .limit) all) → again ≡ true
+    fewer : {past′ : ℕ} {again : Bool} → past′ ≡ windowEnd past (window past (n .limit) all) → again ≡ true
         → length (filterBy (ltb past′) all) + cond (r .more) 1 0 < length (filterBy (ltb past) all) + cond again 1 0
     unfolding end
     fewer {past′} {again} e taken =
@@ -60,9 +60,9 @@ module _ {all : List ℕ} {spans : List Span} {past : ℕ} {entry exit : List �
             omega (arith, parts, counted)
 
     -- without more of them none is left
-    pub none-left : {past′ : ℕ} → past′ ≡ windowEnd past (window past (n .limit) all) → r .more ≡ false → filterBy (ltb past′) all ≡ []
+    nothing-left : {past′ : ℕ} → past′ ≡ windowEnd past (window past (n .limit) all) → r .more ≡ false → filterBy (ltb past′) all ≡ []
     unfolding end
-    none-left {past′} e h =
+    nothing-left {past′} e h =
         ap (λ (p : ℕ). filterBy (ltb p) all) e ∙ go (filterBy (ltb end) all) (sym (n .more) ∙ h)
       where
         go : (l : List ℕ) → ltb 0 (length l) ≡ false → l ≡ []
@@ -88,11 +88,8 @@ module _ {x : Input} {rows sites : List ℕ} {clipped : Bool} {clip contig : Lis
   abbrev read : List ℕ
   read = allBreakpoints rows sites (spansOf clip contig)
 
-  abbrev points : List ℕ
-  points = breakpoints (x .cohort .sites) (x .clip) contig
-
   -- as they are read, the breakpoints ascend
-  pub in-order : Pairwise _<_ read
+  in-order : Pairwise _<_ read
   in-order = subst (Pairwise _<_) (sym (b .all-places)) (breakpoints-ascend (x .cohort .sites) (x .clip) contig)
 
   module _ {past : ℕ} {entry exit : List ℕ} {r : Window} (n : NextBreakpoints read (spansOf clip contig) past entry exit r) where
@@ -106,18 +103,17 @@ module _ {x : Input} {rows sites : List ℕ} {clipped : Bool} {clip contig : Lis
           ∙ ap (λ (l : List ℕ). map (placeOf (spansOn contig (x .clip))) (window past (n .limit) l)) (b .all-places);
     }
 
-    -- where it ends, by the breakpoints as they are read
-    pub ends : {past′ : ℕ} → past′ ≡ contigWindowEnd x contig past (n .limit) → past′ ≡ windowEnd past (window past (n .limit) read)
-    ends e = e ∙ ap (λ (l : List ℕ). windowEnd past (window past (n .limit) l)) (sym (b .all-places))
-
-    -- each window leaves fewer of them, and without more none
+    -- past its end fewer are left, and without more of them none
     module _ {past′ : ℕ} (e : past′ ≡ contigWindowEnd x contig past (n .limit)) where
-      pub contig-fewer : {again : Bool} → again ≡ true
-          → length (filterBy (ltb past′) points) + cond (r .more) 1 0 < length (filterBy (ltb past) points) + cond again 1 0
-      contig-fewer taken = rw (← b .all-places) (fewer n in-order (ends e) taken)
+      ends : past′ ≡ windowEnd past (window past (n .limit) read)
+      ends = e ∙ ap (λ (l : List ℕ). windowEnd past (window past (n .limit) l)) (sym (b .all-places))
 
-      pub contig-none-left : r .more ≡ false → filterBy (ltb past′) points ≡ []
-      contig-none-left h = rw (← b .all-places) (none-left n in-order (ends e) h)
+      pub fewer-left : {again : Bool} → again ≡ true
+          → length (filterBy (ltb past′) read) + cond (r .more) 1 0 < length (filterBy (ltb past) read) + cond again 1 0
+      fewer-left taken = fewer n in-order ends taken
+
+      pub none-left : r .more ≡ false → filterBy (ltb past′) read ≡ []
+      none-left h = nothing-left n in-order ends h
 
 -- ---- one place of a window
 
@@ -168,8 +164,21 @@ module _ {x : Input} {clipped : Bool} {contig : List ℕ} {place : ℕ} {rest : 
     pub depth-next : d + place % 4294967296 - 2147483648 ≡ depth spans (place / 4294967296)
     depth-next = omega (arith, deep, step .deeper)
 
--- without places a window ends where it begins
-pub empty-end : {x : Input} {clipped : Bool} {contig : List ℕ} {past : ℕ} (w : ContigWindow x clipped contig [] past)
-    → past ≡ contigWindowEnd x contig past (w .limit)
-empty-end {x} {contig = contig} {past = past} w =
-    end-here (breakpoints-ascend (x .cohort .sites) (x .clip) contig) (spansOn contig (x .clip)) (w .few-spans) past (w .limit) (sym (w .stored))
+-- ---- the same window
+
+module _ {x : Input} {clipped : Bool} {contig places : List ℕ} {past : ℕ} (w : ContigWindow x clipped contig places past) where
+  -- under other names of its places and of the position
+  unfoldable pub same-window : {places′ : List ℕ} {past′ : ℕ} → places′ ≡ places → past′ ≡ past → ContigWindow x clipped contig places′ past′
+  same-window p q = record {
+    sound = w .sound;
+    clip-there = w .clip-there;
+    few-spans = w .few-spans;
+    limit = w .limit;
+    stored = p ∙ w .stored
+        ∙ ap (λ (p : ℕ). map (placeOf (spansOn contig (x .clip))) (window p (w .limit) (breakpoints (x .cohort .sites) (x .clip) contig))) (sym q);
+  }
+
+  -- without places it ends where it begins
+  pub empty-end : places ≡ [] → past ≡ contigWindowEnd x contig past (w .limit)
+  empty-end e =
+      end-here (breakpoints-ascend (x .cohort .sites) (x .clip) contig) (spansOn contig (x .clip)) (w .few-spans) past (w .limit) (sym (w .stored) ∙ e)
