@@ -81,7 +81,7 @@ fn combine_cohort<'a>(
     clip: &[u8],
     referenced: bool,
     reference: &'a [u8],
-    order: &mut [usize],
+    order: &mut [u64],
     firsts: &mut [usize],
     chosen: &mut [usize],
     scratch: &mut [u64],
@@ -131,7 +131,7 @@ fn combine_with<'a>(
     reference: &'a [u8],
     names: &mut [usize],
     rows: &mut [usize],
-    order: &mut [usize],
+    order: &mut [u64],
     firsts: &mut [usize],
     chosen: &mut [usize],
     scratch: &mut [u64],
@@ -178,7 +178,7 @@ fn combine_tiny<'a>(
 {
     let mut names = [0usize; 128];
     let mut rows = [0usize; 1408];
-    let mut order = [0usize; 64];
+    let mut order = [0u64; 64];
     let mut firsts = [0usize; 64];
     let mut chosen = [0usize; 64];
     combine_with(
@@ -212,7 +212,7 @@ fn combine_short<'a>(
 {
     let mut names = [0usize; 128];
     let mut rows = [0usize; 5632];
-    let mut order = [0usize; 256];
+    let mut order = [0u64; 256];
     let mut firsts = [0usize; 256];
     let mut chosen = [0usize; 256];
     combine_with(
@@ -246,7 +246,7 @@ fn combine_long<'a>(
 {
     let mut names = [0usize; 128];
     let mut rows = [0usize; 99332];
-    let mut order = [0usize; 4096];
+    let mut order = [0u64; 4096];
     let mut firsts = [0usize; 4096];
     let mut chosen = [0usize; 4096];
     let tried = combine_with(

@@ -1,24 +1,23 @@
--- Sites that ended before a position: how the search moves past them, and that the first covering site is behind them.
+-- Sites that ended before a position: how the search moves past them, and that the last covering site is behind them.
 use Prim.Native.Nat.{_+_, _-_, _<_, _≤_, suc, zero, ℕ}
-use borrow.Author.Tests.{lt-leb, ltb-false, ltb-true}
-use lib.Dec.{leb, ltb}
-use lib.ListN.{drop, getD, length, length-set, length-take, set, take}
-use lib.Seq.{getD-drop, getD-set-other, getD-set-same, getD-take}
-use mathlib.Core.Bool.{Bool, _&&_, cond, false, true}
-use mathlib.Core.List.{List, [], _∷_, foldr}
+use borrow.Author.Tests.{ltb-false, ltb-true}
+use lib.Dec.{ltb}
+use lib.ListN.{drop, getD, length, length-set, length-take, set}
+use lib.Seq.{getD-set-other, getD-set-same}
+use mathlib.Core.Bool.{Bool, cond, false, true}
+use mathlib.Core.List.{List, [], _∷_}
 use mathlib.Core.Logic.{⊎-elim}
-use mathlib.Core.Option.{some}
-use mathlib.Core.Path.{_∙_, _≡_, ap, refl, sym}
+use mathlib.Core.Option.{none}
+use mathlib.Core.Path.{_∙_, _≡_, refl, sym}
 use native.Mathlib.Nat.{add-zero, eq-or-lt-of-le}
 use native.Mathlib.Omega.{arith}
-use Rattle.definitions.specs.Lists.{firstWhere}
 use Rattle.kv_text.specs.Fields.{between}
 use Rattle.laws.proofs.Tests.{true-or-false}
 use Rattle.tables.specs.Tables.{column}
-use Rattle.covering_sites.proofs.Search.{part-end, part-next}
-use Rattle.covering_sites.specs.Covering.{rowCovers}
+use Rattle.covering_sites.proofs.Search.{Searching, ended-before, part-at, part-end, part-next, placed-none, search-skip}
+use Rattle.covering_sites.specs.Covering.{lastCovering, rowCovers}
 use Rattle.covering_sites.specs.Ended.{Ended, Replaced, behindEnded, endedFront, rowEnded}
-use Rattle.covering_sites.specs.Runs.{Bounded}
+use Rattle.covering_sites.specs.Runs.{Bounded, runAt}
 
 -- ---- numbers replaced one by one
 
@@ -90,10 +89,7 @@ module _ (rows : List ℕ) (position : ℕ) where
     behind-ended start k h l =
         let j : k - start < endedFront rows position (between chosen start to) = omega arith in
         let few : k - start < to - start = omega (arith, front-few (between chosen start to), length-take (to - start) (drop start chosen)) in
-        let here : start + (k - start) ≡ k = omega arith in
-        let e : getD (between chosen start to) (k - start) 0 ≡ getD chosen k 0 =
-        getD-take (to - start) (drop start chosen) (k - start) 0 few ∙ getD-drop start chosen (k - start) 0 ∙ ap (λ (m : ℕ). getD chosen m 0) here in
-        rw e at (front-ended (between chosen start to) (k - start) j)
+        rw (part-at chosen start to k h (omega arith)) at (front-ended (between chosen start to) (k - start) j)
 
 -- ---- all runs
 
@@ -131,36 +127,22 @@ module _ {rows chosen bounds : List ℕ} {samples position : ℕ} where
     ended = λ x l k a z. omega (arith, e .ended x l k a z);
   }
 
--- ---- the first covering site
+-- ---- the last covering site
 
-first-behind : (q : ℕ → Bool) (chosen : List ℕ) (a to n : ℕ) → a + n ≤ to → to ≤ length chosen
-    → ((k : ℕ) → a ≤ k → k < a + n → q (getD chosen k 0) ≡ false)
-    → firstWhere q (between chosen (a + n) to) ≡ firstWhere q (between chosen a to)
-unfolding firstWhere
-first-behind q chosen a to zero h k none-before = rw (add-zero a)
-first-behind q chosen a to (suc n) h k none-before =
-    let next : a + suc n ≡ a + n + 1 = omega arith in
-    let here : a + n < to = omega arith in
-    rw next
-    (sym (ap (firstWhere q) (part-next chosen (a + n) to here k) ∙ ap (λ (b : Bool). cond b (some (getD chosen (a + n) 0)) (firstWhere q (between chosen (a + n + 1) to))) (none-before (a + n) (omega arith) (omega arith)))
-    ∙ first-behind q chosen a to n (omega arith) k (λ m l u. none-before m l (omega arith)))
-
-not-covering : (rows : List ℕ) (position i : ℕ) → column 3 rows i < position → rowCovers rows position i ≡ false
-unfolding rowCovers
-not-covering rows position i h = rw (lt-leb position (column 3 rows i) h) (and-false (leb (column 2 rows i) position))
-  where
-    and-false : (b : Bool) → b && false ≡ false
-    and-false true = refl
-    and-false false = refl
-
--- the first covering site of what is left of a run is that of the whole run
-pub first-left : {rows chosen bounds from : List ℕ} {samples position : ℕ} → Ended rows chosen bounds from samples position → Bounded (length chosen) bounds samples
-    → (x : ℕ) → x < samples
-    → firstWhere (rowCovers rows position) (between chosen (getD from x 0) (getD bounds (x + 1) 0))
-    ≡ firstWhere (rowCovers rows position) (between chosen (getD bounds x 0) (getD bounds (x + 1) 0))
-first-left {rows} {chosen} {bounds} {from} {samples} {position} e b x l =
+-- the search begins behind sites that ended: none of them covers the position
+pub search-start : {rows chosen bounds from : List ℕ} {samples position : ℕ} → Ended rows chosen bounds from samples position
+    → Bounded (length chosen) bounds samples → (x : ℕ) → x < samples
+    → Searching rows position chosen bounds x (getD bounds (x + 1) 0) (getD bounds (x + 1) 0) (getD from x 0)
+unfolding lastCovering runAt
+search-start {rows} {chosen} {bounds} {from} {samples} {position} e b x l =
     let above = e .above x l in
     let within = e .within x l in
+    let to = getD bounds (x + 1) 0 in
     let there : getD bounds x 0 + (getD from x 0 - getD bounds x 0) ≡ getD from x 0 = omega arith in
-    rw there at (first-behind (rowCovers rows position) chosen (getD bounds x 0) (getD bounds (x + 1) 0) (getD from x 0 - getD bounds x 0)
-    (omega arith) (b .within x l) (λ k a z. not-covering rows position (getD chosen k 0) (e .ended x l k a (omega arith))))
+    record {
+      above = above;
+      same =
+          rw (placed-none chosen to {last = to} (omega arith))
+          (sym (rw there at (search-skip (rowCovers rows position) chosen to (b .within x l) none (getD from x 0 - getD bounds x 0) (getD bounds x 0)
+          (omega arith) (λ k a z. ended-before rows position (getD chosen k 0) (e .ended x l k a (omega arith))))));
+    }

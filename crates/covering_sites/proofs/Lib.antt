@@ -1,7 +1,9 @@
 pub mod Same
 pub mod Filtered
 pub mod Filled
+pub mod Keys
 pub mod Grouped
+pub mod Sorting
 pub mod Search
 pub mod Ended
 pub mod CoveringFound

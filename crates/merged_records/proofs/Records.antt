@@ -15,7 +15,7 @@ use Rattle.definitions.specs.Checked.{Checked, accepted, refused}
 use Rattle.definitions.specs.CombinedList.{intervalRecord}
 use Rattle.definitions.specs.CoveringSites.{coveringSites}
 use Rattle.definitions.specs.Genotypes.{SampleData, dataOfSample}
-use Rattle.definitions.specs.Limits.{maxSiteLetters}
+use Rattle.definitions.specs.Limits.{maxSiteLetters, maxSites}
 use Rattle.definitions.specs.Lists.{numbersFrom, onlyIf}
 use Rattle.definitions.specs.MergedAlleles.{mergedAlts}
 use Rattle.definitions.specs.MergedRef.{mergedRef}
@@ -47,17 +47,20 @@ module _ {s rows : List ℕ} {samples : ℕ} {referenced : Bool} {reference cont
   abbrev numbers : List ℕ
   numbers = coveringNumbers on position
 
+  few-sites : length (on .loaded .input .cohort .sites) ≤ maxSites
+  few-sites = on .loaded .sound .cohort .few-sites
+
   pub few-numbers : length numbers ≤ samples
   few-numbers = found-few rows position samples (runs on)
 
   pub numbers-cover : map (siteAt s rows) numbers ≡ covering on position
   numbers-cover =
-      covering-found (on .loaded .input .cohort) (on .loaded .table) (on .loaded .names) (on .known) (on .own) position
+      covering-found (on .loaded .input .cohort) (on .loaded .table) few-sites (on .loaded .names) (on .known) (on .own) position
       ∙ ap (λ (name : List ℕ). coveringSites (on .loaded .input .cohort) name position) (sym (on .name))
 
   pub numbers-known : Every (λ i. i < length (on .loaded .input .cohort .sites)) numbers
   numbers-known = every-of numbers λ i m.
-      member-found rows (length (on .loaded .input .cohort .sites)) (on .first) position samples m .2 .known
+      member-found rows few-sites (on .first) position samples m .2 .known
 
   -- they stand at the front of the list that was filled
   pub front : (found : List ℕ) {after owners₀ all owners : List ℕ} {n : ℕ} → samples ≤ length found
@@ -66,7 +69,7 @@ module _ {s rows : List ℕ} {samples : ℕ} {referenced : Bool} {reference cont
 
   -- their samples, by the runs
   pub owners-are : coveringSamples rows position samples (runs on) ≡ coveringOwners on position
-  owners-are = found-owners rows (length (on .loaded .input .cohort .sites)) (on .first) position samples
+  owners-are = found-owners rows few-sites (on .first) position samples
 
   -- ---- REF
 

@@ -2,6 +2,7 @@
 use borrow.Author.Needs.{needs}
 use lib.Seq.{sets}
 use mathlib.Core.Path.{_∙_, ap}
+use Rattle.covering_sites.proofs.CoveringFound.{starts-ascend}
 use Rattle.covering_sites.proofs.Search.{found-known}
 use Rattle.merged_records.proofs.Records.{at-front, exactly, fits-in, none-covering, over-them, owners-are}
 use Rattle.merged_records.specs.Found.{RecordFound}
@@ -9,7 +10,11 @@ use Rattle.merged_records.proofs.merge_reference_confidence.Statement.{
 use Rattle.merged_records.proofs.merge_reference_confidence.Tie as tie
 
 covering-sites-requires : tie.Need-covering-sites-requires
-covering-sites-requires c κs = (c .before .before .before .before .before .before .before .before .before .before .before .before .pre .0 .in-runs .bounded, (c .before .before .before .before .before .before .before .before .before .before .before .before .pre .2, (c .before .before .before .before .before .before .before .before .before .before .before .before .pre .1 .for-sites, c .before .before .before .before .before .before .before .before .before .before .before .before .pre .1 .for-owners)))
+covering-sites-requires c κs =
+    let start = c .before .before .before .before .before .before .before .before .before .before .before .before in
+    let at = start .pre .0 in
+    let ascend = starts-ascend _ (at .on .loaded .sound .cohort .few-sites) (at .on .first) (at .in-runs) in
+    (at .in-runs .bounded, (ascend, (start .pre .2, (start .pre .1 .for-sites, start .pre .1 .for-owners))))
 
 same-length : tie.Need-same-length
 same-length c = search needs
