@@ -1,13 +1,13 @@
 -- Lists of numbers with none twice: those with the same members are as long (`as-many`), and so is what is put together of runs that have
 -- different owners (`runs-once`).
-use Prim.Native.Nat.{Ordering, Ordering·eq, Ordering·gt, Ordering·lt, _<_, compare, suc, zero, ℕ}
+use Prim.Native.Nat.{Ordering, Ordering·eq, Ordering·gt, Ordering·lt, compare, suc, ℕ}
 use lib.ListN.{length}
 use mathlib.Core.List.{List, List·Memᴰ·head, List·Memᴰ·tail, [], _∷_, flatMap}
 use mathlib.Core.Logic.{_≢_}
 use mathlib.Core.Path.{_∙_, _≡_, ap, refl, sym}
 use native.Mathlib.Omega.{arith}
 use Rattle.definitions.specs.Lists.{ascending, byOrder, insertNew, numbersFrom}
-use Rattle.laws.proofs.Every.{Every, Pairwise, alone, before-all, every-map, every-member, every-numbers, every-of, pairwise-append}
+use Rattle.laws.proofs.Every.{Pairwise, alone, before-all, every-member, every-of, numbers-ascend, pairwise-append, pairwise-map}
 use Rattle.laws.proofs.Members.{_∈_, member-flatMap}
 use Rattle.laws.proofs.Orders.{ascending-same, compare-eq, member-ascending}
 
@@ -40,12 +40,7 @@ as-many {xs} {ys} h k f g = sym (once-ascending h) ∙ ap length (ascending-same
 -- ---- numbers and runs
 
 pub numbers-once : (first count : ℕ) → Once (numbersFrom first count)
-unfolding numbersFrom
-numbers-once first zero = alone
-numbers-once first (suc count) =
-    let later : Every (λ i. first ≢ i) (numbersFrom (suc first) count) =
-    every-map (λ i h. λ same. omega (arith, h, same)) (every-numbers (suc first) count) in
-    before-all later (numbers-once (suc first) count)
+numbers-once first count = pairwise-map (λ i j h same. omega (arith, h, same)) (numbers-ascend first count)
 
 module _ (run : ℕ → List ℕ) (owner : ℕ → ℕ) (once : (x : ℕ) → Once (run x)) (own : (x i : ℕ) → i ∈ run x → owner i ≡ x) where
   -- runs one behind the other, each element in the run of its owner
