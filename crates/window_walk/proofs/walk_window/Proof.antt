@@ -147,7 +147,7 @@ loop-again c =
       out-long = at-walk .walk-place .kept .1 .1 .1 .1 .1 .1 .1 .1 .1 .1 .1 .1 .1 .1 .1 .1 .1 .0 ∙ inv .out-long;
       way = λ ready way.
           let t = inv .way ready way in
-          through-next ready (way .d₀) (way .bytes) (way .records) t more (room-here inv (ready .room))
+          through-next ready (way .d₀) (way .bytes) (way .records) t more
           (rw (c .before .turn2 .given .1) at (at-walk .walk-place .ensures _ (place-ready ready (way .d₀) (way .bytes) (way .records) t more (room-here inv (ready .room)))
           (carrying ready (way .d₀) (way .bytes) (way .records) t)));
     }

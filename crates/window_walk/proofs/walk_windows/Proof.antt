@@ -2,18 +2,20 @@
 use Prim.Native.Nat.{_+_, _≤_, ℕ}
 use borrow.Author.Needs.{needs}
 use lib.Dec.{ltb}
-use lib.ListN.{getD, length}
+use lib.ListN.{length}
 use mathlib.Core.Bool.{Bool, cond, false}
 use mathlib.Core.List.{List, []}
-use mathlib.Core.Path.{_∙_, _≡_, ap, refl}
+use mathlib.Core.Path.{_∙_, _≡_, refl}
 use native.Mathlib.Omega.{arith}
+use Rattle.breakpoint_windows.proofs.ContigWindows.{contig-window, fewer-left, none-left, stored-exactly, stored-within}
 use Rattle.breakpoint_windows.specs.Breakpoints.{allBreakpoints, spansOf}
 use Rattle.contig_walk.specs.Laying.{TurnRoom}
 use Rattle.contig_walk.specs.Walk.{Begun, RecordsWalked, WalkRoom}
 use Rattle.covering_sites.proofs.Ended.{ended-start}
 use Rattle.covering_sites.specs.Ended.{Ended}
 use Rattle.definitions.specs.Lists.{filterBy}
-use Rattle.window_walk.proofs.AllWindows.{carried-end, carried-start, end-fits, ends, fewer, in-order, none-left, numbers-exactly, numbers-within, stored-exactly, stored-within, window-ready}
+use Rattle.window_walk.proofs.AllWindows.{carried-end, carried-start, numbers-exactly, window-ready}
+use Rattle.window_walk.proofs.OnePlace.{pending-fits}
 use Rattle.window_walk.specs.Windows.{Carried, WalkedTo, WindowsReady, numbersIn}
 use Rattle.window_walk.specs.declared.Along.{Along}
 use Rattle.window_walk.proofs.walk_windows.Statement.{statement}
@@ -101,7 +103,7 @@ next-breakpoints-requires c κs =
     let at-loop = c .before .before .before in
     let start = at-loop .before .before .before .before .before .before .before .before .before .before .before .before .before .before .before .before .before in
     let ready = start .pre .0 in
-    (omega (arith, at-loop .loop .inv .scratch-long, start .pre .3), (ready .rows-in-range, ready .short))
+    (omega (arith, at-loop .loop .inv .scratch-long, start .pre .3), (ready .points .rows-in-range, ready .points .short))
 
 slice-aggregate-walk-window : tie.Need-slice-aggregate-walk-window Inv-loop μ-loop
 slice-aggregate-walk-window c = search needs
@@ -187,7 +189,7 @@ enum-known-turn-2 : tie.Need-enum-known-turn-2 Inv-loop μ-loop
 enum-known-turn-2 c = search needs
 
 loop-less : tie.Need-loop-less Inv-loop μ-loop
-unfolding window-ready WalkedTo
+unfolding window-ready contig-window WalkedTo
 loop-less c =
     let at-walk-window = c .before .before .before .before .before .before .before .before .before .before .before .before .before .before in
     let at-next-breakpoints = at-walk-window .before .before .before .before .before .before .before .before .before .before .before in
@@ -201,10 +203,10 @@ loop-less c =
     let walked = rw (c .before .turn2 .given .1) at (at-walk-window .walk-window .ensures
     (window-ready ready found (inv .ended) (room-here inv (ready .runs .on .loaded .few) (start .pre .2)))
     (record { d₀ = begun .d₀; bytes = begun .bytes; records = begun .records; carried = inv .way ready begun })) in
-    fewer found (in-order ready) (ends ready found (walked .there)) (at-loop-test .loop-test .taken)
+    fewer-left (ready .points) found (walked .there) (at-loop-test .loop-test .taken)
 
 loop-again : tie.Need-loop-again Inv-loop μ-loop
-unfolding window-ready WalkedTo
+unfolding window-ready contig-window WalkedTo
 loop-again c =
     let at-walk-window = c .before .before .before .before .before .before .before .before .before .before .before .before .before .before in
     let at-next-breakpoints = at-walk-window .before .before .before .before .before .before .before .before .before .before .before in
@@ -227,7 +229,7 @@ loop-again c =
       owners-long = at-walk-window .walk-window .kept .1 .1 .1 .1 .1 .1 .1 .1 .1 .1 .1 .1 .1 .1 .1 .0 ∙ inv .owners-long;
       from-long = at-walk-window .walk-window .kept .1 .1 .1 .1 .1 .1 .1 .1 .0 ∙ inv .from-long;
       ended = walked .ended;
-      none-past = none-left found (in-order ready) (ends ready found (walked .there));
+      none-past = none-left (ready .points) found (walked .there);
       way = λ ready begun. (rw (c .before .turn2 .given .1) at (at-walk-window .walk-window .ensures
           (window-ready ready found (inv .ended) (room-here inv (ready .runs .on .loaded .few) (start .pre .2)))
           (record { d₀ = begun .d₀; bytes = begun .bytes; records = begun .records; carried = inv .way ready begun }))) .carried;
@@ -237,7 +239,8 @@ put-pending-requires : tie.Need-put-pending-requires Inv-loop μ-loop
 put-pending-requires c κs =
     let at-loop = c .before .before .before .before in
     let start = at-loop .before .before .before .before .before .before .before .before .before .before .before .before .before .before .before .before .before in
-    end-fits (start .pre .0) (at-loop .loop .inv .way (start .pre .0) (start .pre .1))
+    let ready = start .pre .0 in
+    pending-fits (ready .runs .on) (at-loop .loop .inv .way ready (start .pre .1))
 
 count-pending-requires : tie.Need-count-pending-requires Inv-loop μ-loop
 count-pending-requires c κs = search needs
