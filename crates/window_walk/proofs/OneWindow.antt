@@ -4,7 +4,7 @@ use lib.ListN.{drop, drop-of-length-le, getD, length}
 use lib.Seq.{drop-cons}
 use mathlib.Core.Bool.{Bool}
 use mathlib.Core.List.{List, _∷_}
-use mathlib.Core.Path.{_∙_, _≡_, ap, refl, subst, sym}
+use mathlib.Core.Path.{_∙_, _≡_, ap, refl, sym}
 use native.Mathlib.Numerals.{add-one}
 use native.Mathlib.Omega.{arith}
 use Rattle.breakpoint_windows.proofs.ContigWindows.{empty-end, rest-end, rest-window, same-window}
@@ -33,56 +33,51 @@ same-room r a b c d e = record {
 
 -- ---- on the way
 
-module _ {s rows : List ℕ} {samples : ℕ} {clipped referenced : Bool} {reference contig chosen from₀ bounds places : List ℕ} {past : ℕ}
-    {held₀ fresh₀ found₀ owners₀ alts₀ : List ℕ}
-    (ready : WindowReady s rows samples clipped referenced reference contig chosen from₀ bounds places past held₀ fresh₀ found₀ owners₀ alts₀) where
+module _ {s rows : List ℕ} {samples : ℕ} {clipped referenced : Bool} {reference contig chosen from₀ bounds places : List ℕ} {start : Along}
+    {held₀ fresh₀ found₀ owners₀ alts₀ out₀ : List ℕ}
+    (ready : WindowReady s rows samples clipped referenced reference contig chosen from₀ bounds places (start .past) held₀ fresh₀ found₀ owners₀ alts₀)
+    (way : Carrying (ready .runs .on .loaded .input) s rows samples reference contig held₀ out₀ start) where
   abbrev x : Input
   x = ready .runs .on .loaded .input
 
   abbrev windowEnds : ℕ
-  windowEnds = contigWindowEnd x contig past (ready .window .limit)
+  windowEnds = contigWindowEnd x contig (start .past) (ready .window .limit)
 
-  module _ (d₀ bytes : List ℕ) (records : ℕ) where
-    -- the places from k on are the window past the breakpoint that the walk has come to
-    pub record Through (from held out : List ℕ) (along : Along) (k : ℕ) : Type 0 where
-      pub carried : Carried x s rows samples reference contig d₀ bytes records held out along
-      pub ended : Ended rows chosen bounds from samples (along .past)
-      pub window : ContigWindow x clipped contig (drop k places) (along .past)
-      pub end : contigWindowEnd x contig (along .past) (window .limit) ≡ windowEnds
+  -- the places from k on are the window past the breakpoint that the walk has come to
+  pub record Through (from held out : List ℕ) (along : Along) (k : ℕ) : Type 0 where
+    pub carried : Carried x s rows samples reference contig (way .d₀) (way .bytes) (way .records) held out along
+    pub ended : Ended rows chosen bounds from samples (along .past)
+    pub window : ContigWindow x clipped contig (drop k places) (along .past)
+    pub end : contigWindowEnd x contig (along .past) (window .limit) ≡ windowEnds
 
-    pub through-start : {held out : List ℕ} {along : Along} → past ≡ along .past → Carried x s rows samples reference contig d₀ bytes records held out along
-        → Through from₀ held out along 0
-    unfolding same-window
-    through-start e w = record {
-      carried = w;
-      ended = subst (Ended rows chosen bounds from₀ samples) e (ready .ended);
-      window = same-window (ready .window) refl (sym e);
-      end = ap (λ (p : ℕ). contigWindowEnd x contig p (ready .window .limit)) (sym e);
-    }
+  pub through-start : Through from₀ held₀ out₀ start 0
+  through-start = record { carried = way .carried; ended = ready .ended; window = ready .window; end = refl }
 
-    module _ {from held out : List ℕ} {along : Along} {k : ℕ} (t : Through from held out along k) where
-      pub through-end : length places ≤ k → CarriedTo x s rows samples reference contig chosen bounds from d₀ bytes records held out windowEnds along
-      through-end h = record { there = empty-end (t .window) (drop-of-length-le places h) ∙ t .end; carried = t .carried; ended = t .ended }
+  module _ {from held out : List ℕ} {along : Along} {k : ℕ} (t : Through from held out along k) where
+    pub through-end : length places ≤ k
+        → CarriedTo x s rows samples reference contig chosen bounds from (way .d₀) (way .bytes) (way .records) held out windowEnds along
+    through-end h = record { there = empty-end (t .window) (drop-of-length-le places h) ∙ t .end; carried = t .carried; ended = t .ended }
 
-      unfoldable pub carrying : Carrying x s rows samples reference contig held out along
-      carrying = record { d₀ = d₀; bytes = bytes; records = records; carried = t .carried }
+    unfoldable pub carrying : Carrying x s rows samples reference contig held out along
+    carrying = record { d₀ = way .d₀; bytes = way .bytes; records = way .records; carried = t .carried }
 
-      module _ (more : k < length places) where
-        unfoldable pub place-window : ContigWindow x clipped contig (getD places k 0 ∷ drop (suc k) places) (along .past)
-        place-window = same-window (t .window) (sym (drop-cons places k 0 more)) refl
+    module _ (more : k < length places) where
+      unfoldable pub place-window : ContigWindow x clipped contig (getD places k 0 ∷ drop (suc k) places) (along .past)
+      place-window = same-window (t .window) (sym (drop-cons places k 0 more)) refl
 
-        unfoldable pub place-ready : {fresh found owners alts : List ℕ} → TurnRoom samples held fresh found owners alts
-            → WindowReady s rows samples clipped referenced reference contig chosen from bounds (getD places k 0 ∷ drop (suc k) places) (along .past)
-            held fresh found owners alts
-        place-ready room = record { runs = ready .runs; window = place-window; ended = t .ended; room = room }
+      unfoldable pub place-ready : {fresh found owners alts : List ℕ} → TurnRoom samples held fresh found owners alts
+          → WindowReady s rows samples clipped referenced reference contig chosen from bounds (getD places k 0 ∷ drop (suc k) places) (along .past)
+          held fresh found owners alts
+      place-ready room = record { runs = ready .runs; window = place-window; ended = t .ended; room = room }
 
-        pub through-next : {from′ held′ out′ : List ℕ} {along′ : Along}
-            → CarriedTo x s rows samples reference contig chosen bounds from′ d₀ bytes records held′ out′ (getD places k 0 / 4294967296) along′
-            → Through from′ held′ out′ along′ (k + 1)
-        unfolding place-window same-window rest-window
-        through-next w = record {
-          carried = w .carried;
-          ended = w .ended;
-          window = same-window (rest-window place-window) (ap (λ (n : ℕ). drop n places) (add-one k)) (w .there);
-          end = ap (λ (p : ℕ). contigWindowEnd x contig p (t .window .limit)) (w .there) ∙ rest-end place-window ∙ t .end;
-        }
+      pub through-next : {from′ held′ out′ : List ℕ} {along′ : Along}
+          → CarriedTo x s rows samples reference contig chosen bounds from′ (way .d₀) (way .bytes) (way .records) held′ out′
+          (getD places k 0 / 4294967296) along′
+          → Through from′ held′ out′ along′ (k + 1)
+      unfolding place-window same-window rest-window
+      through-next w = record {
+        carried = w .carried;
+        ended = w .ended;
+        window = same-window (rest-window place-window) (ap (λ (n : ℕ). drop n places) (add-one k)) (w .there);
+        end = ap (λ (p : ℕ). contigWindowEnd x contig p (t .window .limit)) (w .there) ∙ rest-end place-window ∙ t .end;
+      }
