@@ -37,7 +37,9 @@ new-1based-requires c κs = search needs
 sub-new-1based : tie.Need-sub-new-1based
 sub-new-1based c =
     let at-test = c .before in
-    let (rest, ready, way) = at-test .before .before .before .before .before .before .before .before .before .before .before .before .before .before .before .before .before .pre in
+    let at-depth = at-test .before .before in
+    let start = at-depth .before .before .before .before .before .before .before .before .before .before .before .before .before .before .before in
+    let (rest, ready, way) = start .pre in
     omega (arith, goes-on (ready .window))
 
 new-1based-requires-2 : tie.Need-new-1based-requires-2
@@ -49,7 +51,9 @@ new-requires c κs = search needs
 skip-ended-requires : tie.Need-skip-ended-requires
 skip-ended-requires c κs =
     let at-test = c .before .before .before .before in
-    let (rest, ready, way) = at-test .before .before .before .before .before .before .before .before .before .before .before .before .before .before .before .before .before .pre in
+    let at-depth = at-test .before .before in
+    let start = at-depth .before .before .before .before .before .before .before .before .before .before .before .before .before .before .before in
+    let (rest, ready, way) = start .pre in
     (ready .runs .in-runs .bounded, ready .ended .long)
 
 walk-interval-requires : tie.Need-walk-interval-requires
@@ -61,7 +65,9 @@ walk-interval-requires c κs =
     let last = loc .1 ∙ at-last .new-1based2 .ensures in
     let at-test = at-last .before .before in
     let test = sym (at-test .before .has-interval .ensures) ∙ not-false _ (at-test .if1 .left) in
-    let (rest, ready, way) = at-test .before .before .before .before .before .before .before .before .before .before .before .before .before .before .before .before .before .pre in
+    let at-depth = at-test .before .before in
+    let start = at-depth .before .before .before .before .before .before .before .before .before .before .before .before .before .before .before in
+    let (rest, ready, way) = start .pre in
     (turn-ready ready way test _ _ first last (at-skip .skip-ended .ensures), underway ready way)
 
 enum-known-turn : tie.Need-enum-known-turn

@@ -13,7 +13,8 @@ use Rattle.window_walk.specs.declared.Along.{Along}
 use Rattle.window_walk.proofs.walk_window.Statement.{statement}
 use Rattle.window_walk.proofs.walk_window.Tie as tie
 
-record Inv (s rows : List ℕ) (samples : ℕ) (clipped referenced : Bool) (reference contig chosen from₀ bounds places held₀ fresh₀ found₀ owners₀ alts₀ out₀ : List ℕ)
+record Inv (s rows : List ℕ) (samples : ℕ) (clipped referenced : Bool)
+    (reference contig chosen from₀ bounds places held₀ fresh₀ found₀ owners₀ alts₀ out₀ : List ℕ)
     (along₀ : Along) (from held fresh found owners alts out : List ℕ) (along : Along) (k : ℕ) : Type 0 where
   from-long : length from ≡ length from₀
   held-long : length held ≡ length held₀
@@ -26,18 +27,23 @@ record Inv (s rows : List ℕ) (samples : ℕ) (clipped referenced : Bool) (refe
       (way : Carrying (ready .runs .on .loaded .input) s rows samples reference contig held₀ out₀ along₀)
       → Through ready way from held out along k
 
-module _ {s rows : List ℕ} {samples : ℕ} {clipped referenced : Bool} {reference contig chosen from₀ bounds places held₀ fresh₀ found₀ owners₀ alts₀ out₀ : List ℕ}
+module _ {s rows : List ℕ} {samples : ℕ} {clipped referenced : Bool}
+    {reference contig chosen from₀ bounds places held₀ fresh₀ found₀ owners₀ alts₀ out₀ : List ℕ}
     {along₀ : Along} {from held fresh found owners alts out : List ℕ} {along : Along} {k : ℕ}
-    (inv : Inv s rows samples clipped referenced reference contig chosen from₀ bounds places held₀ fresh₀ found₀ owners₀ alts₀ out₀ along₀ from held fresh found owners alts out along k) where
+    (inv : Inv s rows samples clipped referenced reference contig chosen from₀ bounds places held₀ fresh₀ found₀ owners₀ alts₀ out₀ along₀
+    from held fresh found owners alts out along k) where
   room-here : TurnRoom samples held₀ fresh₀ found₀ owners₀ alts₀ → TurnRoom samples held fresh found owners alts
   room-here r = same-room r (inv .held-long) (inv .fresh-long) (inv .found-long) (inv .owners-long) (inv .alts-long)
 
 abbrev Inv-loop : tie.InvT-loop
-Inv-loop s rows samples clipped referenced reference contig chosen from₀ bounds places held₀ fresh₀ found₀ owners₀ alts₀ out₀ along₀ k₀ k-end from held fresh found owners alts out along k =
-    Inv s rows samples clipped referenced reference contig chosen from₀ bounds places held₀ fresh₀ found₀ owners₀ alts₀ out₀ along₀ from held fresh found owners alts out along k
+Inv-loop s rows samples clipped referenced reference contig chosen from₀ bounds places held₀ fresh₀ found₀ owners₀ alts₀ out₀ along₀ k₀ k-end
+    from held fresh found owners alts out along k =
+    Inv s rows samples clipped referenced reference contig chosen from₀ bounds places held₀ fresh₀ found₀ owners₀ alts₀ out₀ along₀
+    from held fresh found owners alts out along k
 
 abbrev μ-loop : tie.MeasureT-loop
-μ-loop s rows samples clipped referenced reference contig chosen from₀ bounds places held₀ fresh₀ found₀ owners₀ alts₀ out₀ along₀ k₀ k-end from held fresh found owners alts out along k = length places - k
+μ-loop s rows samples clipped referenced reference contig chosen from₀ bounds places held₀ fresh₀ found₀ owners₀ alts₀ out₀ along₀ k₀ k-end
+    from held fresh found owners alts out along k = length places - k
 
 loop-holds : tie.Need-loop-holds Inv-loop μ-loop
 loop-holds c =
@@ -63,7 +69,8 @@ unfolding place-ready
 walk-place-requires c κs =
     let at-loop-test = c .before .before .before .before .before .before .before .before in
     let inv = at-loop-test .before .loop .inv in
-    let (ready, way) = at-loop-test .before .before .before .before .before .before .before .before .before .before .before .before .before .before .before .before .pre in
+    let start = at-loop-test .before .before .before .before .before .before .before .before .before .before .before .before .before .before .before .before in
+    let (ready, way) = start .pre in
     let t = inv .way ready way in
     (_, place-ready ready way t (at-loop-test .loop-test .taken) (room-here inv (ready .room)), carrying ready way t)
 
