@@ -1,5 +1,6 @@
 pub mod AddedPlaces
 pub mod ContigSites
+pub mod ContigWindows
 pub mod Fills
 pub mod InRange
 pub mod OneWindow

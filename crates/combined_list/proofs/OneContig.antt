@@ -42,14 +42,7 @@ module _ {s rows : List ℕ} {samples : ℕ} {clipped : Bool} {clip : List ℕ} 
       unfolding in-contig-runs windows-ready
       one-windows =
           let w = windows-ready in-contig-runs (g .clip-given) in
-          record {
-            runs = in-contig-runs;
-            clip-there = w .clip-there;
-            spans-are = rw t (w .spans-are);
-            short = rw t (w .short);
-            rows-in-range = w .rows-in-range;
-            all-places = rw t (w .all-places);
-          }
+          record { runs = in-contig-runs; points = rw t (w .points) }
 
       -- what the walk over windows says is said of the contig's records
       pub one-walked : (out out′ : List ℕ) (at count : ℕ) (w : Walked)

@@ -7,3 +7,4 @@ pub mod Sorting
 pub mod Search
 pub mod Ended
 pub mod CoveringFound
+pub mod ContigNumbers

@@ -10,7 +10,7 @@ use mathlib.Core.Option.{none, some}
 use mathlib.Core.Path.{_≡_, refl}
 use Rattle.definitions.specs.AlleleSubset.{likelihoodSubset}
 use Rattle.definitions.specs.Alleles.{allelesOf, writtenAlleles}
-use Rattle.definitions.specs.Answers.{callProgram, combineProgram, printedAnswer}
+use Rattle.definitions.specs.Answers.{callProgram, combineProgram, looksProgram, printedAnswer}
 use Rattle.definitions.specs.Bytes.{joinedBy, sameBytes, text}
 use Rattle.definitions.specs.CalledGenotypes.{LeastPls, gqFromLeastPls, gqFromPl, leastPls, withNextPl}
 use Rattle.definitions.specs.CalledList.{calledData}
@@ -227,6 +227,21 @@ slips-right = tt
 pub oneReading-right : T (allOf right oneReading)
 unfolding evaluated
 oneReading-right = tt
+
+-- ---- looks
+
+-- three sites, and of the intervals from 10, 13, 15, 20 and 22 the last three lie in the clip; a contig that no site names has none
+abbrev looksOn : String → List ℕ
+looksOn asked =
+    looksProgram (some (two ++ block "10" "12" "A" ++ block "20" "22" "A" ++ bare "1" "22" "22" "A" "<NON_REF>"))
+    (some (text "contig=c\nstart=15\nend=22\n")) none (some (text asked))
+
+abbrev pub looks : List Row
+looks = (looksOn "contig=c\n" gives "looks=9\n") ∷ (looksOn "contig=d\n" gives "looks=0\n") ∷ (looksOn "contig=c\nstart=1\n" gives "refused=1\n") ∷ []
+
+pub looks-right : T (allOf right looks)
+unfolding evaluated
+looks-right = tt
 
 -- ---- the printed list
 

@@ -1,6 +1,6 @@
 -- What a call answers, what its buffers hold at the end, and what the programs print.
 use Prim.Native.Nat.{ℕ}
-use lib.Dec.{leb}
+use lib.Dec.{eqb, leb}
 use lib.ListN.{drop, length}
 use mathlib.Core.Bool.{Bool}
 use mathlib.Core.List.{List, [], _++_, map}
@@ -9,9 +9,10 @@ use Rattle.definitions.specs.CalledList.{calledList}
 use Rattle.definitions.specs.Checked.{Checked, _>>_, _>>=_, accepted, refused, require}
 use Rattle.definitions.specs.CombinedList.{combinedList}
 use Rattle.definitions.specs.Limits.{programBytes, programScratch}
-use Rattle.definitions.specs.Lines.{line}
+use Rattle.definitions.specs.Lines.{line, lineAt, linesOf}
 use Rattle.definitions.specs.Lists.{missingOr}
-use Rattle.definitions.specs.Numbers.{decimal}
+use Rattle.definitions.specs.Looks.{looksOf}
+use Rattle.definitions.specs.Numbers.{decimal, name}
 
 -- ---- a call
 
@@ -77,3 +78,30 @@ calledFile combined = do
 -- `call`, by the contents of combined.kv, `none` if it is absent
 unfoldable pub callProgram : Option (List ℕ) → List ℕ
 callProgram combined = printedAnswer (calledFile (fileText combined))
+
+-- the contig that contig.kv asks for, in one line
+unfoldable pub askedContig : List ℕ → Checked (List ℕ)
+askedContig s = do
+  contig ← lineAt (linesOf s) 0 "contig" name
+  require 1 (eqb (length (linesOf s)) 1)
+  accepted contig
+
+-- the looks of a contig, by what the program takes of the three texts and of contig.kv, which is ranked directly after the texts' length;
+-- absent, cohort.kv and contig.kv are empty texts
+unfoldable pub looksFiles : Checked (Option (List ℕ)) → Checked (Option (List ℕ)) → Checked (Option (List ℕ)) → Checked (Option (List ℕ)) → Checked ℕ
+looksFiles cohort clip reference asked = do
+  c ← cohort
+  l ← clip
+  r ← reference
+  a ← asked
+  contig ← askedContig (Option·getD a [])
+  looksOf (record { cohort = Option·getD c []; clip = l; reference = r }) programScratch contig
+
+-- what the program prints of them: `looks=` and the figure, or `refused=` and the number
+unfoldable pub printedLooks : Checked ℕ → List ℕ
+printedLooks (refused n) = line "refused" (decimal n)
+printedLooks (accepted figure) = line "looks" (decimal figure)
+
+-- `looks`, by the contents of its four files, each `none` if it is absent
+unfoldable pub looksProgram : Option (List ℕ) → Option (List ℕ) → Option (List ℕ) → Option (List ℕ) → List ℕ
+looksProgram cohort clip reference asked = printedLooks (looksFiles (fileText cohort) (fileText clip) (fileText reference) (fileText asked))

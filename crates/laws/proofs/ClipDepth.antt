@@ -15,8 +15,8 @@ use Rattle.definitions.specs.Cohort.{Site}
 use Rattle.definitions.specs.Intervals.{breakpoints, inClip, siteBreakpoints, sitesOn, spanBreakpoints, spansOn}
 use Rattle.definitions.specs.Lists.{anyOf, ascending, filterBy, isThere}
 use Rattle.laws.proofs.Every.{Every, IfThere, Pairwise, also, every-both, every-filter, every-map, every-member, every-of, nothing}
-use Rattle.laws.proofs.Members.{_∈_, filter-none, filter-same, flatMap-member}
-use Rattle.laws.proofs.Orders.{ascending-member, compare-eq}
+use Rattle.laws.proofs.Members.{_∈_, filter-few, filter-none, filter-same, flatMap-member}
+use Rattle.laws.proofs.Orders.{ascending-member, ascending-numbers, compare-eq}
 use Rattle.laws.proofs.SoundInput.{SoundSpan}
 use Rattle.laws.proofs.Tests.{bool-ext}
 use Rattle.laws.proofs.Windows.{next-later, next-least}
@@ -180,6 +180,15 @@ module _ {all : List ℕ} (sorted : Pairwise _<_ all) {spans : List Span} (bound
       (omega (arith, depth-step past b l next whole, depth-before past before), none-ends)
 
 -- ---- the clip
+
+-- no more spans cover a position than there are
+pub depth-few : (spans : List Span) (p : ℕ) → depth spans p ≤ length spans
+unfolding depth
+depth-few spans p = filter-few (covers p) spans
+
+pub breakpoints-ascend : (sites : List Site) (clip : Option (List Span)) (contig : List ℕ) → Pairwise _<_ (breakpoints sites clip contig)
+unfolding breakpoints
+breakpoints-ascend sites clip contig = ascending-numbers _
 
 -- the bounds of spans are among all breakpoints
 pub spans-bounded : (bs : List ℕ) (spans : List Span) → Bounded (ascending compare (bs ++ flatMap spanBreakpoints spans)) spans

@@ -20,7 +20,7 @@ use Rattle.laws.proofs.Orders.{ascending-member, compare-eq, member-asc
 use Rattle.laws.proofs.Places.{join-ascends, join-sorted, joinFrom, joinPlaces, low-append, lowAt, lowPart, low-part-at, low-place, noChange, placeAt, places, places-again, places-filter, places-places, places-positions, places-same, position, position-at, weight, weights, weights-append, weights-places}
 use Rattle.laws.proofs.Sorted.{insert, sorted}
 use Rattle.laws.proofs.Tests.{both, both-of}
-use Rattle.laws.proofs.Windows.{window, window-step, within}
+use Rattle.laws.proofs.Windows.{window, window-step, windowEnd, within}
 
 -- what a clip span gives: a place where the depth goes up, and behind its end one where it goes down
 unfoldable pub spanPlaces : Span → List ℕ
@@ -181,6 +181,31 @@ module _ {all : List ℕ} (ordered : Pairwise _<_ all) {spans : List Span} (boun
           let (next, rest) = window-step ordered past limit b w q in
           let deep = depth-by-place past b (filterBy (ltb b) all) next in
           record { next = rw at next; rest = rw at (sym behind ∙ ap (map (placeOf spans)) rest); deeper = rw (at, ← first) deep }
+
+-- where a window ends, from its places
+module _ {all : List ℕ} (ordered : Pairwise _<_ all) (spans : List Span) (light : 2 * length spans < noChange) (past limit : ℕ) where
+  -- past the first place it is the same
+  pub end-later : (e : ℕ) (es : List ℕ) → map (placeOf spans) (window past limit all) ≡ e ∷ es
+      → windowEnd (position e) (window (position e) limit all) ≡ windowEnd past (window past limit all)
+  unfolding windowEnd
+  end-later e es stored = go (window past limit all) refl stored
+    where
+      go : (w : List ℕ) → window past limit all ≡ w → map (placeOf spans) w ≡ e ∷ es
+          → windowEnd (position e) (window (position e) limit all) ≡ windowEnd past w
+      go [] q k = absurd (omega (arith, ap length k))
+      go (b ∷ w) q k =
+          let first : placeOf spans b ≡ e = cc in
+          let at : position e ≡ b = ap (λ (e : ℕ). position e) (sym first) ∙ position-of-place spans light b in
+          ap (λ (p : ℕ). windowEnd p (window p limit all)) at ∙ ap (windowEnd b) (sym (window-step ordered past limit b w q .1))
+
+  -- without places it is where the window begins
+  pub end-here : map (placeOf spans) (window past limit all) ≡ [] → past ≡ windowEnd past (window past limit all)
+  unfolding windowEnd
+  end-here stored = go (window past limit all) stored
+    where
+      go : (w : List ℕ) → map (placeOf spans) w ≡ [] → past ≡ windowEnd past w
+      go [] k = refl
+      go (b ∷ w) k = absurd (omega (arith, ap length k))
 
 -- ---- one filling
 

@@ -4,7 +4,6 @@ use Prim.Native.Nat.{_≤_, ℕ}
 use borrow.Author.Tests.{le-leb}
 use lib.Dec.{leb}
 use lib.ListN.{length}
-use mathlib.Core.Bool.{Bool, false, true}
 use mathlib.Core.List.{List, List·Memᴰ·head, [], _∷_, flatten, map, map-congr-left}
 use mathlib.Core.Path.{_∙_, _≡_, ap, refl, sym}
 use native.Mathlib.Decide.{decLe}
@@ -18,7 +17,7 @@ use Rattle.definitions.specs.Lists.{ascending}
 use Rattle.definitions.specs.Printed.{printedList}
 use Rattle.definitions.specs.Records.{Record}
 use Rattle.laws.proofs.Bytes.{bytes-eq}
-use Rattle.laws.proofs.Checked.{not-refused, not-required, required, then, then-refused}
+use Rattle.laws.proofs.Checked.{not-refused, not-required, refused-back, required, then, then-refused, within-refused}
 use Rattle.laws.proofs.Members.{at-member}
 use Rattle.laws.proofs.Orders.{ascending-member}
 use Rattle.laws.proofs.RefusalNumbers.{input-numbered, numbered, placed-numbered}
@@ -79,23 +78,12 @@ row-ten-records t places x read e =
     none (no h) = omega arith
 
 pub row-ten : (t : Texts) (places room : ℕ) → combinedList t places room ≡ refused 10 → NoPlace t places
-unfolding combinedList listOf within _>>=_ _>>_ require
-row-ten t places room e = read (inputOf t) refl e
-  where
-    length-refused : (b : Bool) (list : List ℕ) → (require 14 b >> accepted list) ≡ refused 10 → NoPlace t places
-    length-refused true list k = not-refused (sym k)
-    length-refused false list k = let z : _≡_ {A = ℕ} 14 10 = cc in absurd (omega arith)
-
-    combined : (x : Input) → inputOf t ≡ accepted x → (c : Checked (List Record)) → combinedRecords x places ≡ c
-        → (c >>= (λ records. accepted (printedList (x .cohort .names) records)) >>= λ list. within room list) ≡ refused 10
-        → NoPlace t places
-    combined x p (refused n) q k = let ten : n ≡ 10 = cc in row-ten-records t places x p (rw ten at q)
-    combined x p (accepted rs) q k = length-refused (leb (length (printedList (x .cohort .names) rs)) room) _ k
-
-    read : (m : Checked Input) → inputOf t ≡ m → (m >>= λ x. listOf x places >>= λ list. within room list) ≡ refused 10
-        → NoPlace t places
-    read (refused n) p k = let ten : n ≡ 10 = cc in absurd (omega (arith, numbered (input-numbered t) n p .1))
-    read (accepted x) p k = combined x p (combinedRecords x places) refl k
+unfolding combinedList listOf
+row-ten t places room e =
+    refused-back (inputOf t) _ e (λ p. absurd (omega (arith, numbered (input-numbered t) 10 p .1))) λ x p e.
+    refused-back _ _ e
+    (λ e. refused-back (combinedRecords x places) _ e (row-ten-records t places x p) (λ rs q e. not-refused (sym e)))
+    (λ list q e. absurd (omega (arith, within-refused room list e)))
 
 all-refused : {A B : Type 0} (f : A → Checked B) (n : ℕ) (l : List A) → 1 ≤ length l → ((a : A) → f a ≡ refused n)
     → inOrder (map f l) ≡ refused n

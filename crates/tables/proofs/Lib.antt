@@ -1,4 +1,5 @@
 pub mod Cleared
+pub mod ContigNumbers
 pub mod NumberLists
 pub mod Parts
 pub mod SameContig

@@ -1,11 +1,11 @@
 -- What walking over a contig's breakpoints, a window at a time, is lent and leaves.
-use Prim.Native.Nat.{_*_, _+_, _<_, _≤_, ℕ}
+use Prim.Native.Nat.{_+_, ℕ}
 use lib.ListN.{getD, length, take}
 use mathlib.Core.Bool.{Bool}
-use mathlib.Core.List.{List, _++_, flatMap, map}
+use mathlib.Core.List.{List, _++_, flatMap}
 use mathlib.Core.Option.{Option}
 use mathlib.Core.Path.{_≡_}
-use Rattle.breakpoint_windows.specs.Breakpoints.{RowInRange, allBreakpoints, spansOf}
+use Rattle.breakpoint_windows.specs.Contig.{ContigBreakpoints, ContigWindow}
 use Rattle.coalescing.specs.Held.{Holds}
 use Rattle.coalescing.specs.Steps.{Progress}
 use Rattle.contig_walk.specs.Laying.{TurnRoom}
@@ -13,17 +13,11 @@ use Rattle.contig_walk.specs.Walk.{RecordsRefused}
 use Rattle.covering_sites.specs.Ended.{Ended}
 use Rattle.definitions.specs.CombinedList.{Input}
 use Rattle.definitions.specs.Intervals.{spansOn}
-use Rattle.definitions.specs.Limits.{maxTextLength}
-use Rattle.definitions.specs.Lists.{isThere}
 use Rattle.definitions.specs.Printed.{printedRecord}
 use Rattle.definitions.specs.Records.{Record}
 use Rattle.laws.proofs.ClipDepth.{depth}
-use Rattle.laws.proofs.Every.{Every}
-use Rattle.laws.proofs.Fillings.{placeOf}
-use Rattle.laws.proofs.Places.{noChange}
-use Rattle.laws.proofs.Windows.{window}
 use Rattle.merged_records.specs.Loaded.{ContigRuns}
-use Rattle.record_laws.proofs.Walking.{points, recordsPast}
+use Rattle.record_laws.proofs.Walking.{recordsPast}
 use Rattle.record_laws.specs.Pending.{finish, mergedContig}
 use Rattle.window_walk.specs.declared.Along.{Along}
 use Rattle.window_walk.specs.declared.Reached.{Reached}
@@ -66,10 +60,7 @@ WalkedTo x s rows samples reference contig chosen bounds from d₀ bytes records
 pub record WindowReady (s rows : List ℕ) (samples : ℕ) (clipped referenced : Bool) (reference contig chosen from bounds places : List ℕ) (past : ℕ)
     (held fresh found owners alts : List ℕ) : Type 0 where
   pub runs : ContigRuns s rows samples referenced reference contig chosen bounds
-  pub clip-there : clipped ≡ isThere (runs .on .loaded .input .clip)
-  pub few-spans : 2 * length (spansOn contig (runs .on .loaded .input .clip)) < noChange
-  pub limit : ℕ
-  pub stored : places ≡ map (placeOf (spansOn contig (runs .on .loaded .input .clip))) (window past limit (points (runs .on .loaded .input) contig))
+  pub window : ContigWindow (runs .on .loaded .input) clipped contig places past
   pub ended : Ended rows chosen bounds from samples past
   pub room : TurnRoom samples held fresh found owners alts
 
@@ -77,12 +68,8 @@ pub record WindowReady (s rows : List ℕ) (samples : ℕ) (clipped referenced :
 abbrev pub numbersIn : ℕ → List ℕ → List ℕ → List ℕ
 numbersIn samples chosen bounds = take (getD bounds samples 0) chosen
 
--- what the walk over a contig is lent: its sites in runs, and the clip text, which gives the input's spans on the contig
+-- what the walk over a contig is lent: its sites in runs, and the clip text, which give its breakpoints
 pub record WindowsReady (s rows : List ℕ) (samples : ℕ) (clipped : Bool) (clip : List ℕ) (referenced : Bool)
     (reference contig chosen bounds : List ℕ) : Type 0 where
   pub runs : ContigRuns s rows samples referenced reference contig chosen bounds
-  pub clip-there : clipped ≡ isThere (runs .on .loaded .input .clip)
-  pub spans-are : spansOf clip contig ≡ spansOn contig (runs .on .loaded .input .clip)
-  pub short : length clip ≤ maxTextLength
-  pub rows-in-range : Every (RowInRange rows) (numbersIn samples chosen bounds)
-  pub all-places : allBreakpoints rows (numbersIn samples chosen bounds) (spansOf clip contig) ≡ points (runs .on .loaded .input) contig
+  pub points : ContigBreakpoints (runs .on .loaded .input) rows (numbersIn samples chosen bounds) clipped clip contig

@@ -3,9 +3,8 @@ ghost use lib.ListN.{length};
 ghost use mathlib.Core.List.{List, _∷_};
 ghost use mathlib.Core.Path.{_≡_};
 ghost use Prim.Native.Nat.{_≤_, _/_, ℕ};
+ghost use Rattle.breakpoint_windows.specs.Contig.{contigWindowEnd};
 ghost use Rattle.contig_walk.specs.Walk.{Begun, RecordsWalked, WalkRoom};
-ghost use Rattle.laws.proofs.Windows.{window, windowEnd};
-ghost use Rattle.record_laws.proofs.Walking.{points};
 ghost use Rattle.record_laws.specs.Pending.{mergedContig};
 ghost use Rattle.window_walk.specs.Windows.{Carrying, WalkedTo, WindowReady, WindowsReady};
 use bio_ids::GenomeLoc;
@@ -128,7 +127,7 @@ fn walk_window<'a>(
     ensures { λ r. ⌜ ((ready : WindowReady (now (s .entry)) (now (rows .entry)) samples clipped referenced (now (reference .entry)) (now (contig .entry)) (now (chosen .entry)) (now (from .entry)) (now (bounds .entry)) (now (places .entry)) (start .past) (now (held .entry)) (now (fresh .entry)) (now (found .entry)) (now (owners .entry)) (now (alts .entry)))
         (way : Carrying (ready .runs .on .loaded .input) (now (s .entry)) (now (rows .entry)) samples (now (reference .entry)) (now (contig .entry)) (now (held .entry)) (now (out .entry)) start)
         → WalkedTo (ready .runs .on .loaded .input) (now (s .entry)) (now (rows .entry)) samples (now (reference .entry)) (now (contig .entry)) (now (chosen .entry)) (now (bounds .entry)) (now (from .exit)) (way .d₀) (way .bytes) (way .records) (now (held .exit)) (now (out .exit))
-        (windowEnd (start .past) (window (start .past) (ready .limit) (points (ready .runs .on .loaded .input) (now (contig .entry))))) r) ⌝ }
+        (contigWindowEnd (ready .runs .on .loaded .input) (now (contig .entry)) (start .past) (ready .window .limit)) r) ⌝ }
 {
     let mut along = start;
     for k in 0..places.len() {

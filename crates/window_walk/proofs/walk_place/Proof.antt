@@ -1,9 +1,10 @@
 -- By whether there is an interval to walk, then by its turn.
 use borrow.Author.Needs.{needs}
 use borrow.Author.Tests.{not-false, not-true}
-use mathlib.Core.Path.{_∙_, refl, sym}
+use mathlib.Core.Path.{_∙_, sym}
 use native.Mathlib.Omega.{arith}
-use Rattle.window_walk.proofs.OnePlace.{depth-from, depth-sum, goes-on, turn-ready, underway, walked-on, walked-past, walked-refused}
+use Rattle.breakpoint_windows.proofs.ContigWindows.{depth-from, depth-sum, goes-on}
+use Rattle.window_walk.proofs.OnePlace.{turn-ready, underway, walked-on, walked-past, walked-refused}
 use Rattle.window_walk.proofs.walk_place.Statement.{statement}
 use Rattle.window_walk.proofs.walk_place.Tie as tie
 use Rattle.bio_ids.proofs.GenomeLoc.new.Reads as new-reads
@@ -15,12 +16,12 @@ use Rattle.breakpoint_windows.proofs.has_interval.Reads as has-interval-reads
 add-depth : tie.Need-add-depth
 add-depth c =
     let (rest, ready, way) = c .before .before .before .before .before .before .before .before .before .before .before .before .before .before .before .pre in
-    omega (arith, depth-sum ready refl way)
+    omega (arith, depth-sum (ready .window) (way .carried .deep))
 
 sub-depth : tie.Need-sub-depth
 sub-depth c =
     let (rest, ready, way) = c .before .before .before .before .before .before .before .before .before .before .before .before .before .before .before .pre in
-    depth-from ready refl way
+    depth-from (ready .window) (way .carried .deep)
 
 has-interval-requires : tie.Need-has-interval-requires
 has-interval-requires c κs = search needs
@@ -28,7 +29,7 @@ has-interval-requires c κs = search needs
 returns : tie.Need-returns
 returns c = λ rest ready way.
     let test = c .before .has-interval .ensures in
-    walked-past ready refl way (sym test ∙ not-true _ (c .if1 .taken))
+    walked-past ready way (sym test ∙ not-true _ (c .if1 .taken))
 
 new-1based-requires : tie.Need-new-1based-requires
 new-1based-requires c κs = search needs
@@ -36,8 +37,10 @@ new-1based-requires c κs = search needs
 sub-new-1based : tie.Need-sub-new-1based
 sub-new-1based c =
     let at-test = c .before in
-    let (rest, ready, way) = at-test .before .before .before .before .before .before .before .before .before .before .before .before .before .before .before .before .before .pre in
-    omega (arith, goes-on ready)
+    let at-depth = at-test .before .before in
+    let start = at-depth .before .before .before .before .before .before .before .before .before .before .before .before .before .before .before in
+    let (rest, ready, way) = start .pre in
+    omega (arith, goes-on (ready .window))
 
 new-1based-requires-2 : tie.Need-new-1based-requires-2
 new-1based-requires-2 c κs = search needs
@@ -48,7 +51,9 @@ new-requires c κs = search needs
 skip-ended-requires : tie.Need-skip-ended-requires
 skip-ended-requires c κs =
     let at-test = c .before .before .before .before in
-    let (rest, ready, way) = at-test .before .before .before .before .before .before .before .before .before .before .before .before .before .before .before .before .before .pre in
+    let at-depth = at-test .before .before in
+    let start = at-depth .before .before .before .before .before .before .before .before .before .before .before .before .before .before .before in
+    let (rest, ready, way) = start .pre in
     (ready .runs .in-runs .bounded, ready .ended .long)
 
 walk-interval-requires : tie.Need-walk-interval-requires
@@ -60,8 +65,10 @@ walk-interval-requires c κs =
     let last = loc .1 ∙ at-last .new-1based2 .ensures in
     let at-test = at-last .before .before in
     let test = sym (at-test .before .has-interval .ensures) ∙ not-false _ (at-test .if1 .left) in
-    let (rest, ready, way) = at-test .before .before .before .before .before .before .before .before .before .before .before .before .before .before .before .before .before .pre in
-    (turn-ready ready refl way test _ _ first last (at-skip .skip-ended .ensures), underway ready refl way)
+    let at-depth = at-test .before .before in
+    let start = at-depth .before .before .before .before .before .before .before .before .before .before .before .before .before .before .before in
+    let (rest, ready, way) = start .pre in
+    (turn-ready ready way test _ _ first last (at-skip .skip-ended .ensures), underway ready way)
 
 enum-known-turn : tie.Need-enum-known-turn
 enum-known-turn c = search needs
@@ -102,8 +109,8 @@ returns-2 c = λ rest ready way.
     let at-test = at-last .before .before in
     let test = sym (at-test .before .has-interval .ensures) ∙ not-false _ (at-test .if1 .left) in
     let searched = at-skip .skip-ended .ensures in
-    let turned = at-walk .walk-interval .ensures (turn-ready ready refl way test _ _ first last searched) (underway ready refl way) in
-    walked-refused ready refl way test _ _ first last searched _ _ _ (rw (c .before .turn .given .1) at turned)
+    let turned = at-walk .walk-interval .ensures (turn-ready ready way test _ _ first last searched) (underway ready way) in
+    walked-refused ready way test _ _ first last searched _ _ _ (rw (c .before .turn .given .1) at turned)
 
 same-length-8 : tie.Need-same-length-8
 same-length-8 c = search needs
@@ -138,8 +145,8 @@ returns-3 c = λ rest ready way.
     let at-test = at-last .before .before in
     let test = sym (at-test .before .has-interval .ensures) ∙ not-false _ (at-test .if1 .left) in
     let searched = at-skip .skip-ended .ensures in
-    let turned = at-walk .walk-interval .ensures (turn-ready ready refl way test _ _ first last searched) (underway ready refl way) in
-    walked-on ready refl way test _ _ first last searched _ _ _ (rw (c .before .turn2 .given .1) at turned)
+    let turned = at-walk .walk-interval .ensures (turn-ready ready way test _ _ first last searched) (underway ready way) in
+    walked-on ready way test _ _ first last searched _ _ _ (rw (c .before .turn2 .given .1) at turned)
 
 pub walk-place-spec : {M : Type 1} → statement M
 walk-place-spec =

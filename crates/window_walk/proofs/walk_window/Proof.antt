@@ -13,7 +13,8 @@ use Rattle.window_walk.specs.declared.Along.{Along}
 use Rattle.window_walk.proofs.walk_window.Statement.{statement}
 use Rattle.window_walk.proofs.walk_window.Tie as tie
 
-record Inv (s rows : List ℕ) (samples : ℕ) (clipped referenced : Bool) (reference contig chosen from₀ bounds places held₀ fresh₀ found₀ owners₀ alts₀ out₀ : List ℕ)
+record Inv (s rows : List ℕ) (samples : ℕ) (clipped referenced : Bool)
+    (reference contig chosen from₀ bounds places held₀ fresh₀ found₀ owners₀ alts₀ out₀ : List ℕ)
     (along₀ : Along) (from held fresh found owners alts out : List ℕ) (along : Along) (k : ℕ) : Type 0 where
   from-long : length from ≡ length from₀
   held-long : length held ≡ length held₀
@@ -24,20 +25,25 @@ record Inv (s rows : List ℕ) (samples : ℕ) (clipped referenced : Bool) (refe
   out-long : length out ≡ length out₀
   way : (ready : WindowReady s rows samples clipped referenced reference contig chosen from₀ bounds places (along₀ .past) held₀ fresh₀ found₀ owners₀ alts₀)
       (way : Carrying (ready .runs .on .loaded .input) s rows samples reference contig held₀ out₀ along₀)
-      → Through ready (way .d₀) (way .bytes) (way .records) from held out along k
+      → Through ready way from held out along k
 
-module _ {s rows : List ℕ} {samples : ℕ} {clipped referenced : Bool} {reference contig chosen from₀ bounds places held₀ fresh₀ found₀ owners₀ alts₀ out₀ : List ℕ}
+module _ {s rows : List ℕ} {samples : ℕ} {clipped referenced : Bool}
+    {reference contig chosen from₀ bounds places held₀ fresh₀ found₀ owners₀ alts₀ out₀ : List ℕ}
     {along₀ : Along} {from held fresh found owners alts out : List ℕ} {along : Along} {k : ℕ}
-    (inv : Inv s rows samples clipped referenced reference contig chosen from₀ bounds places held₀ fresh₀ found₀ owners₀ alts₀ out₀ along₀ from held fresh found owners alts out along k) where
+    (inv : Inv s rows samples clipped referenced reference contig chosen from₀ bounds places held₀ fresh₀ found₀ owners₀ alts₀ out₀ along₀
+    from held fresh found owners alts out along k) where
   room-here : TurnRoom samples held₀ fresh₀ found₀ owners₀ alts₀ → TurnRoom samples held fresh found owners alts
   room-here r = same-room r (inv .held-long) (inv .fresh-long) (inv .found-long) (inv .owners-long) (inv .alts-long)
 
 abbrev Inv-loop : tie.InvT-loop
-Inv-loop s rows samples clipped referenced reference contig chosen from₀ bounds places held₀ fresh₀ found₀ owners₀ alts₀ out₀ along₀ k₀ k-end from held fresh found owners alts out along k =
-    Inv s rows samples clipped referenced reference contig chosen from₀ bounds places held₀ fresh₀ found₀ owners₀ alts₀ out₀ along₀ from held fresh found owners alts out along k
+Inv-loop s rows samples clipped referenced reference contig chosen from₀ bounds places held₀ fresh₀ found₀ owners₀ alts₀ out₀ along₀ k₀ k-end
+    from held fresh found owners alts out along k =
+    Inv s rows samples clipped referenced reference contig chosen from₀ bounds places held₀ fresh₀ found₀ owners₀ alts₀ out₀ along₀
+    from held fresh found owners alts out along k
 
 abbrev μ-loop : tie.MeasureT-loop
-μ-loop s rows samples clipped referenced reference contig chosen from₀ bounds places held₀ fresh₀ found₀ owners₀ alts₀ out₀ along₀ k₀ k-end from held fresh found owners alts out along k = length places - k
+μ-loop s rows samples clipped referenced reference contig chosen from₀ bounds places held₀ fresh₀ found₀ owners₀ alts₀ out₀ along₀ k₀ k-end
+    from held fresh found owners alts out along k = length places - k
 
 loop-holds : tie.Need-loop-holds Inv-loop μ-loop
 loop-holds c =
@@ -49,7 +55,7 @@ loop-holds c =
       owners-long = refl;
       alts-long = refl;
       out-long = refl;
-      way = λ ready way. through-start ready (way .d₀) (way .bytes) (way .records) refl (way .carried);
+      way = λ ready way. through-start ready way;
     }
 
 mul-place : tie.Need-mul-place Inv-loop μ-loop
@@ -61,13 +67,12 @@ shared-slice-read-place c = search needs
 walk-place-requires : tie.Need-walk-place-requires Inv-loop μ-loop
 unfolding place-ready
 walk-place-requires c κs =
-    let at-loop = c .before .before .before .before .before .before .before .before .before in
-    let (ready, way) = at-loop .before .before .before .before .before .before .before .before .before .before .before .before .before .before .before .pre in
-    let t = at-loop .loop .inv .way ready way in (
-      _,
-      place-ready ready (way .d₀) (way .bytes) (way .records) t (c .before .before .before .before .before .before .before .before .loop-test .taken) (room-here (at-loop .loop .inv) (ready .room)),
-      carrying ready (way .d₀) (way .bytes) (way .records) t,
-    )
+    let at-loop-test = c .before .before .before .before .before .before .before .before in
+    let inv = at-loop-test .before .loop .inv in
+    let start = at-loop-test .before .before .before .before .before .before .before .before .before .before .before .before .before .before .before .before in
+    let (ready, way) = start .pre in
+    let t = inv .way ready way in
+    (_, place-ready ready way t (at-loop-test .loop-test .taken) (room-here inv (ready .room)), carrying ready way t)
 
 enum-known-turn : tie.Need-enum-known-turn Inv-loop μ-loop
 enum-known-turn c = search needs
@@ -75,47 +80,55 @@ enum-known-turn c = search needs
 same-length : tie.Need-same-length Inv-loop μ-loop
 same-length c =
     let at-walk = c .before .before .before .before .before .before .before .before .before .before .before .before .before .before .before .before .before in
-    at-walk .walk-place .kept .1 .1 .1 .1 .1 .1 .1 .1 .0 ∙ at-walk .before .before .before .before .before .before .before .before .before .before .loop .inv .from-long
+    let at-loop = at-walk .before .before .before .before .before .before .before .before .before .before in
+    at-walk .walk-place .kept .1 .1 .1 .1 .1 .1 .1 .1 .0 ∙ at-loop .loop .inv .from-long
 
 same-length-2 : tie.Need-same-length-2 Inv-loop μ-loop
 same-length-2 c =
     let at-walk = c .before .before .before .before .before .before .before .before .before .before .before .before .before .before .before .before .before in
-    at-walk .walk-place .kept .1 .1 .1 .1 .1 .1 .1 .1 .1 .1 .1 .1 .0 ∙ at-walk .before .before .before .before .before .before .before .before .before .before .loop .inv .held-long
+    let at-loop = at-walk .before .before .before .before .before .before .before .before .before .before in
+    at-walk .walk-place .kept .1 .1 .1 .1 .1 .1 .1 .1 .1 .1 .1 .1 .0 ∙ at-loop .loop .inv .held-long
 
 same-length-3 : tie.Need-same-length-3 Inv-loop μ-loop
 same-length-3 c =
     let at-walk = c .before .before .before .before .before .before .before .before .before .before .before .before .before .before .before .before .before in
-    at-walk .walk-place .kept .1 .1 .1 .1 .1 .1 .1 .1 .1 .1 .1 .1 .1 .0 ∙ at-walk .before .before .before .before .before .before .before .before .before .before .loop .inv .fresh-long
+    let at-loop = at-walk .before .before .before .before .before .before .before .before .before .before in
+    at-walk .walk-place .kept .1 .1 .1 .1 .1 .1 .1 .1 .1 .1 .1 .1 .1 .0 ∙ at-loop .loop .inv .fresh-long
 
 same-length-4 : tie.Need-same-length-4 Inv-loop μ-loop
 same-length-4 c =
     let at-walk = c .before .before .before .before .before .before .before .before .before .before .before .before .before .before .before .before .before in
-    at-walk .walk-place .kept .1 .1 .1 .1 .1 .1 .1 .1 .1 .1 .1 .1 .1 .1 .0 ∙ at-walk .before .before .before .before .before .before .before .before .before .before .loop .inv .found-long
+    let at-loop = at-walk .before .before .before .before .before .before .before .before .before .before in
+    at-walk .walk-place .kept .1 .1 .1 .1 .1 .1 .1 .1 .1 .1 .1 .1 .1 .1 .0 ∙ at-loop .loop .inv .found-long
 
 same-length-5 : tie.Need-same-length-5 Inv-loop μ-loop
 same-length-5 c =
     let at-walk = c .before .before .before .before .before .before .before .before .before .before .before .before .before .before .before .before .before in
-    at-walk .walk-place .kept .1 .1 .1 .1 .1 .1 .1 .1 .1 .1 .1 .1 .1 .1 .1 .0 ∙ at-walk .before .before .before .before .before .before .before .before .before .before .loop .inv .owners-long
+    let at-loop = at-walk .before .before .before .before .before .before .before .before .before .before in
+    at-walk .walk-place .kept .1 .1 .1 .1 .1 .1 .1 .1 .1 .1 .1 .1 .1 .1 .1 .0 ∙ at-loop .loop .inv .owners-long
 
 same-length-6 : tie.Need-same-length-6 Inv-loop μ-loop
 same-length-6 c =
     let at-walk = c .before .before .before .before .before .before .before .before .before .before .before .before .before .before .before .before .before in
-    at-walk .walk-place .kept .1 .1 .1 .1 .1 .1 .1 .1 .1 .1 .1 .1 .1 .1 .1 .1 .0 ∙ at-walk .before .before .before .before .before .before .before .before .before .before .loop .inv .alts-long
+    let at-loop = at-walk .before .before .before .before .before .before .before .before .before .before in
+    at-walk .walk-place .kept .1 .1 .1 .1 .1 .1 .1 .1 .1 .1 .1 .1 .1 .1 .1 .1 .0 ∙ at-loop .loop .inv .alts-long
 
 same-length-7 : tie.Need-same-length-7 Inv-loop μ-loop
 same-length-7 c =
     let at-walk = c .before .before .before .before .before .before .before .before .before .before .before .before .before .before .before .before .before in
-    at-walk .walk-place .kept .1 .1 .1 .1 .1 .1 .1 .1 .1 .1 .1 .1 .1 .1 .1 .1 .1 .0 ∙ at-walk .before .before .before .before .before .before .before .before .before .before .loop .inv .out-long
+    let at-loop = at-walk .before .before .before .before .before .before .before .before .before .before in
+    at-walk .walk-place .kept .1 .1 .1 .1 .1 .1 .1 .1 .1 .1 .1 .1 .1 .1 .1 .1 .1 .0 ∙ at-loop .loop .inv .out-long
 
 returns : tie.Need-returns Inv-loop μ-loop
 unfolding place-ready carrying WalkedTo
 returns c = λ ready way.
     let at-walk = c .before .before .before .before .before .before .before .before .before .before .before .before .before .before .before .before .before in
-    let inv = at-walk .before .before .before .before .before .before .before .before .before .before .loop .inv in
-    let more = at-walk .before .before .before .before .before .before .before .before .before .loop-test .taken in
+    let at-loop-test = at-walk .before .before .before .before .before .before .before .before .before in
+    let inv = at-loop-test .before .loop .inv in
+    let more = at-loop-test .loop-test .taken in
     let t = inv .way ready way in
-    rw (c .before .turn .given .1) at (at-walk .walk-place .ensures _ (place-ready ready (way .d₀) (way .bytes) (way .records) t more (room-here inv (ready .room)))
-    (carrying ready (way .d₀) (way .bytes) (way .records) t))
+    rw (c .before .turn .given .1) at (at-walk .walk-place .ensures _ (place-ready ready way t more (room-here inv (ready .room)))
+    (carrying ready way t))
 
 enum-known-turn-2 : tie.Need-enum-known-turn-2 Inv-loop μ-loop
 enum-known-turn-2 c = search needs
@@ -123,8 +136,9 @@ enum-known-turn-2 c = search needs
 add-k : tie.Need-add-k Inv-loop μ-loop
 add-k c =
     let at-walk = c .before .before .before .before .before .before .before .before .before .before .before .before .before .before .before .before .before in
-    let at-loop = at-walk .before .before .before .before .before .before .before .before .before .before in
-    omega (arith, at-walk .before .before .before .before .before .before .before .before .before .loop-test .taken, at-loop .before .before .before .before .before .before .before .before .before .before .before .before .before .before .before .good)
+    let at-loop-test = at-walk .before .before .before .before .before .before .before .before .before in
+    let start = at-loop-test .before .before .before .before .before .before .before .before .before .before .before .before .before .before .before .before in
+    omega (arith, at-loop-test .loop-test .taken, start .good)
 
 loop-less : tie.Need-loop-less Inv-loop μ-loop
 loop-less c =
@@ -135,8 +149,9 @@ loop-again : tie.Need-loop-again Inv-loop μ-loop
 unfolding place-ready carrying WalkedTo
 loop-again c =
     let at-walk = c .before .before .before .before .before .before .before .before .before .before .before .before .before .before .before .before .before in
-    let inv = at-walk .before .before .before .before .before .before .before .before .before .before .loop .inv in
-    let more = at-walk .before .before .before .before .before .before .before .before .before .loop-test .taken in
+    let at-loop-test = at-walk .before .before .before .before .before .before .before .before .before in
+    let inv = at-loop-test .before .loop .inv in
+    let more = at-loop-test .loop-test .taken in
     record {
       from-long = at-walk .walk-place .kept .1 .1 .1 .1 .1 .1 .1 .1 .0 ∙ inv .from-long;
       held-long = at-walk .walk-place .kept .1 .1 .1 .1 .1 .1 .1 .1 .1 .1 .1 .1 .0 ∙ inv .held-long;
@@ -147,9 +162,9 @@ loop-again c =
       out-long = at-walk .walk-place .kept .1 .1 .1 .1 .1 .1 .1 .1 .1 .1 .1 .1 .1 .1 .1 .1 .1 .0 ∙ inv .out-long;
       way = λ ready way.
           let t = inv .way ready way in
-          through-next ready (way .d₀) (way .bytes) (way .records) t more (room-here inv (ready .room))
-          (rw (c .before .turn2 .given .1) at (at-walk .walk-place .ensures _ (place-ready ready (way .d₀) (way .bytes) (way .records) t more (room-here inv (ready .room)))
-          (carrying ready (way .d₀) (way .bytes) (way .records) t)));
+          through-next ready way t more
+          (rw (c .before .turn2 .given .1) at (at-walk .walk-place .ensures _ (place-ready ready way t more (room-here inv (ready .room)))
+          (carrying ready way t)));
     }
 
 same-length-8 : tie.Need-same-length-8 Inv-loop μ-loop
@@ -175,7 +190,7 @@ same-length-14 c = c .before .loop .inv .out-long
 
 returns-2 : tie.Need-returns-2 Inv-loop μ-loop
 unfolding WalkedTo
-returns-2 c = λ ready way. through-end ready (way .d₀) (way .bytes) (way .records) (c .before .loop .inv .way ready way) (c .loop-test .left)
+returns-2 c = λ ready way. through-end ready way (c .before .loop .inv .way ready way) (c .loop-test .left)
 
 pub walk-window-spec : {M : Type 1} → statement M
 walk-window-spec =

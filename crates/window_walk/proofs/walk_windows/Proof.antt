@@ -2,24 +2,27 @@
 use Prim.Native.Nat.{_+_, _≤_, ℕ}
 use borrow.Author.Needs.{needs}
 use lib.Dec.{ltb}
-use lib.ListN.{getD, length}
+use lib.ListN.{length}
 use mathlib.Core.Bool.{Bool, cond, false}
 use mathlib.Core.List.{List, []}
-use mathlib.Core.Path.{_∙_, _≡_, ap, refl}
+use mathlib.Core.Path.{_∙_, _≡_, refl}
 use native.Mathlib.Omega.{arith}
+use Rattle.breakpoint_windows.proofs.ContigWindows.{contig-window, fewer-left, none-left, stored-exactly, stored-within}
 use Rattle.breakpoint_windows.specs.Breakpoints.{allBreakpoints, spansOf}
 use Rattle.contig_walk.specs.Laying.{TurnRoom}
 use Rattle.contig_walk.specs.Walk.{Begun, RecordsWalked, WalkRoom}
 use Rattle.covering_sites.proofs.Ended.{ended-start}
 use Rattle.covering_sites.specs.Ended.{Ended}
 use Rattle.definitions.specs.Lists.{filterBy}
-use Rattle.window_walk.proofs.AllWindows.{carried-end, carried-start, end-fits, ends, fewer, in-order, none-left, numbers-exactly, numbers-within, stored-exactly, stored-within, window-ready}
-use Rattle.window_walk.specs.Windows.{Carried, WalkedTo, WindowsReady, numbersIn}
+use Rattle.window_walk.proofs.AllWindows.{carried-end, carried-start, numbers-exactly, window-ready}
+use Rattle.window_walk.proofs.OnePlace.{pending-fits}
+use Rattle.window_walk.specs.Windows.{Carried, Carrying, WalkedTo, WindowsReady, numbersIn}
 use Rattle.window_walk.specs.declared.Along.{Along}
 use Rattle.window_walk.proofs.walk_windows.Statement.{statement}
 use Rattle.window_walk.proofs.walk_windows.Tie as tie
 
-record Inv (s rows : List ℕ) (samples : ℕ) (clipped : Bool) (clip : List ℕ) (referenced : Bool) (reference contig chosen bounds scratch₀ held₀ fresh₀ alts₀ out₀ : List ℕ)
+record Inv (s rows : List ℕ) (samples : ℕ) (clipped : Bool) (clip : List ℕ) (referenced : Bool)
+    (reference contig chosen bounds scratch₀ held₀ fresh₀ alts₀ out₀ : List ℕ)
     (at count : ℕ) (scratch held fresh alts out found owners from : List ℕ) (along : Along) (more : Bool) : Type 0 where
   scratch-long : length scratch ≡ length scratch₀
   held-long : length held ≡ length held₀
@@ -34,9 +37,11 @@ record Inv (s rows : List ℕ) (samples : ℕ) (clipped : Bool) (clip : List ℕ
   way : (ready : WindowsReady s rows samples clipped clip referenced reference contig chosen bounds) (begun : Begun out₀ at count)
       → Carried (ready .runs .on .loaded .input) s rows samples reference contig (begun .d₀) (begun .bytes) (begun .records) held out along
 
-module _ {s rows : List ℕ} {samples : ℕ} {clipped : Bool} {clip : List ℕ} {referenced : Bool} {reference contig chosen bounds scratch₀ held₀ fresh₀ alts₀ out₀ : List ℕ}
+module _ {s rows : List ℕ} {samples : ℕ} {clipped : Bool} {clip : List ℕ} {referenced : Bool}
+    {reference contig chosen bounds scratch₀ held₀ fresh₀ alts₀ out₀ : List ℕ}
     {at count : ℕ} {scratch held fresh alts out found owners from : List ℕ} {along : Along} {more : Bool}
-    (inv : Inv s rows samples clipped clip referenced reference contig chosen bounds scratch₀ held₀ fresh₀ alts₀ out₀ at count scratch held fresh alts out found owners from along more) where
+    (inv : Inv s rows samples clipped clip referenced reference contig chosen bounds scratch₀ held₀ fresh₀ alts₀ out₀ at count
+    scratch held fresh alts out found owners from along more) where
   room-here : samples ≤ 64 → WalkRoom held₀ fresh₀ alts₀ → TurnRoom samples held fresh found owners alts
   room-here few r = record {
     for-held = omega (arith, inv .held-long, r .for-held);
@@ -48,12 +53,19 @@ module _ {s rows : List ℕ} {samples : ℕ} {clipped : Bool} {clip : List ℕ} 
     };
   }
 
+  abbrev carrying : (ready : WindowsReady s rows samples clipped clip referenced reference contig chosen bounds) → Begun out₀ at count
+      → Carrying (ready .runs .on .loaded .input) s rows samples reference contig held out along
+  carrying ready begun = record { d₀ = begun .d₀; bytes = begun .bytes; records = begun .records; carried = inv .way ready begun }
+
 abbrev Inv-loop : tie.InvT-loop
-Inv-loop s rows samples clipped clip referenced reference contig chosen bounds scratch₀ held₀ fresh₀ alts₀ out₀ at count found₀ owners₀ from₀ end along₀ more₀ scratch held fresh alts out found owners from along more =
-    Inv s rows samples clipped clip referenced reference contig chosen bounds scratch₀ held₀ fresh₀ alts₀ out₀ at count scratch held fresh alts out found owners from along more
+Inv-loop s rows samples clipped clip referenced reference contig chosen bounds scratch₀ held₀ fresh₀ alts₀ out₀ at count
+    found₀ owners₀ from₀ end along₀ more₀ scratch held fresh alts out found owners from along more =
+    Inv s rows samples clipped clip referenced reference contig chosen bounds scratch₀ held₀ fresh₀ alts₀ out₀ at count
+    scratch held fresh alts out found owners from along more
 
 abbrev μ-loop : tie.MeasureT-loop
-μ-loop s rows samples clipped clip referenced reference contig chosen bounds scratch₀ held₀ fresh₀ alts₀ out₀ at count found₀ owners₀ from₀ end along₀ more₀ scratch held fresh alts out found owners from along more =
+μ-loop s rows samples clipped clip referenced reference contig chosen bounds scratch₀ held₀ fresh₀ alts₀ out₀ at count
+    found₀ owners₀ from₀ end along₀ more₀ scratch held fresh alts out found owners from along more =
     length (filterBy (ltb (along .past)) (allBreakpoints rows (numbersIn samples chosen bounds) (spansOf clip contig))) + cond more 1 0
 
 slice-aggregate-start-search : tie.Need-slice-aggregate-start-search Inv-loop μ-loop
@@ -93,15 +105,18 @@ loop-holds c =
 
 slice-aggregate-next-breakpoints : tie.Need-slice-aggregate-next-breakpoints Inv-loop μ-loop
 slice-aggregate-next-breakpoints c =
-    let start = c .before .before .before .before .before .before .before .before .before .before .before .before .before .before .before .before .before .before .before in
+    let at-loop = c .before .before in
+    let at-search = at-loop .before .before .before in
+    let start = at-search .before .before .before .before .before .before .before .before .before .before .before .before .before .before in
     numbers-exactly (start .pre .0)
 
 next-breakpoints-requires : tie.Need-next-breakpoints-requires Inv-loop μ-loop
 next-breakpoints-requires c κs =
     let at-loop = c .before .before .before in
-    let start = at-loop .before .before .before .before .before .before .before .before .before .before .before .before .before .before .before .before .before in
+    let at-search = at-loop .before .before .before in
+    let start = at-search .before .before .before .before .before .before .before .before .before .before .before .before .before .before in
     let ready = start .pre .0 in
-    (omega (arith, at-loop .loop .inv .scratch-long, start .pre .3), (ready .rows-in-range, ready .short))
+    (omega (arith, at-loop .loop .inv .scratch-long, start .pre .3), (ready .points .rows-in-range, ready .points .short))
 
 slice-aggregate-walk-window : tie.Need-slice-aggregate-walk-window Inv-loop μ-loop
 slice-aggregate-walk-window c = search needs
@@ -127,13 +142,14 @@ unfolding window-ready
 walk-window-requires c κs =
     let at-next-breakpoints = c .before .before .before .before .before .before .before .before .before .before in
     let at-loop = at-next-breakpoints .before .before .before .before in
-    let start = at-loop .before .before .before .before .before .before .before .before .before .before .before .before .before .before .before .before .before in
+    let at-search = at-loop .before .before .before in
+    let start = at-search .before .before .before .before .before .before .before .before .before .before .before .before .before .before in
     let inv = at-loop .loop .inv in
     let ready = start .pre .0 in
     let begun = start .pre .1 in
     let room = room-here inv (ready .runs .on .loaded .few) (start .pre .2) in (
       window-ready ready (at-next-breakpoints .next-breakpoints .ensures) (inv .ended) room,
-      record { d₀ = begun .d₀; bytes = begun .bytes; records = begun .records; carried = inv .way ready begun },
+      carrying inv ready begun,
     )
 
 enum-known-turn : tie.Need-enum-known-turn Inv-loop μ-loop
@@ -141,7 +157,8 @@ enum-known-turn c = search needs
 
 same-length : tie.Need-same-length Inv-loop μ-loop
 same-length c =
-    let at-next-breakpoints = c .before .before .before .before .before .before .before .before .before .before .before .before .before .before .before .before .before .before .before .before .before .before .before .before .before in
+    let at-walk-window = c .before .before .before .before .before .before .before .before .before .before .before .before .before .before in
+    let at-next-breakpoints = at-walk-window .before .before .before .before .before .before .before .before .before .before .before in
     let at-loop = at-next-breakpoints .before .before .before .before in
     at-next-breakpoints .next-breakpoints .ensures .long ∙ at-loop .loop .inv .scratch-long
 
@@ -175,48 +192,51 @@ returns c =
     let at-walk-window = c .before .before .before .before .before .before .before .before .before .before .before .before .before .before in
     let at-next-breakpoints = at-walk-window .before .before .before .before .before .before .before .before .before .before .before in
     let at-loop = at-next-breakpoints .before .before .before .before in
-    let start = at-loop .before .before .before .before .before .before .before .before .before .before .before .before .before .before .before .before .before in
+    let at-search = at-loop .before .before .before in
+    let start = at-search .before .before .before .before .before .before .before .before .before .before .before .before .before .before in
     λ ready begun.
     let found = at-next-breakpoints .next-breakpoints .ensures in
     let inv = at-loop .loop .inv in
     rw (c .before .turn .given .1) at (at-walk-window .walk-window .ensures
     (window-ready ready found (inv .ended) (room-here inv (ready .runs .on .loaded .few) (start .pre .2)))
-    (record { d₀ = begun .d₀; bytes = begun .bytes; records = begun .records; carried = inv .way ready begun }))
+    (carrying inv ready begun))
 
 enum-known-turn-2 : tie.Need-enum-known-turn-2 Inv-loop μ-loop
 enum-known-turn-2 c = search needs
 
 loop-less : tie.Need-loop-less Inv-loop μ-loop
-unfolding window-ready WalkedTo
+unfolding window-ready contig-window WalkedTo
 loop-less c =
     let at-walk-window = c .before .before .before .before .before .before .before .before .before .before .before .before .before .before in
     let at-next-breakpoints = at-walk-window .before .before .before .before .before .before .before .before .before .before .before in
     let at-loop-test = at-next-breakpoints .before .before .before in
     let at-loop = at-loop-test .before in
-    let start = at-loop .before .before .before .before .before .before .before .before .before .before .before .before .before .before .before .before .before in
+    let at-search = at-loop .before .before .before in
+    let start = at-search .before .before .before .before .before .before .before .before .before .before .before .before .before .before in
     let found = at-next-breakpoints .next-breakpoints .ensures in
     let inv = at-loop .loop .inv in
     let ready = start .pre .0 in
     let begun = start .pre .1 in
     let walked = rw (c .before .turn2 .given .1) at (at-walk-window .walk-window .ensures
     (window-ready ready found (inv .ended) (room-here inv (ready .runs .on .loaded .few) (start .pre .2)))
-    (record { d₀ = begun .d₀; bytes = begun .bytes; records = begun .records; carried = inv .way ready begun })) in
-    fewer found (in-order ready) (ends ready found (walked .there)) (at-loop-test .loop-test .taken)
+    (carrying inv ready begun)) in
+    fewer-left (ready .points) found (walked .there) (at-loop-test .loop-test .taken)
 
 loop-again : tie.Need-loop-again Inv-loop μ-loop
-unfolding window-ready WalkedTo
+unfolding window-ready contig-window WalkedTo
 loop-again c =
     let at-walk-window = c .before .before .before .before .before .before .before .before .before .before .before .before .before .before in
     let at-next-breakpoints = at-walk-window .before .before .before .before .before .before .before .before .before .before .before in
     let at-loop = at-next-breakpoints .before .before .before .before in
-    let start = at-loop .before .before .before .before .before .before .before .before .before .before .before .before .before .before .before .before .before in
+    let at-search = at-loop .before .before .before in
+    let start = at-search .before .before .before .before .before .before .before .before .before .before .before .before .before .before in
     let found = at-next-breakpoints .next-breakpoints .ensures in
     let inv = at-loop .loop .inv in
     let ready = start .pre .0 in
     let begun = start .pre .1 in
     let walked = rw (c .before .turn2 .given .1) at (at-walk-window .walk-window .ensures
     (window-ready ready found (inv .ended) (room-here inv (ready .runs .on .loaded .few) (start .pre .2)))
-    (record { d₀ = begun .d₀; bytes = begun .bytes; records = begun .records; carried = inv .way ready begun })) in
+    (carrying inv ready begun)) in
     record {
       scratch-long = found .long ∙ inv .scratch-long;
       held-long = at-walk-window .walk-window .kept .1 .1 .1 .1 .1 .1 .1 .1 .1 .1 .1 .1 .0 ∙ inv .held-long;
@@ -227,17 +247,19 @@ loop-again c =
       owners-long = at-walk-window .walk-window .kept .1 .1 .1 .1 .1 .1 .1 .1 .1 .1 .1 .1 .1 .1 .1 .0 ∙ inv .owners-long;
       from-long = at-walk-window .walk-window .kept .1 .1 .1 .1 .1 .1 .1 .1 .0 ∙ inv .from-long;
       ended = walked .ended;
-      none-past = none-left found (in-order ready) (ends ready found (walked .there));
+      none-past = none-left (ready .points) found (walked .there);
       way = λ ready begun. (rw (c .before .turn2 .given .1) at (at-walk-window .walk-window .ensures
           (window-ready ready found (inv .ended) (room-here inv (ready .runs .on .loaded .few) (start .pre .2)))
-          (record { d₀ = begun .d₀; bytes = begun .bytes; records = begun .records; carried = inv .way ready begun }))) .carried;
+          (carrying inv ready begun))) .carried;
     }
 
 put-pending-requires : tie.Need-put-pending-requires Inv-loop μ-loop
 put-pending-requires c κs =
     let at-loop = c .before .before .before .before in
-    let start = at-loop .before .before .before .before .before .before .before .before .before .before .before .before .before .before .before .before .before in
-    end-fits (start .pre .0) (at-loop .loop .inv .way (start .pre .0) (start .pre .1))
+    let at-search = at-loop .before .before .before in
+    let start = at-search .before .before .before .before .before .before .before .before .before .before .before .before .before .before in
+    let ready = start .pre .0 in
+    pending-fits (ready .runs .on) (at-loop .loop .inv .way ready (start .pre .1))
 
 count-pending-requires : tie.Need-count-pending-requires Inv-loop μ-loop
 count-pending-requires c κs = search needs
