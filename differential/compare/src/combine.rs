@@ -3,6 +3,7 @@
 use crate::ours::{Call, Library};
 use oracle::cohort::Lent;
 use oracle::rng::{mix, Rng};
+use oracle::text::Rules;
 use oracle::{domain, generate, record};
 use std::path::Path;
 
@@ -118,6 +119,28 @@ pub fn lists(seed: u64, count: u64, folder: &Path) -> Result<String, String> {
         written += 1;
     }
     Ok(format!("{count} cohorts with their lists in {}\n", folder.display()))
+}
+
+/// Each recorded case with 0, 1, 2, B - 1, B and B + 1 places, B the breakpoints of its busiest contig: the recorded list; without
+/// places 10 if there is a site.
+pub fn recorded(folder: &Path) -> Result<String, String> {
+    let mut library = Library::new();
+    let cases = record::sorted_folders(&folder.join("combine"))?;
+    for case in &cases {
+        let lent = Lent::read(case, Rules::On)?;
+        let (texts, most) = (Texts::of(&lent), breakpoints(&lent));
+        let list = record::read_file(&case.join("combined.kv"))?.into_bytes();
+        for places in [0, 1, 2, most.max(1) - 1, most, most + 1] {
+            let expected = match places {
+                0 if !lent.cohort.sites.is_empty() => Err(10),
+                _ => Ok(list.clone()),
+            };
+            if library.combine(&texts.call(places, list.len())) != expected {
+                return Err(format!("{}: another answer with {places} places for {most}", case.display()));
+            }
+        }
+    }
+    Ok(format!("{} recorded cases, each with six numbers of places: no difference\n", cases.len()))
 }
 
 pub fn compare(seed: u64, count: u64) -> Result<String, String> {

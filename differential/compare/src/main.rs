@@ -6,6 +6,7 @@ use std::process::ExitCode;
 
 const USAGE: &str = "\
   compare combine SEED COUNT    COUNT cohorts of every sort through the Rust and through the library
+  compare recorded FOLDER       the recorded cohorts, each with 0, 1, 2, B - 1, B and B + 1 places
   compare lists SEED COUNT FOLDER
                                 COUNT cohorts with overlapping sites of a sample and the library's lists, into FOLDER, for model.py
   compare call SEED COUNT       COUNT combined lists: the called list
@@ -20,6 +21,7 @@ fn run(words: &[&str]) -> Result<String, String> {
     let number = |word: &str| word.parse::<u64>().map_err(|_| format!("`{word}` is not a number"));
     match *words {
         ["borders"] => borders::check(),
+        ["recorded", folder] => combine::recorded(Path::new(folder)),
         ["combine", seed, count] => combine::compare(number(seed)?, number(count)?),
         ["lists", seed, count, folder] => combine::lists(number(seed)?, number(count)?, Path::new(folder)),
         ["call", seed, count] => call::compare(number(seed)?, number(count)?),
