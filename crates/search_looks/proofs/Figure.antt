@@ -8,7 +8,7 @@ use mathlib.Core.List.{List, []}
 use mathlib.Core.Path.{_∙_, _≡_, ap, refl, sym}
 use native.Mathlib.Omega.{arith}
 use Rattle.combine_gvcfs.specs.Combined.{TextsLoaded, textsOf}
-use Rattle.combined_list.proofs.ListReady.{list-ready, records-placed}
+use Rattle.combined_list.proofs.ListReady.{list-ready}
 use Rattle.combined_list.proofs.WrittenList.{WalkSays, measuring}
 use Rattle.combined_list.specs.WrittenList.{CallLoaded}
 use Rattle.contig_walk.specs.Walk.{RecordsLaid, RecordsRefused, RecordsWalked}
@@ -24,7 +24,7 @@ use Rattle.definitions.specs.CombinedList.{Texts, combinedRecords, inputOf, lis
 use Rattle.definitions.specs.Looks.{contigLooks, looksOf}
 use Rattle.definitions.specs.Records.{Record}
 use Rattle.laws.proofs.Checked.{not-refused, refused-back, then, then-refused}
-use Rattle.laws.proofs.ScratchPlaces.{list-without-place}
+use Rattle.laws.proofs.ScratchPlaces.{list-without-place, records-placed}
 use Rattle.laws.proofs.Tests.{both-of}
 use Rattle.search_looks.specs.Looked.{ContigsReady, LooksAnswered, SitesReady, TablesReady, looksWith, lookedAnswer}
 use Rattle.search_looks.specs.declared.Looked.{Looked}
