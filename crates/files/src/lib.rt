@@ -182,9 +182,19 @@ pub fn put_answer(outcome: Outcome, list: &mut [u8; 65536]) -> usize
     }
 }
 
-// Writes the first bytes of a program's buffer to standard output.
-pub fn print_first(bytes: &[u8], count: usize) {
+// Writes the first bytes of a buffer to standard output.
+fn print_part(bytes: &[u8], count: usize) {
     if !io::write_all(STDOUT_FILENO, tables::part(bytes, 0, count)) {
         os::fail(b"standard output");
     }
+}
+
+// Writes the first bytes of a list's buffer to standard output.
+pub fn print_first(list: &[u8; 65536], count: usize) {
+    print_part(list, count);
+}
+
+// The same for a line.
+pub fn print_line(line: &[u8; 32], count: usize) {
+    print_part(line, count);
 }

@@ -2,8 +2,8 @@
 // reading and writing one function makes all that is printed: `combine_program`, `looks_program` and `call_program`.
 //
 // A file longer than 65,536 bytes is refused with 2. An absent cohort.kv, contig.kv or combined.kv is an empty text; an absent clip.kv or
-// reference.kv is not lent. A file that is there and can't be read gets a line on standard error, and nothing is printed. The exit status is 0 all the same:
-// a Rattle program has no other.
+// reference.kv is not lent. A file that is there and can't be read gets a line on standard error, and nothing is printed. The exit
+// status is 0 all the same: a Rattle program has no other.
 ghost use mathlib.Core.Path.{_≡_};
 ghost use Rattle.answers.specs.Answered.{Answered};
 ghost use mathlib.Core.Bool.{false};
@@ -289,7 +289,7 @@ pub fn looks_named(
         &mut scratch,
         &mut line,
     );
-    files::print_first(&line, count);
+    files::print_line(&line, count);
 }
 
 // The looks of the contig that contig.kv asks for, for cohort.kv, clip.kv and reference.kv.
