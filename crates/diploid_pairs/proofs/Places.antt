@@ -1,11 +1,10 @@
 -- The genotypes by place, for callers. That a pair stands at its place is `genotype-pairs-at` of `laws`; here, that every place has such a pair.
 -- Assumes nothing.
 use Prim.Native.Nat.{_+_, _-_, _<_, _≤_, suc, zero, ℕ}
-use lib.ListN.{getElem?, length, take}
+use lib.ListN.{getElem?, take}
 use lib.Seq.{take-at}
-use mathlib.Core.List.{List, [], _∷_}
 use mathlib.Core.Option.{none, some}
-use mathlib.Core.Path.{_∙_, _≡_, ap, refl, sym}
+use mathlib.Core.Path.{_∙_, _≡_, ap, sym}
 use native.Mathlib.Decide.{decLt}
 use native.Mathlib.Omega.{arith}
 use Rattle.definitions.specs.Alleles.{genotypeCount}
