@@ -1,5 +1,5 @@
 -- A record comes behind the one that is held back: what is laid, what waits, and that all goes on as it would have gone on with it.
-use Prim.Native.Nat.{_+_, _≤_, min, ℕ}
+use Prim.Native.Nat.{_+_, _^_, _≤_, min, ℕ}
 use lib.ListN.{drop, length, length-append}
 use lib.Seq.{sets, take-at, take-length}
 use mathlib.Core.Bool.{Bool, cond, false, true}
@@ -33,6 +33,12 @@ pub pending-counted : (contig held : List ℕ) (pending : Pending) (at count : �
     → _≡_ {A = Stepped} (record { pending = Nothing; at = at′; count = count′ }) (pendingLaid contig held pending at count)
 unfolding pendingLaid behindPending
 pending-counted contig held pending at count b a c = rw (a, b, c)
+
+-- the list goes on at 2^63 at most
+pub within-limit : (contig held : List ℕ) (pending : Pending) (at count : ℕ) {r : Stepped} → r ≡ pendingLaid contig held pending at count
+    → r .at ≤ 2 ^ 63
+unfolding pendingLaid behindPending
+within-limit contig held pending at count e = rw e (omega arith)
 
 -- what a block leaves that does not join: it is held back in place of the one that was laid
 pub held-instead : (contig held : List ℕ) (pending : Pending) (loc : GenomeLoc) (base : ℕ) (fresh : List ℕ) (at count : ℕ)
