@@ -238,7 +238,7 @@ pub fn walk_interval<'a>(
             let mut own = [rows.len(); 64];
             found_sites::own_sites(&found[..n], &owners[..n], &mut own);
             let text = tables::part(alts, 0, len);
-            let allele = merged_ref::ref_bytes(s, rows, reference, place);
+            let allele = merged_ref::ref_bytes(s, reference, b"N", place);
             let step = lay_record(
                 s,
                 rows,
