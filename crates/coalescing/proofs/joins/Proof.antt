@@ -1,6 +1,7 @@
 -- Test by test.
 use borrow.Author.Needs.{needs}
 use mathlib.Core.Path.{_∙_, sym}
+use native.Mathlib.Omega.{arith}
 use Rattle.coalescing.proofs.Touching.{at-zero, not-touching, other-ref, same-ref}
 use Rattle.coalescing.specs.Held.{joinsPending}
 use Rattle.coalescing.proofs.joins.Statement.{statement}
@@ -34,7 +35,7 @@ returns-3 c =
     (not-touching _ _ _ _ _ _ _ (rw (c .before .before .before .get .ensures, c .before .get2 .ensures) at (c .if2 .taken)))
 
 returns-4 : tie.Need-returns-4
-returns-4 c = rw (c .before .before .before .before .before .before .pending .given .1) (other-ref _ _ _ _ _ _ _ (c .if3 .taken))
+returns-4 c = rw (c .before .before .before .before .before .before .pending .given .1) (other-ref _ _ _ _ _ _ _ (λ e. omega (arith, c .if3 .taken, e)))
 
 samples-pl-ad-eq-requires : tie.Need-samples-pl-ad-eq-requires
 samples-pl-ad-eq-requires c κs = search needs
@@ -44,7 +45,7 @@ returns-5 c =
     let position = c .before .before .before .before .before .get .ensures in
     c .samples-pl-ad-eq .ensures
     ∙ rw (c .before .before .before .before .before .before .before .pending .given .1)
-    (same-ref _ _ _ _ _ _ _ (rw position at (c .before .before .before .before .if1 .left)) (rw (position, c .before .before .before .get2 .ensures) at (c .before .before .if2 .left)) (c .before .if3 .left))
+    (same-ref _ _ _ _ _ _ _ (rw position at (c .before .before .before .before .if1 .left)) (rw (position, c .before .before .before .get2 .ensures) at (c .before .before .if2 .left)) (omega (arith, c .before .if3 .left)))
 
 pub joins-spec : {M : Type 1} → statement M
 joins-spec =
