@@ -291,7 +291,7 @@ same-length-10 : tie.Need-same-length-10 Inv-loop μ-loop
 same-length-10 c =
     let at-put-pending = c .before .before .before .before in
     let at-loop = at-put-pending .before .before .before .before .before in
-    at-put-pending .put-pending .kept .1 .1 .1 .1 .1 .1 .0 ∙ at-loop .loop .inv .out-long
+    at-put-pending .put-pending .kept .1 .1 .1 .0 ∙ at-loop .loop .inv .out-long
 
 returns-2 : tie.Need-returns-2 Inv-loop μ-loop
 returns-2 c =
