@@ -27,6 +27,15 @@ size_t wintabol_combine(const uint8_t *cohort, size_t cohort_len,
                         uint64_t *scratch, size_t scratch_len,
                         uint8_t *out, size_t out_len, size_t *written);
 
+/* For planning: how many sites the search along a contig looks at, for the texts of wintabol_combine. It is the contig's sites, for each of its
+ * intervals that lies in the clip; what the search really looks at is at most that. The figure is stored: 0 for a contig that no site names,
+ * and where the call is refused. Rows 1 to 13, for any contig as wintabol_combine refuses the texts; never 14. `scratch` is zero at the end. */
+size_t wintabol_looks(const uint8_t *cohort, size_t cohort_len,
+                      bool clipped, const uint8_t *clip, size_t clip_len,
+                      bool has_reference, const uint8_t *reference, size_t reference_len,
+                      const uint8_t *contig, size_t contig_len,
+                      uint64_t *scratch, size_t scratch_len, size_t *figure);
+
 /* The called list of a combined list: without <NON_REF>, with PL, AD and GQ over what is left. Rows 1 to 8 and 14. */
 size_t wintabol_call(const uint8_t *list, size_t list_len, uint8_t *out, size_t out_len, size_t *written);
 

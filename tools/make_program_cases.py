@@ -1,15 +1,18 @@
-"""Writes crates/program_cases/data, files that the programs `combine` and `call` read there, and stdout, what they must print.
+"""Writes crates/program_cases/data, files that the programs `combine`, `looks` and `call` read there, and stdout, what they must print.
 
 Run it in the repository's folder. What each case must print stands beside it, from examples/orchard and from reading document 01. `judged` of
-make_replay_cases.py and make_call_cases.py is a second reading of the rules, in code: where the two differ, the tool stops and names the case.
+make_replay_cases.py, make_looks_cases.py and make_call_cases.py is a second reading of the rules, in code: where the two differ, the tool stops
+and names the case.
 """
+import re
 import sys
 from pathlib import Path
 
 sys.dont_write_bytecode = True
 import make_call_cases
+import make_looks_cases
 import make_replay_cases
-from make_cohort_cases import Refused
+from make_cohort_cases import Refused, check, name
 
 MOST = 65536  # bytes of a file
 FILES = {"empty.kv": b""}
@@ -60,6 +63,8 @@ def write_files():
         FILES[f"orchard_{part}.kv"] = Path(f"examples/orchard/{part}.kv").read_bytes()
     FILES["example.kv"] = Path("crates/combine/data/cohort.kv").read_bytes()
     FILES["conflict.kv"] = conflict()
+    FILES["contig_c.kv"], FILES["contig_d.kv"], FILES["two_contigs.kv"] = b"contig=c\n", b"contig=d\n", b"contig=c\ncontig=d\n"
+    FILES["no_name.kv"], FILES["contig_without_lf.kv"] = b"contig=\n", b"contig=c"
     FILES["full_clip.kv"], FILES["long_clip.kv"] = clip(MOST), clip(MOST + 1)
     FILES["full_list.kv"], FILES["long_list.kv"] = blocks(MOST), blocks(MOST + 1)
     assert [len(FILES[f]) for f in ("full_clip.kv", "long_clip.kv", "full_list.kv", "long_list.kv")] == [MOST, MOST + 1] * 2
@@ -87,6 +92,28 @@ def combine(expected, cohort=None, clip=None, reference=None):
     PRINTED.append(expected)
 
 
+def asked(text):
+    """The contig that contig.kv asks for, in one line."""
+    found = re.fullmatch(rb"contig=([^\n]*)\n", text)
+    check(1, found)
+    return name(found[1])
+
+
+def looks(expected, cohort=None, clip=None, reference=None, contig=None):
+    files = [FILES[f] if f else None for f in (cohort, clip, reference, contig)]
+    lent = (clip is not None) + 2 * (reference is not None)
+    texts = [f or b"" for f in files]
+
+    def judge():
+        case = make_looks_cases.Case("", *texts[:3], lent, make_replay_cases.PLACES, asked(texts[3]).decode())
+        what, number = make_looks_cases.judged(case)[0]
+        return f"{what}={number}\n".encode()
+
+    found = answered(judge, files)
+    assert found == expected, (cohort, clip, reference, contig, found)
+    PRINTED.append(expected)
+
+
 def call(expected, combined=None):
     text = FILES[combined] if combined else None
     found = answered(lambda: make_call_cases.judged(text or b"", make_call_cases.ROOM)[0], [text])
@@ -103,6 +130,19 @@ def main():
     combine(b"refused=2\n", "conflict.kv", "long_clip.kv")
     combine(b"refused=2\n", "conflict.kv", None, "long_clip.kv")
     combine(b"refused=1\n")
+    # two sites and three breakpoints: two intervals
+    looks(b"looks=4\n", "example.kv", None, None, "contig_c.kv")
+    looks(b"looks=0\n", "example.kv", "empty.kv", None, "contig_c.kv")
+    looks(b"looks=0\n", "example.kv", None, None, "contig_d.kv")
+    looks(b"refused=1\n", "example.kv")
+    looks(b"refused=1\n", "example.kv", None, None, "two_contigs.kv")
+    looks(b"refused=1\n", "example.kv", None, None, "no_name.kv")
+    looks(b"refused=1\n", "example.kv", None, None, "contig_without_lf.kv")
+    looks(b"refused=12\n", "conflict.kv", "full_clip.kv", None, "contig_d.kv")
+    looks(b"refused=2\n", "conflict.kv", None, None, "long_clip.kv")
+    looks(b"refused=2\n", "conflict.kv", "long_clip.kv", None, "two_contigs.kv")
+    looks(b"refused=1\n", None, None, None, "two_contigs.kv")
+    looks(b"refused=1\n", None, None, None, "contig_c.kv")
     call(Path("examples/orchard/called.kv").read_bytes(), "orchard_combined.kv")
     call(b"samples=1\nsample=S0\nrecords=0\n", "full_list.kv")
     call(b"refused=2\n", "long_list.kv")

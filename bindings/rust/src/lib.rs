@@ -48,6 +48,38 @@ pub fn combine(
     answer(row, written)
 }
 
+/// For planning, how many sites the search along a contig looks at, for the texts of [`combine`]: the contig's sites, for each of its intervals
+/// that lies in the clip, so 0 for a contig that no site names. Rows 1 to 13, for any contig as [`combine`] refuses the texts; never 14.
+/// `scratch` is zero at the end.
+pub fn looks(
+    cohort: &[u8],
+    clip: Option<&[u8]>,
+    reference: Option<&[u8]>,
+    contig: &[u8],
+    scratch: &mut [u64],
+) -> Result<usize, Refused> {
+    let mut figure = 0;
+    let (clip_text, reference_text) = (clip.unwrap_or(&[]), reference.unwrap_or(&[]));
+    let row = unsafe {
+        raw::wintabol_looks(
+            cohort.as_ptr(),
+            cohort.len(),
+            clip.is_some(),
+            clip_text.as_ptr(),
+            clip_text.len(),
+            reference.is_some(),
+            reference_text.as_ptr(),
+            reference_text.len(),
+            contig.as_ptr(),
+            contig.len(),
+            scratch.as_mut_ptr(),
+            scratch.len(),
+            &mut figure,
+        )
+    };
+    answer(row, figure)
+}
+
 /// Writes the called list of a combined list. Rows 1 to 8 and 14.
 pub fn call(list: &[u8], out: &mut [u8]) -> Result<usize, Refused> {
     let mut written = 0;

@@ -17,6 +17,22 @@ extern "C" {
         written: *mut usize,
     ) -> usize;
 
+    pub fn wintabol_looks(
+        cohort: *const u8,
+        cohort_len: usize,
+        clipped: bool,
+        clip: *const u8,
+        clip_len: usize,
+        has_reference: bool,
+        reference: *const u8,
+        reference_len: usize,
+        contig: *const u8,
+        contig_len: usize,
+        scratch: *mut u64,
+        scratch_len: usize,
+        figure: *mut usize,
+    ) -> usize;
+
     pub fn wintabol_call(list: *const u8, list_len: usize, out: *mut u8, out_len: usize, written: *mut usize) -> usize;
 
     pub fn wintabol_reverse_trim_alleles(

@@ -99,7 +99,7 @@ unfolding sitesIn
 sites-count s rows count = length-map (numbersFrom 0 count) (siteAt s rows) ∙ length-numbers 0 count
 
 -- the contigs of the sites are the names in their rows
-site-contigs : (s rows : List ℕ) (count : ℕ) → map (λ (x : Site). x .contig) (sitesIn s rows count) ≡ contigNames s rows count
+pub site-contigs : (s rows : List ℕ) (count : ℕ) → map (λ (x : Site). x .contig) (sitesIn s rows count) ≡ contigNames s rows count
 unfolding sitesIn contigNames siteAt
 site-contigs s rows count = map-map (λ (x : Site). x .contig) (siteAt s rows) (numbersFrom 0 count)
 

@@ -85,7 +85,7 @@ fn is_first_on(s: &[u8], rows: &[usize], site: usize, contig: &[u8]) -> bool
 }
 
 // The number of the first site on a contig among so many, or their number if there is none. A name is compared with each contig once.
-fn contig_number(s: &[u8], rows: &[usize], count: usize, contig: &[u8]) -> usize
+pub fn contig_number(s: &[u8], rows: &[usize], count: usize, contig: &[u8]) -> usize
     requires { ⌜ ContigsNumbered (now s) (now rows) count ⌝ }
     ensures { λ r. ⌜ r ≡ firstOn (now (s .entry)) (now (rows .entry)) count (now (contig .entry)) ⌝ }
 {

@@ -35,7 +35,7 @@ use Rattle.laws.proofs.Tests.{all-three, clash}
 use Rattle.tables.proofs.Cleared.{scratch-same}
 use Rattle.tables.proofs.SameSites.{same-rows, same-sites}
 use Rattle.tables.specs.Tables.{nameAt, namesIn, siteAt, tableLength}
-use Rattle.combine_gvcfs.specs.Combined.{CohortHeld, Combined, IfGiven, TableWhole, TablesFit, TextsAnswered, TextsFit, TriedWith, textsOf}
+use Rattle.combine_gvcfs.specs.Combined.{CohortHeld, Combined, IfGiven, TableWhole, TablesFit, TextsAnswered, TextsFit, TextsLoaded, TriedWith, textsOf, textsShort}
 use Rattle.combine_gvcfs.specs.declared.Tried.the-variants as tried
 use Rattle.combine_gvcfs.specs.declared.Tried.{Tried}
 
@@ -59,6 +59,10 @@ module _ {A : Type 0} (read : List Line → Checked A) (s : List ℕ) where
   optional-refused true h = not-in-order read s h
   optional-refused false h = clash {b = true} refl h
 
+-- a table of the same length
+still-whole : (rows rows′ : List ℕ) → length rows′ ≡ length rows → TableWhole rows → TableWhole rows′
+still-whole rows rows′ e w = ⊎-elim (λ h. inl (omega arith)) (λ h. inr (omega arith)) w
+
 -- ---- refusals
 
 pub texts-refused : {t : Texts} {scratch row : ℕ} {out out′ : List ℕ} → inputOf t ≡ refused row → out′ ≡ out
@@ -68,34 +72,27 @@ texts-refused e same = record { answered = answered-refused (then-refused _ _ e)
 
 module _ (cohort : List ℕ) (clipped : Bool) (clip : List ℕ) (referenced : Bool) (reference : List ℕ) where
   -- a text is too long
-  too-long : (fits cohort && missingOr fits (onlyIf clipped clip) && missingOr fits (onlyIf referenced reference)) ≡ false
+  pub too-long : textsShort cohort clipped clip referenced reference ≡ false
       → inputOf (textsOf cohort clipped clip referenced reference) ≡ refused 2
   unfolding inputOf
   too-long e = not-required 2 _ _ e
 
-  pub cohort-long : missingOr fits (onlyIf true cohort) ≡ false → inputOf (textsOf cohort clipped clip referenced reference) ≡ refused 2
+  pub cohort-long : missingOr fits (onlyIf true cohort) ≡ false → false ≡ textsShort cohort clipped clip referenced reference
   unfolding missingOr onlyIf
-  cohort-long e = too-long (rw e)
+  cohort-long e = rw e
 
-  pub clip-long : missingOr fits (onlyIf clipped clip) ≡ false → inputOf (textsOf cohort clipped clip referenced reference) ≡ refused 2
-  clip-long e = too-long (rw e (go (fits cohort)))
+  pub clip-long : missingOr fits (onlyIf clipped clip) ≡ false → false ≡ textsShort cohort clipped clip referenced reference
+  clip-long e = rw e (go (fits cohort))
     where
-      go : (b : Bool) → (b && false && missingOr fits (onlyIf referenced reference)) ≡ false
+      go : (b : Bool) → false ≡ (b && false && missingOr fits (onlyIf referenced reference))
       go true = refl
       go false = refl
 
-  pub reference-long : missingOr fits (onlyIf referenced reference) ≡ false → inputOf (textsOf cohort clipped clip referenced reference) ≡ refused 2
-  reference-long e = too-long (rw e (go (fits cohort) (missingOr fits (onlyIf clipped clip))))
-    where
-      go : (b d : Bool) → (b && d && false) ≡ false
-      go true true = refl
-      go true false = refl
-      go false d = refl
-
-  pub none-long : missingOr fits (onlyIf true cohort) ≡ true → missingOr fits (onlyIf clipped clip) ≡ true
-      → missingOr fits (onlyIf referenced reference) ≡ true → TextsFit cohort clipped clip referenced reference
+  -- neither cohort nor clip is
+  pub by-reference : missingOr fits (onlyIf true cohort) ≡ true → missingOr fits (onlyIf clipped clip) ≡ true
+      → missingOr fits (onlyIf referenced reference) ≡ textsShort cohort clipped clip referenced reference
   unfolding missingOr onlyIf
-  none-long e f g = rw (e, f, g)
+  by-reference e f = rw (e, f)
 
   module _ (fit : TextsFit cohort clipped clip referenced reference) where
     -- the cohort is refused
@@ -105,18 +102,20 @@ module _ (cohort : List ℕ) (clipped : Bool) (clip : List ℕ) (referenced : Bo
         let (short, _, _) = all-three (fits cohort) (missingOr fits (onlyIf clipped clip)) (missingOr fits (onlyIf referenced reference)) fit in
         required 2 _ _ fit (then-refused _ _ (sym (required 2 _ (cohortOf cohort) short refl) ∙ e))
 
-    pub cohort-held : {names₀ names rows₀ rows : List ℕ} {samples sites : ℕ} → 2 * maxSamples ≤ length names → TableWhole rows
-        → CohortTo cohort names₀ names rows₀ rows samples sites → CohortHeld cohort names rows samples sites clipped clip referenced reference
+    pub cohort-held : {names₀ names rows₀ rows : List ℕ} {samples sites : ℕ} → 2 * maxSamples ≤ length names → length rows ≡ length rows₀
+        → TableWhole rows₀ → CohortTo cohort names₀ names rows₀ rows samples sites
+        → CohortHeld cohort names rows samples sites clipped clip referenced reference
     unfolding fittingCohort
-    cohort-held room whole c = after-required _ _ _ (c .value) λ short e.
+    cohort-held {rows₀ = rows₀} {rows = rows} room long whole c = after-required _ _ _ (c .value) λ short e.
         record {
           all-fit = fit;
           value = e;
           table = c .table;
           few = c .few-samples;
           few-sites = c .few-sites;
+          for-rows = omega (arith, c .room .for-rows);
           in-table = omega (arith, c .few-samples);
-          whole = whole;
+          whole = still-whole rows₀ rows long whole;
         }
 
 -- a clip that is there is not too long
@@ -128,9 +127,6 @@ clip-short s clipped clip referenced reference fit there =
     leb-true (length clip) maxTextLength (subst (λ (b : Bool). missingOr fits (onlyIf b clip) ≡ true) there short)
 
 -- ---- rows of segments
-
-pub still-whole : (rows rows′ : List ℕ) → length rows′ ≡ length rows → TableWhole rows → TableWhole rows′
-still-whole rows rows′ e w = ⊎-elim (λ h. inl (omega arith)) (λ h. inr (omega arith)) w
 
 segments-only : (given : Bool) {s rows after : List ℕ} → IfGiven given (SegmentsGiven s rows after) rows after → SegmentsOnly rows after
 segments-only true x = x .there refl .only
@@ -155,6 +151,7 @@ module _ {s names rows : List ℕ} {samples sites : ℕ} {clipped : Bool} {clip 
         table = rw same (same-rows s rows after (only .sites) few (held .table));
         few = held .few;
         few-sites = held .few-sites;
+        for-rows = omega (arith, held .for-rows, only .long);
         in-table = held .in-table;
         whole = still-whole rows after (only .long) (held .whole);
       }
@@ -233,14 +230,20 @@ module _ {s names rows : List ℕ} {samples sites : ℕ} {clipped : Bool} {clip 
             all-sites = sites-length;
           }
 
-      pub texts-answered : (scratch : ℕ) {out out′ : List ℕ} {o : Outcome}
-          → ((call : CallLoaded s names rows samples sites clipped clip referenced reference)
-          → Answered (listWithin (call .loaded) scratch (length out)) out out′ o)
-          → TextsAnswered (textsOf s clipped clip referenced reference) scratch out out′ o
-      unfolding call-loaded texts combinedList
-      texts-answered scratch {out = out} {out′ = out′} {o = o} says = record {
-        answered = subst (λ (list : Checked (List ℕ)). Answered list out out′ o) (sym (then _ _ input-read refl)) (says call-loaded);
-      }
+      pub texts-loaded : {places : ℕ} → sites * 22 ≤ places → TextsLoaded s clipped clip referenced reference names rows places samples sites
+      unfolding call-loaded input texts
+      texts-loaded room = record { call = call-loaded; read = input-read; few-sites = held .few-sites; for-rows = room }
+
+-- the answer for the tables is that for the texts
+pub texts-answered : {s names rows : List ℕ} {samples sites : ℕ} {clipped : Bool} {clip : List ℕ} {referenced : Bool} {reference : List ℕ} {places : ℕ}
+    → TextsLoaded s clipped clip referenced reference names rows places samples sites → (scratch : ℕ) {out out′ : List ℕ} {o : Outcome}
+    → ((call : CallLoaded s names rows samples sites clipped clip referenced reference)
+    → Answered (listWithin (call .loaded) scratch (length out)) out out′ o)
+    → TextsAnswered (textsOf s clipped clip referenced reference) scratch out out′ o
+unfolding combinedList
+texts-answered t scratch {out = out} {out′ = out′} {o = o} says = record {
+  answered = subst (λ (list : Checked (List ℕ)). Answered list out out′ o) (sym (then _ _ (t .read) refl)) (says (t .call));
+}
 
 -- ---- the tables of a call
 
@@ -249,8 +252,7 @@ pub tables-fit : {names rows order firsts chosen : List ℕ} (places : ℕ) → 
     → length chosen ≡ places → TableWhole rows → ((sites : ℕ) → sites ≤ maxSites → sites * 22 ≤ length rows → sites ≤ places)
     → TablesFit names rows order firsts chosen
 tables-fit places n o f c whole few = record {
-  for-names = omega arith;
-  whole = whole;
+  tables = record { for-names = omega arith; whole = whole };
   for-sites = λ sites h k. let fit = few sites h k in record { for-order = omega arith; for-firsts = omega arith; for-chosen = omega arith };
 }
 

@@ -11,13 +11,15 @@ use Rattle.answers.specs.Answered.{Answered, outcomeAnswer}
 use Rattle.answers.specs.declared.Outcome.{Outcome}
 use Rattle.cohort.specs.Cohort.{sitesIn}
 use Rattle.definitions.specs.Answers.{outputAfter, scratchAfter, writtenOf}
-use Rattle.definitions.specs.Checked.{accepted}
+use Rattle.definitions.specs.Checked.{accepted, refused}
 use Rattle.definitions.specs.Cohort.{cohortOf}
-use Rattle.definitions.specs.CombinedList.{Texts, combinedList, fits}
+use Rattle.definitions.specs.CombinedList.{Texts, combinedList, fits, inputOf}
 use Rattle.definitions.specs.Limits.{maxSamples, maxSites}
 use Rattle.definitions.specs.Lists.{missingOr, onlyIf}
-use Rattle.combined_list.specs.WrittenList.{ListsFit}
+use Rattle.combined_list.specs.WrittenList.{CallLoaded, ListsFit}
 use Rattle.tables.specs.Tables.{SiteRows, countsAt, namesIn, rowLength, tableLength}
+use Rattle.combine_gvcfs.specs.declared.TextsRead.the-variants as read
+use Rattle.combine_gvcfs.specs.declared.TextsRead.{TextsRead}
 use Rattle.combine_gvcfs.specs.declared.Tried.the-variants as tried
 use Rattle.combine_gvcfs.specs.declared.Tried.{Tried}
 
@@ -45,9 +47,12 @@ unfoldable pub atMost : ℕ → Option (List ℕ) → Bool
 atMost most t = missingOr (λ (s : List ℕ). leb (length s) most) t
 
 -- no text is too long
+abbrev pub textsShort : List ℕ → Bool → List ℕ → Bool → List ℕ → Bool
+textsShort cohort clipped clip referenced reference =
+    fits cohort && missingOr fits (onlyIf clipped clip) && missingOr fits (onlyIf referenced reference)
+
 abbrev pub TextsFit : List ℕ → Bool → List ℕ → Bool → List ℕ → Type 0
-TextsFit cohort clipped clip referenced reference =
-    (fits cohort && missingOr fits (onlyIf clipped clip) && missingOr fits (onlyIf referenced reference)) ≡ true
+TextsFit cohort clipped clip referenced reference = textsShort cohort clipped clip referenced reference ≡ true
 
 -- what a text that may be left out changes in the table: nothing, if it is
 pub record IfGiven (given : Bool) (Rows : Type 0) (rows after : List ℕ) : Type 0 where
@@ -58,10 +63,14 @@ pub record IfGiven (given : Bool) (Rows : Type 0) (rows after : List ℕ) : Type
 abbrev pub TableWhole : List ℕ → Type 0
 TableWhole rows = (tableLength ≤ length rows) ⊎ (length rows ≤ countsAt)
 
--- tables and lists of a call: sites that have rows fit the lists
-pub record TablesFit (names rows order firsts chosen : List ℕ) : Type 0 where
+-- tables that texts are read into
+pub record TablesWhole (names rows : List ℕ) : Type 0 where
   pub for-names : 2 * maxSamples ≤ length names
   pub whole : TableWhole rows
+
+-- tables and lists of a call: sites that have rows fit the lists
+pub record TablesFit (names rows order firsts chosen : List ℕ) : Type 0 where
+  pub tables : TablesWhole names rows
   pub for-sites : (sites : ℕ) → sites ≤ maxSites → sites * rowLength ≤ length rows → ListsFit sites order firsts chosen
 
 -- what tables of so many places gave: the answer, or they have no room for the cohort, and then nothing was written
@@ -76,5 +85,22 @@ pub record CohortHeld (s names rows : List ℕ) (samples sites : ℕ) (clipped :
   pub table : SiteRows s rows (sitesIn s rows sites)
   pub few : samples ≤ maxSamples
   pub few-sites : sites ≤ maxSites
+  pub for-rows : sites * rowLength ≤ length rows
   pub in-table : 2 * samples ≤ length names
   pub whole : TableWhole rows
+
+-- ---- texts that were read
+
+module _ (s : List ℕ) (clipped : Bool) (clip : List ℕ) (referenced : Bool) (reference : List ℕ) where
+  -- the tables hold the input of the texts, and have a row for each of its sites
+  pub record TextsLoaded (names rows : List ℕ) (places samples sites : ℕ) : Type 0 where
+    pub call : CallLoaded s names rows samples sites clipped clip referenced reference
+    pub read : inputOf (textsOf s clipped clip referenced reference) ≡ accepted (call .loaded .input)
+    pub few-sites : sites ≤ maxSites
+    pub for-rows : sites * rowLength ≤ places
+
+  -- what reading the texts into tables gave, of which the second had so many places
+  unfoldable pub ReadTo : List ℕ → List ℕ → ℕ → TextsRead → Type 0
+  ReadTo names rows places (read.Loaded samples sites) = TextsLoaded names rows places samples sites
+  ReadTo names rows places (read.Refused row) = inputOf (textsOf s clipped clip referenced reference) ≡ refused row
+  ReadTo names rows places read.NoRoom = places < maxSites * rowLength

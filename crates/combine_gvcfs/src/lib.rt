@@ -1,15 +1,14 @@
 // The texts of a call, the tables that they are read into, and the library's entry.
 ghost use lib.Dec.{leb};
 ghost use lib.ListN.{length};
-ghost use mathlib.Core.Bool.{_&&_, true};
+ghost use mathlib.Core.Bool.{_&&_};
 ghost use mathlib.Core.Path.{_≡_};
-ghost use Rattle.combined_list.specs.WrittenList.{ListsFit};
 ghost use Rattle.definitions.specs.Checked.{isAccepted};
 ghost use Rattle.definitions.specs.ClipAndReference.{optionalGroups, segmentOf, spanOf};
 ghost use Rattle.definitions.specs.CombinedList.{fits};
 ghost use Rattle.definitions.specs.Lists.{missingOr, onlyIf};
 ghost use Rattle.indexed_groups.specs.Indexed.{SegmentsGiven};
-ghost use Rattle.combine_gvcfs.specs.Combined.{CohortHeld, Combined, IfGiven, TablesFit, TextsAnswered, TextsFit, TriedWith, atMost, textsOf};
+ghost use Rattle.combine_gvcfs.specs.Combined.{CohortHeld, Combined, IfGiven, ReadTo, TablesFit, TablesWhole, TextsAnswered, TextsFit, TriedWith, atMost, textsOf, textsShort};
 use answers::Outcome;
 use cohort::CohortRead;
 
@@ -28,6 +27,25 @@ fn is_short(given: bool, text: &[u8]) -> bool
     ensures { λ r. ⌜ r ≡ missingOr fits (onlyIf given (now (text .entry))) ⌝ }
 {
     has_at_most(given, text, 16777216)
+}
+
+// Whether no text is too long: row 2.
+pub fn all_short(
+    cohort: &[u8],
+    clipped: bool,
+    clip: &[u8],
+    referenced: bool,
+    reference: &[u8],
+) -> bool
+    ensures { λ r. ⌜ r ≡ textsShort (now (cohort .entry)) clipped (now (clip .entry)) referenced (now (reference .entry)) ⌝ }
+{
+    if !is_short(true, cohort) {
+        return false;
+    }
+    if !is_short(clipped, clip) {
+        return false;
+    }
+    is_short(referenced, reference)
 }
 
 // Whether the clip, if it is lent, is in order.
@@ -60,9 +78,17 @@ fn index_reference(referenced: bool, reference: &[u8], rows: &mut [usize])
     indexed_groups::index_segments(reference, rows);
 }
 
-// Writes the list of texts that are short enough, from the tables of the cohort: rows 9 to 14.
-fn combine_cohort<'a>(
-    s: &'a [u8],
+// What reading the texts into tables gave: how many samples and sites these hold; the row that refuses the texts; or the tables have no
+// room for the cohort.
+pub enum TextsRead {
+    Loaded(usize, usize),
+    Refused(usize),
+    NoRoom,
+}
+
+// Reads clip and reference, which are short enough, behind a cohort that the tables hold: row 9.
+fn read_clip_and_reference(
+    s: &[u8],
     names: &[usize],
     rows: &mut [usize],
     samples: usize,
@@ -70,39 +96,50 @@ fn combine_cohort<'a>(
     clipped: bool,
     clip: &[u8],
     referenced: bool,
-    reference: &'a [u8],
-    order: &mut [u64],
-    firsts: &mut [usize],
-    chosen: &mut [usize],
-    scratch: &mut [u64],
-    out: &mut [u8],
-) -> Outcome
-    requires { ⌜ CohortHeld (now s) (now names) (now rows) samples sites clipped (now clip) referenced (now reference) × ListsFit sites (now order) (now firsts) (now chosen) ⌝ }
-    ensures { λ r. ⌜ TextsAnswered (textsOf (now (s .entry)) clipped (now (clip .entry)) referenced (now (reference .entry))) (length (now (scratch .entry))) (now (out .entry)) (now (out .exit)) r ⌝ }
+    reference: &[u8],
+) -> TextsRead
+    requires { ⌜ CohortHeld (now s) (now names) (now rows) samples sites clipped (now clip) referenced (now reference) ⌝ }
+    ensures { λ r. ⌜ ReadTo (now (s .entry)) clipped (now (clip .entry)) referenced (now (reference .entry)) (now (names .entry)) (now (rows .exit)) (length (now (rows .entry))) r ⌝ }
 {
     if !clip_in_order(clipped, clip) {
-        return Outcome::Refused(9);
+        return TextsRead::Refused(9);
     }
     if !reference_in_order(referenced, reference) {
-        return Outcome::Refused(9);
+        return TextsRead::Refused(9);
     }
     index_reference(referenced, reference, rows);
-    combined_list::combine_loaded_gvcfs(
-        s,
-        names,
-        rows,
-        samples,
-        sites,
-        clipped,
-        clip,
-        referenced,
-        reference,
-        order,
-        firsts,
-        chosen,
-        scratch,
-        out,
-    )
+    TextsRead::Loaded(samples, sites)
+}
+
+// Reads texts that are short enough into tables: rows 1 to 9. Where they are refused or have no room, what the tables hold is open.
+pub fn read_texts(
+    cohort: &[u8],
+    clipped: bool,
+    clip: &[u8],
+    referenced: bool,
+    reference: &[u8],
+    names: &mut [usize],
+    rows: &mut [usize],
+) -> TextsRead
+    requires { ⌜ TextsFit (now cohort) clipped (now clip) referenced (now reference) × TablesWhole (now names) (now rows) ⌝ }
+    ensures { λ r. ⌜ ReadTo (now (cohort .entry)) clipped (now (clip .entry)) referenced (now (reference .entry)) (now (names .exit)) (now (rows .exit)) (length (now (rows .entry))) r ⌝ }
+{
+    let read = cohort::read_cohort(cohort, names, rows);
+    match read {
+        CohortRead::NoRoom => TextsRead::NoRoom,
+        CohortRead::Refused(row) => TextsRead::Refused(row),
+        CohortRead::Cohort(samples, sites) => read_clip_and_reference(
+            cohort,
+            names,
+            rows,
+            samples,
+            sites,
+            clipped,
+            clip,
+            referenced,
+            reference,
+        ),
+    }
 }
 
 // What tables gave: the outcome, or they have no room for the cohort.
@@ -129,11 +166,11 @@ fn combine_with<'a>(
     requires { ⌜ TextsFit (now cohort) clipped (now clip) referenced (now reference) × TablesFit (now names) (now rows) (now order) (now firsts) (now chosen) ⌝ }
     ensures { λ r. ⌜ TriedWith (textsOf (now (cohort .entry)) clipped (now (clip .entry)) referenced (now (reference .entry))) (length (now (scratch .entry))) (now (out .entry)) (now (out .exit)) (length (now (rows .entry))) r ⌝ }
 {
-    let read = cohort::read_cohort(cohort, names, rows);
+    let read = read_texts(cohort, clipped, clip, referenced, reference, names, rows);
     match read {
-        CohortRead::NoRoom => Tried::NoRoom,
-        CohortRead::Refused(row) => Tried::Done(Outcome::Refused(row)),
-        CohortRead::Cohort(samples, sites) => Tried::Done(combine_cohort(
+        TextsRead::NoRoom => Tried::NoRoom,
+        TextsRead::Refused(row) => Tried::Done(Outcome::Refused(row)),
+        TextsRead::Loaded(samples, sites) => Tried::Done(combined_list::combine_loaded_gvcfs(
             cohort,
             names,
             rows,
@@ -323,13 +360,7 @@ fn combine_texts<'a>(
 ) -> Outcome
     ensures { λ r. ⌜ TextsAnswered (textsOf (now (cohort .entry)) clipped (now (clip .entry)) referenced (now (reference .entry))) (length (now (scratch .entry))) (now (out .entry)) (now (out .exit)) r ⌝ }
 {
-    if !is_short(true, cohort) {
-        return Outcome::Refused(2);
-    }
-    if !is_short(clipped, clip) {
-        return Outcome::Refused(2);
-    }
-    if !is_short(referenced, reference) {
+    if !all_short(cohort, clipped, clip, referenced, reference) {
         return Outcome::Refused(2);
     }
     combine_fitting(cohort, clipped, clip, referenced, reference, scratch, out)

@@ -5,7 +5,7 @@ use lib.Dec.{eqb, ltb}
 use lib.ListN.{drop, length, length-append, length-map, take}
 use lib.Seq.{take-append-seam}
 use mathlib.Core.Bool.{Bool, _&&_, false, true}
-use mathlib.Core.List.{List, [], _++_, _∷_, flatten, map}
+use mathlib.Core.List.{List, [], _++_, _∷_, flatten, map, map-congr-left}
 use mathlib.Core.Path.{_∙_, _≡_, ap, refl, subst, sym}
 use native.Mathlib.Decide.{decLe}
 use native.Mathlib.Omega.{arith}
@@ -29,23 +29,9 @@ use Rattle.kv_write.proofs.Laying.{sets-front}
 use Rattle.laws.proofs.Checked.{then-refused}
 use Rattle.laws.proofs.Every.{every-map}
 use Rattle.laws.proofs.Orders.{ascending-few}
-use Rattle.laws.proofs.ScratchPlaces.{list-any-places, list-without-place}
+use Rattle.laws.proofs.ScratchPlaces.{list-without-place, records-placed}
 use Rattle.laws.proofs.Tests.{both, both-of, clash}
 use Rattle.combined_list.specs.WrittenList.{CallLoaded, ListReady, listWithin}
-
--- without sites the list is the same for any places
-list-without-sites : (x : Input) (places : ℕ) → length (x .cohort .sites) ≡ 0 → listOf x places ≡ listOf x 1
-unfolding listOf combinedRecords contigsOf ascending
-list-without-sites x places h = go (x .cohort .sites) h refl
-  where
-    records : ℕ → List Site → Checked (List Record)
-    records k sites = inOrder (map (contigRecords x k) (contigsOf sites)) >>= λ found. accepted (flatten found)
-
-    go : (sites : List Site) → length sites ≡ 0 → x .cohort .sites ≡ sites → listOf x places ≡ listOf x 1
-    go [] none e =
-        ap (λ (l : List Site). records places l >>= λ found. accepted (printedList (x .cohort .names) found)) e
-        ∙ sym (ap (λ (l : List Site). records 1 l >>= λ found. accepted (printedList (x .cohort .names) found)) e)
-    go (s ∷ l) none e = absurd (omega arith)
 
 module _ {s names rows : List ℕ} {samples sites : ℕ} {clipped : Bool} {clip : List ℕ} {referenced : Bool} {reference : List ℕ}
     (call : CallLoaded s names rows samples sites clipped clip referenced reference) where
@@ -74,11 +60,11 @@ module _ {s names rows : List ℕ} {samples sites : ℕ} {clipped : Bool} {clip 
     pub firsts-within : n ≤ length firsts
     firsts-within = omega (arith, o .counted, ap length all-stored ∙ length-append (o .firsts) (drop (length (o .firsts)) zeros))
 
-    firsts-are : take n firsts ≡ o .firsts
+    pub firsts-are : take n firsts ≡ o .firsts
     firsts-are = rw (o .counted, all-stored) (take-append-seam (o .firsts) _)
 
     module _ {order runs : List ℕ} (g : Runs order runs samples (sampleKeys rows sites)) where
-      pub list-ready : ListReady s names rows samples clipped clip referenced reference (take n firsts) order runs
+      unfoldable pub list-ready : ListReady s names rows samples clipped clip referenced reference (take n firsts) order runs
       list-ready = record {
         tables = record { loaded = call .loaded; clip-given = call .clip-given; grouped = rw (← call .all-sites) g };
         in-order = rw firsts-are (o .names);
@@ -96,18 +82,15 @@ module _ {s names rows : List ℕ} {samples sites : ℕ} {clipped : Bool} {clip 
 
   -- ---- the places of a call
 
-  -- row 10 does not come: there is a place, or no contig asks for one
+  -- row 10 does not come
   pub placed-answered : (places : ℕ) → eqb places 0 && ltb 0 sites ≡ false → {out out′ : List ℕ} {r : Outcome}
       → Answered (listWithin (call .loaded) 1 (length out)) out out′ r
       → Answered (listWithin (call .loaded) places (length out)) out out′ r
+  unfolding listOf
   placed-answered places placed {out} {out′} {r} a =
-      subst (λ (c : Checked (List ℕ)). Answered (c >>= within (length out)) out out′ r) (sym (go (decLe 1 places) (decLe 1 sites))) a
-    where
-      go : Dec (1 ≤ places) → Dec (1 ≤ sites) → listOf (call .loaded .input) places ≡ listOf (call .loaded .input) 1
-      go (yes some) s = list-any-places (call .loaded .input) places some
-      go (no none) (no without) = list-without-sites (call .loaded .input) places (omega (arith, call .all-sites))
-      go (no none) (yes some) =
-          clash (both (eq-eqb places 0 (omega arith)) (lt-ltb 0 sites (omega arith))) placed
+      let same = records-placed (call .loaded .input) places (rw (call .all-sites) at placed) in
+      subst (λ (c : Checked (List Record)). Answered (c >>= (λ records. accepted (printedList (call .loaded .input .cohort .names) records))
+      >>= within (length out)) out out′ r) (sym same) a
 
   -- it comes: a site and no place
   pub placeless-refused : (places : ℕ) → eqb places 0 && ltb 0 sites ≡ true → (out : List ℕ)

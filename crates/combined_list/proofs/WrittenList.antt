@@ -61,7 +61,7 @@ module _ {s rows : List ℕ} {samples : ℕ} {referenced : Bool} {reference : Li
 
 module _ {s names rows : List ℕ} {samples : ℕ} {clipped : Bool} {clip : List ℕ} {referenced : Bool} {reference contigs order bounds : List ℕ}
     (ready : ListReady s names rows samples clipped clip referenced reference contigs order bounds) where
-  pub measuring : AllReady s rows samples clipped clip referenced reference contigs order bounds [] 0
+  unfoldable pub measuring : AllReady s rows samples clipped clip referenced reference contigs order bounds [] 0
   measuring = record {
     tables = ready .tables;
     names = ready .in-order;

@@ -15,7 +15,7 @@ use answers::Outcome;
 use contig_walk::Walked;
 
 // The clip text, or an empty part of it if there is no clip.
-fn given_clip<'a>(clipped: bool, clip: &'a [u8]) -> &'a [u8]
+pub fn given_clip<'a>(clipped: bool, clip: &'a [u8]) -> &'a [u8]
     ensures { λ r. ⌜ now r ≡ givenClip clipped (now (clip .entry)) ⌝ }
 {
     if clipped {
@@ -75,7 +75,7 @@ fn walk_one<'a>(
 }
 
 // Lays the records of all contigs, which are named by the numbers of their first sites, in byte order: rows 11 to 13.
-fn walk_contigs<'a>(
+pub fn walk_contigs<'a>(
     s: &'a [u8],
     rows: &[usize],
     samples: usize,
@@ -351,7 +351,7 @@ fn combine_in_windows<'a>(
 }
 
 // Row 10: a site names a contig, and scratch has no place.
-fn lacks_place(scratch: &[u64], sites: usize) -> bool
+pub fn lacks_place(scratch: &[u64], sites: usize) -> bool
     ensures { λ r. ⌜ r ≡ eqb (length (now (scratch .entry))) 0 && ltb 0 sites ⌝ }
 {
     if scratch.len() != 0 {

@@ -23,7 +23,7 @@ use Rattle.contig_looks.specs.Counting.{LooksReady}
 -- the clip text, if it is there, is not too long and holds the input's clip
 module _ (x : Input) {clipped : Bool} {clip : List ℕ} {spans : List Span} (short : clipped ≡ true → length clip ≤ maxTextLength)
     (from : clipped ≡ true → SpansFrom clip 0 spans) (clip-is : x .clip ≡ onlyIf clipped spans) where
-  pub looks-ready : {s rows contig numbers : List ℕ} → SoundInput x → SiteRows s rows (x .cohort .sites)
+  unfoldable pub looks-ready : {s rows contig numbers : List ℕ} → SoundInput x → SiteRows s rows (x .cohort .sites)
       → NumbersOn s rows (x .cohort .sites) contig numbers → Once numbers → LooksReady rows numbers clipped (cond clipped clip []) contig
   looks-ready sound table on once = record {
     input = x;
@@ -31,7 +31,7 @@ module _ (x : Input) {clipped : Bool} {clip : List ℕ} {spans : List Span} (sho
     all-sites = all-sites table on once;
   }
 
-  pub runs-ready : {s rows : List ℕ} → SoundInput x → SiteRows s rows (x .cohort .sites) → {samples : ℕ} → samples ≡ length (x .cohort .names)
+  unfoldable pub runs-ready : {s rows : List ℕ} → SoundInput x → SiteRows s rows (x .cohort .sites) → {samples : ℕ} → samples ≡ length (x .cohort .names)
       → {first : ℕ} → first < length (x .cohort .sites) → column 1 rows first ≡ first → {contig : List ℕ} → contig ≡ partAt 7 8 s rows first
       → {chosen bounds : List ℕ} → Runs chosen bounds samples (contigSites rows (length (x .cohort .sites)) first)
       → LooksReady rows (take (getD bounds samples 0) chosen) clipped (cond clipped clip []) contig

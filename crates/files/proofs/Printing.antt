@@ -10,7 +10,7 @@ use native.Mathlib.Omega.{arith}
 use Rattle.answers.specs.Answered.{Answered}
 use Rattle.answers.specs.declared.Outcome.{Outcome}
 use Rattle.answers.specs.declared.Outcome.the-variants as outcome
-use Rattle.definitions.specs.Answers.{outputAfter, printedAnswer, writtenOf}
+use Rattle.definitions.specs.Answers.{outputAfter, printedAnswer, printedLooks, writtenOf}
 use Rattle.definitions.specs.Bytes.{text}
 use Rattle.definitions.specs.Checked.{Checked, accepted, refused}
 use Rattle.definitions.specs.Lines.{keyOf}
@@ -56,6 +56,21 @@ refusal-keyed n = line-keyed "refused" _ (decimal n) refl
 pub refusal-short : (n : ℕ) → n < 2 ^ 64 → length (printedAnswer (refused n)) ≤ 29
 unfolding text
 refusal-short n h = rw (refusal-keyed n) (simp length-append (omega (arith, length-most n h)))
+
+-- ---- a figure
+
+pub figure-keyed : (n : ℕ) → printedLooks (accepted n) ≡ keyed (text "looks=") (decimal n)
+unfolding printedLooks keyOf text
+figure-keyed n = line-keyed "looks" _ (decimal n) refl
+
+pub figure-short : (n : ℕ) → n < 2 ^ 64 → length (printedLooks (accepted n)) ≤ 29
+unfolding text
+figure-short n h = rw (figure-keyed n) (simp length-append (omega (arith, length-most n h)))
+
+-- a refusal is printed as that of a list
+pub refusal-same : (n : ℕ) → printedLooks (refused n) ≡ printedAnswer (refused n)
+unfolding printedLooks printedAnswer
+refusal-same n = refl
 
 -- ---- an answer
 

@@ -1,13 +1,14 @@
-// What the programs share: reading a file of the working folder whole, and the bytes that they print: the list that a call gave, or `refused=`
-// and the number.
+// What the programs share: reading a file of the working folder whole, and the bytes that they print: the list that a call gave, a figure, or
+// `refused=` and the number.
 ghost use mathlib.Core.Path.{_≡_};
 ghost use Prim.Native.Nat.{_+_, _<_, _≤_, _^_};
 ghost use lib.ListN.{length, take};
-ghost use Rattle.definitions.specs.Answers.{printedAnswer};
-ghost use Rattle.definitions.specs.Checked.{refused};
+ghost use Rattle.definitions.specs.Answers.{printedAnswer, printedLooks};
+ghost use Rattle.definitions.specs.Checked.{accepted, refused};
 ghost use Rattle.definitions.specs.Numbers.{decimal};
 ghost use Rattle.files.specs.FileTexts.{Below, hasFailed, hasText, textLength, tooLong};
 ghost use Rattle.files.specs.Printing.{Printed, writtenValues};
+ghost use Rattle.kv_write.specs.Keyed.{keyed};
 ghost use Rattle.kv_write.specs.Laid.{Laid};
 use answers::Outcome;
 use libc::ENOENT;
@@ -136,13 +137,28 @@ fn put_decimal(out: &mut [u8], at: usize, n: usize) -> usize
     kv_write::put_byte(out, next, 48 + (n % 10) as u8)
 }
 
-// Lays `refused=`, the number and LF over the start of a buffer, as far as they fit.
-fn put_refusal(out: &mut [u8], number: usize) -> usize
-    ensures { λ r. ⌜ Laid (now (out .entry)) 0 (printedAnswer (refused number)) (now (out .exit)) r ⌝ }
+// Lays a key with its `=`, a number and LF over the start of a buffer, as far as they fit.
+fn put_number_line(out: &mut [u8], key: &[u8], number: usize) -> usize
+    requires { ⌜ length (now key) ≤ 32 ⌝ }
+    ensures { λ r. ⌜ Laid (now (out .entry)) 0 (keyed (now (key .entry)) (decimal number)) (now (out .exit)) r ⌝ }
 {
-    let behind_key = kv_write::put_bytes(out, 0, b"refused=");
+    let behind_key = kv_write::put_bytes(out, 0, key);
     let behind_number = put_decimal(out, behind_key, number);
     kv_write::put_byte(out, behind_number, b'\n')
+}
+
+// Lays `refused=`, the number and LF over the start of a buffer, as far as they fit.
+pub fn put_refusal(out: &mut [u8], number: usize) -> usize
+    ensures { λ r. ⌜ Laid (now (out .entry)) 0 (printedAnswer (refused number)) (now (out .exit)) r ⌝ }
+{
+    put_number_line(out, b"refused=", number)
+}
+
+// The same for `looks=` and a figure.
+pub fn put_figure(out: &mut [u8], figure: usize) -> usize
+    ensures { λ r. ⌜ Laid (now (out .entry)) 0 (printedLooks (accepted figure)) (now (out .exit)) r ⌝ }
+{
+    put_number_line(out, b"looks=", figure)
 }
 
 // So many bytes, or all that the buffer has.
@@ -166,9 +182,19 @@ pub fn put_answer(outcome: Outcome, list: &mut [u8; 65536]) -> usize
     }
 }
 
-// Writes the first bytes of a program's buffer to standard output.
-pub fn print_first(list: &[u8; 65536], count: usize) {
-    if !io::write_all(STDOUT_FILENO, tables::part(list, 0, count)) {
+// Writes the first bytes of a buffer to standard output.
+fn print_part(bytes: &[u8], count: usize) {
+    if !io::write_all(STDOUT_FILENO, tables::part(bytes, 0, count)) {
         os::fail(b"standard output");
     }
+}
+
+// Writes the first bytes of a list's buffer to standard output.
+pub fn print_first(list: &[u8; 65536], count: usize) {
+    print_part(list, count);
+}
+
+// The same for a line.
+pub fn print_line(line: &[u8; 32], count: usize) {
+    print_part(line, count);
 }

@@ -1,9 +1,10 @@
 -- Row 10: scratch of one place gives the lists of any other (`any-places`), and a call is refused with 10 exactly if a site names a
 -- contig and there is no place (`row-ten`, `row-ten-back`).
 use Prim.Native.Nat.{_≤_, ℕ}
-use borrow.Author.Tests.{le-leb}
-use lib.Dec.{leb}
+use borrow.Author.Tests.{eq-eqb, le-leb, lt-ltb}
+use lib.Dec.{eqb, leb, ltb}
 use lib.ListN.{length}
+use mathlib.Core.Bool.{_&&_, false}
 use mathlib.Core.List.{List, List·Memᴰ·head, [], _∷_, flatten, map, map-congr-left}
 use mathlib.Core.Path.{_∙_, _≡_, ap, refl, sym}
 use native.Mathlib.Decide.{decLe}
@@ -21,6 +22,7 @@ use Rattle.laws.proofs.Checked.{not-refused, not-required, refused-back
 use Rattle.laws.proofs.Members.{at-member}
 use Rattle.laws.proofs.Orders.{ascending-member}
 use Rattle.laws.proofs.RefusalNumbers.{input-numbered, numbered, placed-numbered}
+use Rattle.laws.proofs.Tests.{both, clash}
 
 -- ---- any number of places
 
@@ -35,6 +37,24 @@ records-any-places x places h =
     let contigs = contigsOf (x .cohort .sites) in
     ap (λ (cs : List (Checked (List Record))). inOrder cs >>= λ records. accepted (flatten records))
     (map-congr-left {l = contigs} (λ contig m. contig-any-places x places contig h))
+
+-- without sites there are no records, whatever the places
+without-sites : (x : Input) (places : ℕ) → x .cohort .sites ≡ [] → combinedRecords x places ≡ accepted []
+unfolding combinedRecords contigsOf ascending inOrder _>>=_ flatten
+without-sites x places e =
+    ap (λ (sites : List Site). inOrder (map (contigRecords x places) (contigsOf sites)) >>= λ records. accepted (flatten records)) e
+
+-- row 10 does not come: there is a place, or no site asks for one; and then one place gives the same records
+pub records-placed : (x : Input) (places : ℕ) → eqb places 0 && ltb 0 (length (x .cohort .sites)) ≡ false
+    → combinedRecords x places ≡ combinedRecords x 1
+records-placed x places placed = go (decLe 1 places) (x .cohort .sites) refl
+  where
+    go : Dec (1 ≤ places) → (sites : List Site) → x .cohort .sites ≡ sites → combinedRecords x places ≡ combinedRecords x 1
+    go (yes some) sites e = records-any-places x places some
+    go (no none) [] e = without-sites x places e ∙ sym (without-sites x 1 e)
+    go (no none) (s ∷ sites) e =
+        let asked = ap length e in
+        clash (both (eq-eqb places 0 (omega arith)) (lt-ltb 0 (length (x .cohort .sites)) (omega arith))) placed
 
 pub list-any-places : (x : Input) (places : ℕ) → 1 ≤ places → listOf x places ≡ listOf x 1
 unfolding listOf
@@ -58,11 +78,6 @@ pub record NoPlace (t : Texts) (places : ℕ) : Type 0 where
   pub read : inputOf t ≡ accepted input
   pub some-site : 1 ≤ length (input .cohort .sites)
   pub no-place : places ≡ 0
-
-without-sites : (x : Input) (places : ℕ) → x .cohort .sites ≡ [] → combinedRecords x places ≡ accepted []
-unfolding combinedRecords contigsOf ascending inOrder _>>=_ flatten
-without-sites x places e =
-    ap (λ (sites : List Site). inOrder (map (contigRecords x places) (contigsOf sites)) >>= λ records. accepted (flatten records)) e
 
 row-ten-records : (t : Texts) (places : ℕ) (x : Input) → inputOf t ≡ accepted x → combinedRecords x places ≡ refused 10
     → NoPlace t places

@@ -1,3 +1,4 @@
 pub mod FilesTaken
 pub mod Programs
+pub mod Looks
 pub mod WholePrograms

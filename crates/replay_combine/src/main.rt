@@ -16,36 +16,10 @@ use test_cases::line_at;
 use test_cases::number_field;
 use test_cases::print;
 use test_cases::print_if_changed;
+use test_cases::print_if_not_zero;
 use test_cases::print_outcome;
 use test_cases::set_bytes;
-
-// ---- what is lent
-
-// Sets every place to a number that no call leaves there.
-fn set_places(scratch: &mut [u64]) {
-    for i in 0..scratch.len() {
-        scratch[i] = 18446744073709551615;
-    }
-}
-
-fn is_zero(scratch: &[u64]) -> bool {
-    for i in 0..scratch.len() {
-        if scratch[i] != 0 {
-            return false;
-        }
-    }
-    true
-}
-
-// ---- the answer
-
-// Prints what is not as it must be behind a list of so many bytes.
-fn print_faults(scratch: &[u64], out: &[u8], count: usize) {
-    if !is_zero(scratch) {
-        print(b"scratch is not zero\n");
-    }
-    print_if_changed(out, count);
-}
+use test_cases::set_places;
 
 // ---- the cases
 
@@ -71,7 +45,8 @@ fn run<'a>(
         out,
     );
     let count = print_outcome(outcome, out);
-    print_faults(scratch, out, count);
+    print_if_not_zero(scratch);
+    print_if_changed(out, count);
 }
 
 // The case at an offset; the answer is where the next one begins.

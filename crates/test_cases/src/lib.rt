@@ -1,4 +1,4 @@
-// What the programs that run recorded cases share: reading a case from the input, the output of a call, and printing.
+// What the programs that run recorded cases share: reading a case from the input, the output and the scratch of a call, and printing.
 //
 // A case is a line of fields with a space between. In most programs three texts stand behind its LF, and the first three fields say how many
 // bytes they have. Every offset is taken; past the end of the input there is nothing.
@@ -165,5 +165,30 @@ fn is_set(bytes: &[u8]) -> bool {
 pub fn print_if_changed(out: &[u8], count: usize) {
     if !is_set(tables::part(out, count, out.len())) {
         print(b"the output has changed behind the list\n");
+    }
+}
+
+// ---- the scratch of a call
+
+// Sets every place to a number that no call leaves there.
+pub fn set_places(scratch: &mut [u64]) {
+    for i in 0..scratch.len() {
+        scratch[i] = 18446744073709551615;
+    }
+}
+
+fn is_zero(scratch: &[u64]) -> bool {
+    for i in 0..scratch.len() {
+        if scratch[i] != 0 {
+            return false;
+        }
+    }
+    true
+}
+
+// Prints a line if scratch is not zero.
+pub fn print_if_not_zero(scratch: &[u64]) {
+    if !is_zero(scratch) {
+        print(b"scratch is not zero\n");
     }
 }

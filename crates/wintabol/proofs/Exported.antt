@@ -20,9 +20,14 @@ use Rattle.definitions.specs.Answers.{Answer, answerOf, writtenOf}
 use Rattle.definitions.specs.Checked.{Checked, accepted, isAccepted, refused}
 use Rattle.definitions.specs.CombinedList.{Texts}
 use Rattle.laws.proofs.Checked.{accepted-same, not-refused}
+use Rattle.definitions.specs.Looks.{looksOf}
+use Rattle.laws.proofs.Looks.{looks-numbered}
 use Rattle.laws.proofs.RefusalNumbers.{ByRow, ill, list-numbered, well}
 use Rattle.likelihoods.specs.Written.{countOf}
-use Rattle.wintabol.specs.Exported.{Exported, ExportedAlts, ExportedList, UnusedAltAnswer, answer, answerAlts, answerAltsOf, outcomeAlts, outcomeNumbers}
+use Rattle.search_looks.specs.Looked.{LooksAnswered, lookedAnswer}
+use Rattle.search_looks.specs.declared.Looked.{Looked}
+use Rattle.search_looks.specs.declared.Looked.the-variants as looked
+use Rattle.wintabol.specs.Exported.{Exported, ExportedAlts, ExportedList, ExportedLooks, FigureAnswer, UnusedAltAnswer, answer, answerAlts, answerAltsOf, answerFigure, answerFigureOf, lookedNumbers, outcomeAlts, outcomeNumbers}
 
 refused-same : {A : Type 0} {m n : ℕ} → _≡_ {A = Checked A} (refused m) (refused n) → m ≡ n
 refused-same e = cc
@@ -62,6 +67,25 @@ exported-list {texts = texts} {scratch = scratch} {out = out} {r = r} c e =
       exported = exported {r = r} (list-numbered texts (length scratch) (length out)) (record { answer = c .answer; output = c .output }) e;
       cleared = c .cleared;
     }
+
+-- ---- a figure
+
+looks-numbers : (r : Looked) {c : Checked ℕ} → lookedAnswer r ≡ c → lookedNumbers r ≡ answerFigureOf c
+unfolding answerFigureOf
+looks-numbers (looked.Figure figure) e = ap answerFigureOf e
+looks-numbers (looked.Refused row) e = ap answerFigureOf e
+
+looks-accepts : {c : Checked ℕ} {number figure : ℕ} → ByRow c → answerFigure number figure ≡ answerFigureOf c → eqb number 0 ≡ isAccepted c
+unfolding answerFigureOf isAccepted
+looks-accepts (well n) e = ap (λ (a : FigureAnswer). eqb (a .number) 0) e
+looks-accepts (ill row h) e = ap (λ (a : FigureAnswer). eqb (a .number) 0) e ∙ ne-eqb row 0 (λ z. omega arith)
+
+pub exported-looks : {texts : Texts} {contig scratch scratch′ : List ℕ} {r : Looked} {number figure : ℕ}
+    → LooksAnswered texts contig scratch scratch′ r → lookedNumbers r ≡ answerFigure number figure
+    → ExportedLooks texts contig scratch scratch′ number figure
+exported-looks {texts = texts} {contig = contig} {scratch = scratch} {r = r} a e =
+    let numbers = sym e ∙ looks-numbers r (a .answer) in
+    record { numbers = numbers; accepts = looks-accepts (looks-numbered texts (length scratch) contig) numbers; cleared = a .cleared }
 
 -- ---- three outputs
 

@@ -13,6 +13,9 @@ use Rattle.definitions.specs.AlleleSubset.{UnusedAltSubset}
 use Rattle.definitions.specs.Answers.{Answer, answerOf, outputAfter, scratchAfter}
 use Rattle.definitions.specs.Checked.{Checked, accepted, isAccepted, refused}
 use Rattle.definitions.specs.CombinedList.{Texts, combinedList}
+use Rattle.definitions.specs.Looks.{looksOf}
+use Rattle.search_looks.specs.declared.Looked.{Looked}
+use Rattle.search_looks.specs.declared.Looked.the-variants as looked
 
 abbrev pub answer : ℕ → ℕ → Answer
 answer number written = record { number = number; written = written }
@@ -32,6 +35,31 @@ pub record Exported {A : Type 0} (values : Checked (List A)) (out out′ : List 
 -- the same for the combined list of these texts; scratch is zero at the end
 pub record ExportedList (texts : Texts) (scratch scratch′ out out′ : List ℕ) (number written : ℕ) : Type 0 where
   pub exported : Exported (combinedList texts (length scratch) (length out)) out out′ number written
+  pub cleared : scratch′ ≡ scratchAfter scratch
+
+-- ---- a figure
+
+-- the row that refuses the call, else 0, and the figure, 0 where the call is refused
+pub record FigureAnswer : Type 0 where
+  pub number : ℕ
+  pub figure : ℕ
+
+abbrev pub answerFigure : ℕ → ℕ → FigureAnswer
+answerFigure number figure = record { number = number; figure = figure }
+
+abbrev pub lookedNumbers : Looked → FigureAnswer
+lookedNumbers (looked.Figure figure) = answerFigure 0 figure
+lookedNumbers (looked.Refused row) = answerFigure row 0
+
+unfoldable pub answerFigureOf : Checked ℕ → FigureAnswer
+answerFigureOf (refused row) = answerFigure row 0
+answerFigureOf (accepted figure) = answerFigure 0 figure
+
+-- the two numbers are the looks of a contig, or the row that refuses them; the first number is 0 exactly if the call is accepted; scratch is
+-- zero at the end
+pub record ExportedLooks (texts : Texts) (contig scratch scratch′ : List ℕ) (number figure : ℕ) : Type 0 where
+  pub numbers : answerFigure number figure ≡ answerFigureOf (looksOf texts (length scratch) contig)
+  pub accepts : eqb number 0 ≡ isAccepted (looksOf texts (length scratch) contig)
   pub cleared : scratch′ ≡ scratchAfter scratch
 
 -- ---- three outputs

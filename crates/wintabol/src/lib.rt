@@ -13,9 +13,10 @@ ghost use Rattle.definitions.specs.Checked.{within};
 ghost use Rattle.definitions.specs.Likelihoods.{log10FromPl};
 ghost use Rattle.definitions.specs.ReverseTrim.{trimmedAlleles};
 ghost use Rattle.likelihoods.specs.Written.{NearTenths, noneAbove};
-ghost use Rattle.wintabol.specs.Exported.{Exported, ExportedAlts, ExportedList, answer, answerAlts, outcomeAlts, outcomeNumbers};
+ghost use Rattle.wintabol.specs.Exported.{Exported, ExportedAlts, ExportedList, ExportedLooks, answer, answerAlts, answerFigure, lookedNumbers, outcomeAlts, outcomeNumbers};
 use allele_subsetting_pl::UnusedAltOutcome;
 use answers::Outcome;
+use search_looks::Looked;
 
 // An outcome as two numbers.
 fn give(outcome: Outcome, written: &mut usize) -> usize
@@ -59,6 +60,51 @@ pub extern "C" fn wintabol_combine<'a>(
         out,
     );
     give(outcome, written)
+}
+
+// A figure, or the row that refuses it, as two numbers.
+fn give_looked(looked: Looked, figure: &mut usize) -> usize
+    ensures { λ r. ⌜ lookedNumbers looked ≡ answerFigure r (now (figure .exit)) ⌝ }
+{
+    match looked {
+        Looked::Figure(count) => {
+            *figure = count;
+            0
+        }
+        Looked::Refused(row) => {
+            *figure = 0;
+            row
+        }
+    }
+}
+
+// For planning, how many sites the search along a contig looks at, for the texts of `wintabol_combine`. The figure is 0 for a contig that no
+// site names, and where a row refuses the call.
+#[no_mangle]
+pub extern "C" fn wintabol_looks<'a>(
+    cohort: &'a [u8],
+    clipped: bool,
+    clip: &[u8],
+    has_reference: bool,
+    reference: &'a [u8],
+    contig: &[u8],
+    scratch: &mut [u64],
+    figure: &mut usize,
+) -> usize
+    ensures { λ r. ⌜ ExportedLooks
+        (textsOf (now (cohort .entry)) clipped (now (clip .entry)) «has_reference» (now (reference .entry)))
+        (now (contig .entry)) (now (scratch .entry)) (now (scratch .exit)) r (now (figure .exit)) ⌝ }
+{
+    let looked = search_looks::looks(
+        cohort,
+        clipped,
+        clip,
+        has_reference,
+        reference,
+        contig,
+        scratch,
+    );
+    give_looked(looked, figure)
 }
 
 // The called list of a combined list.

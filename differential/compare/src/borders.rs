@@ -2,6 +2,7 @@
 
 use crate::bad;
 use crate::combine::{self, Texts};
+use crate::looks::{self, Tally};
 use crate::ours::Library;
 use crate::rows::MOST_BYTES;
 use oracle::alleles::{answer_group, kind};
@@ -175,6 +176,7 @@ pub fn check() -> Result<String, String> {
     let mut count = trimmed()?;
     for (what, lent) in accepted() {
         combine::hold(&mut library, &lent, count as u64).map_err(|e| format!("{what}: {e}"))?;
+        looks::hold(&mut library, &lent, count as u64, &mut Tally::default()).map_err(|e| format!("{what}, looks: {e}"))?;
         count += 1;
     }
     for lent in long_texts(MOST_BYTES) {

@@ -9,5 +9,6 @@ pub mod fuzz;
 pub mod groups;
 pub mod guarded;
 pub mod list_rows;
+pub mod looks;
 pub mod ours;
 pub mod rows;

@@ -1,6 +1,6 @@
 //! The commands: generated inputs from a seed, so many of them, and the borders of the domain.
 
-use compare::{bad, borders, call, combine, demand3, groups};
+use compare::{bad, borders, call, combine, demand3, groups, looks};
 use std::path::Path;
 use std::process::ExitCode;
 
@@ -9,6 +9,7 @@ const USAGE: &str = "\
   compare recorded FOLDER       the recorded cohorts, each with 0, 1, 2, B - 1, B and B + 1 places
   compare lists SEED COUNT FOLDER
                                 COUNT cohorts with overlapping sites of a sample and the library's lists, into FOLDER, for model.py
+  compare looks SEED COUNT      COUNT cohorts, as they are and changed: the looks of every contig, counted once more
   compare call SEED COUNT       COUNT combined lists: the called list
   compare KIND SEED COUNT       COUNT groups; KIND is trim, likelihoods, gq, subset or unused_alts
   compare demand3 SEED COUNT    COUNT pairs of cohorts: what the first list says stands in the second
@@ -24,6 +25,7 @@ fn run(words: &[&str]) -> Result<String, String> {
         ["recorded", folder] => combine::recorded(Path::new(folder)),
         ["combine", seed, count] => combine::compare(number(seed)?, number(count)?),
         ["lists", seed, count, folder] => combine::lists(number(seed)?, number(count)?, Path::new(folder)),
+        ["looks", seed, count] => looks::compare(number(seed)?, number(count)?),
         ["call", seed, count] => call::compare(number(seed)?, number(count)?),
         ["demand3", seed, count] => demand3::check(number(seed)?, number(count)?),
         ["bad", seed, count] => bad::check(number(seed)?, number(count)?),

@@ -9,6 +9,7 @@ const SCRATCH_ROOM: usize = 1 << 20;
 
 pub struct Library {
     texts: [Guarded; 3],
+    contig: Guarded,
     out: Guarded,
     scratch: Guarded,
     at_end: bool,
@@ -29,6 +30,7 @@ impl Library {
     pub fn new() -> Library {
         Library {
             texts: [Guarded::new(TEXT_ROOM), Guarded::new(TEXT_ROOM), Guarded::new(TEXT_ROOM)],
+            contig: Guarded::new(4096),
             out: Guarded::new(LIST_ROOM),
             scratch: Guarded::new(SCRATCH_ROOM),
             at_end: false,
@@ -54,6 +56,23 @@ impl Library {
         let written = *answer.as_ref().unwrap_or(&0);
         assert!(out[written..].iter().all(|&b| b == BEFORE), "the output is changed behind the list");
         answer.map(|n| out[..n].to_vec()).map_err(|Refused(row)| row)
+    }
+
+    /// The looks of a contig, or the row that refuses them; scratch as above. The call's room is not looked at.
+    pub fn looks(&mut self, call: &Call, contig: &[u8]) -> Result<usize, usize> {
+        self.at_end = !self.at_end;
+        let at_end = self.at_end;
+        let [cohort, clip, reference] = &mut self.texts;
+        let scratch = self.scratch.numbers(call.places, BEFORE, at_end);
+        let answer = wintabol::looks(
+            cohort.text(call.cohort, at_end),
+            call.clip.map(|t| clip.text(t, at_end)),
+            call.reference.map(|t| reference.text(t, at_end)),
+            self.contig.text(contig, at_end),
+            scratch,
+        );
+        assert!(scratch.iter().all(|&n| n == 0), "scratch is not zero");
+        answer.map_err(|Refused(row)| row)
     }
 
     /// The called list of a combined list, or the row that refuses it; the output as above.

@@ -1,15 +1,15 @@
--- The cohort is read into the tables, if they have room.
+-- The texts are read into the tables, if they have room; then the list is that of the input.
 use borrow.Author.Needs.{needs}
 use mathlib.Core.Path.{refl}
-use native.Mathlib.Omega.{arith}
-use Rattle.cohort.specs.Cohort.{CohortAt}
-use Rattle.combine_gvcfs.proofs.Loading.{cohort-held, cohort-refused, rows-short, still-whole, texts-refused}
-use Rattle.combine_gvcfs.specs.Combined.{TriedWith}
+use Rattle.combine_gvcfs.proofs.Loading.{texts-answered, texts-refused}
+use Rattle.combine_gvcfs.specs.Combined.{ReadTo, TriedWith}
 use Rattle.combine_gvcfs.proofs.combine_with.Statement.{statement}
 use Rattle.combine_gvcfs.proofs.combine_with.Tie as tie
 
-read-cohort-requires : tie.Need-read-cohort-requires
-read-cohort-requires c κs = search needs
+read-texts-requires : tie.Need-read-texts-requires
+read-texts-requires c κs =
+    let start = c .before .before .before .before .before .before .before .before .before .before .before .before in
+    (start .pre .0, start .pre .1 .tables)
 
 enum-told : tie.Need-enum-told
 enum-told c = search needs
@@ -20,18 +20,14 @@ enum-known-read c = search needs
 enum-known-read-2 : tie.Need-enum-known-read-2
 enum-known-read-2 c = search needs
 
-combine-cohort-requires : tie.Need-combine-cohort-requires
-unfolding CohortAt
-combine-cohort-requires c κs =
-    let at-told = c .before .before .before .before .before .before .before .before in
-    let at-read = at-told .before .before .before .before .before .before in
-    let at-start = at-read .before .before .before .before .before .before .before .before .before .before .before .before .before in
-    let tables = at-start .pre .1 in
-    let to = rw (at-told .read2 .given .1) at (at-read .read-cohort .ensures .1) in
-    let whole = still-whole (at-start .args .rows .now) (at-read .read-cohort .last .1 .1 .0) (at-read .read-cohort .kept .1 .1 .0) (tables .whole) in
-    let names-kept = at-read .read-cohort .kept .1 .0 in
-    let held = cohort-held _ _ _ _ _ (at-start .pre .0) (omega (arith, tables .for-names, names-kept)) whole to in
-    (held, tables .for-sites _ (to .few-sites) (to .room .for-rows))
+combine-loaded-gvcfs-requires : tie.Need-combine-loaded-gvcfs-requires
+unfolding ReadTo
+combine-loaded-gvcfs-requires c κs =
+    let at-read2 = c .before .before .before .before .before .before .before .before in
+    let at-read-texts = at-read2 .before .before .before .before .before .before in
+    let start = at-read-texts .before .before .before .before .before .before .before .before .before .before .before .before .before in
+    let loaded = rw (at-read2 .read2 .given .1) at (at-read-texts .read-texts .ensures) in
+    (loaded .call, start .pre .1 .for-sites _ (loaded .few-sites) (loaded .for-rows))
 
 same-length : tie.Need-same-length
 same-length c = search needs
@@ -40,11 +36,10 @@ same-length-2 : tie.Need-same-length-2
 same-length-2 c = search needs
 
 returns : tie.Need-returns
-unfolding CohortAt TriedWith
+unfolding ReadTo TriedWith
 returns c =
-    let at-read = c .before .before .before .before .before .before in
-    let at-start = at-read .before .before .before .before .before .before .before .before .before .before .before .before .before in
-    (refl, rows-short (at-start .pre .1 .for-names) (rw (c .enum-told .given .1) at (at-read .read-cohort .ensures .1)))
+    let at-read-texts = c .before .before .before .before .before .before in
+    (refl, rw (c .enum-told .given .1) at (at-read-texts .read-texts .ensures))
 
 same-length-3 : tie.Need-same-length-3
 same-length-3 c = search needs
@@ -53,12 +48,10 @@ same-length-4 : tie.Need-same-length-4
 same-length-4 c = search needs
 
 returns-2 : tie.Need-returns-2
-unfolding CohortAt TriedWith
+unfolding ReadTo TriedWith
 returns-2 c =
-    let at-read = c .before .before .before .before .before .before .before in
-    let at-start = at-read .before .before .before .before .before .before .before .before .before .before .before .before .before in
-    let to = rw (c .before .read .given .1) at (at-read .read-cohort .ensures .1) in
-    texts-refused (cohort-refused _ _ _ _ _ (at-start .pre .0) (to .value)) refl
+    let at-read-texts = c .before .before .before .before .before .before .before in
+    texts-refused (rw (c .before .read .given .1) at (at-read-texts .read-texts .ensures)) refl
 
 same-length-5 : tie.Need-same-length-5
 same-length-5 c = search needs
@@ -82,18 +75,23 @@ same-length-11 : tie.Need-same-length-11
 same-length-11 c = search needs
 
 returns-3 : tie.Need-returns-3
-unfolding TriedWith
-returns-3 c = (c .before .before .before .before .before .before .before .before .before .before .before .before .combine-cohort .ensures)
+unfolding ReadTo TriedWith
+returns-3 c =
+    let at-combine-loaded-gvcfs = c .before .before .before .before .before .before .before .before .before .before in
+    let at-read2 = at-combine-loaded-gvcfs .before .before .before .before .before .before .before .before .before in
+    let at-read-texts = at-read2 .before .before .before .before .before .before in
+    let loaded = rw (at-read2 .read2 .given .1) at (at-read-texts .read-texts .ensures) in
+    texts-answered loaded _ (at-combine-loaded-gvcfs .combine-loaded-gvcfs .ensures)
 
 pub combine-with-spec : {M : Type 1} → statement M
 combine-with-spec =
     tie.close
     (tie.spec
-    read-cohort-requires
+    read-texts-requires
     enum-told
     enum-known-read
     enum-known-read-2
-    combine-cohort-requires
+    combine-loaded-gvcfs-requires
     same-length
     same-length-2
     returns

@@ -4,8 +4,8 @@ use borrow.Author.Needs.{needs}
 use lib.ListN.{length, length-set}
 use mathlib.Core.Path.{_≡_, refl}
 use native.Mathlib.Omega.{arith}
-use Rattle.replay_combine.proofs.set_places.Statement.{statement}
-use Rattle.replay_combine.proofs.set_places.Tie as tie
+use Rattle.test_cases.proofs.set_places.Statement.{statement}
+use Rattle.test_cases.proofs.set_places.Tie as tie
 
 abbrev Inv-loop : tie.InvT-loop
 Inv-loop scratch₀ i₀ i-end scratch i = (length scratch ≡ length scratch₀) × (i-end ≡ length scratch₀)

@@ -4,8 +4,8 @@ use borrow.Author.Needs.{needs}
 use lib.ListN.{length}
 use mathlib.Core.Path.{_≡_, refl}
 use native.Mathlib.Omega.{arith}
-use Rattle.replay_combine.proofs.is_zero.Statement.{statement}
-use Rattle.replay_combine.proofs.is_zero.Tie as tie
+use Rattle.test_cases.proofs.is_zero.Statement.{statement}
+use Rattle.test_cases.proofs.is_zero.Tie as tie
 
 abbrev Inv-loop : tie.InvT-loop
 Inv-loop scratch i₀ i-end i = i-end ≡ length scratch

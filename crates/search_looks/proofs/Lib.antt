@@ -1,0 +1,2 @@
+pub mod AskedContig
+pub mod Figure
