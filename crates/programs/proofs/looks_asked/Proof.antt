@@ -1,6 +1,8 @@
 -- By whether contig.kv asks for a contig.
 use denote.Ref.{now}
+use mathlib.Core.Path.{_∙_, ap, sym}
 use native.Mathlib.Omega.{arith}
+use Rattle.definitions.specs.Checked.{accepted}
 use Rattle.programs.proofs.Looks.{asked-looked, asked-refused}
 use borrow.Author.Needs.{needs}
 use Rattle.programs.proofs.looks_asked.Statement.{statement}
@@ -59,7 +61,7 @@ returns-2 c =
     let at-start = at-contig .before .before .before .before .before .before .before in
     let args = at-start .args in
     asked-looked (args .of-cohort) (args .of-clip) (args .of-reference) (now (args .cohort)) (now (args .clip)) (now (args .reference))
-    (at-start .pre) (rw (at-contig .name .given .1, ← at-part .part .ensures) at (at-contig .before .before .asked-contig .ensures))
+    (at-start .pre) ((rw (at-contig .name .given .1) at (at-contig .before .before .asked-contig .ensures)) ∙ ap accepted (sym (at-part .part .ensures)))
     (at-cohort .text .ensures) (at-has-clip .is-text .ensures) (at-clip .text2 .ensures)
     (at-has-reference .is-text2 .ensures) (at-reference .text3 .ensures) (omega (arith, c .before .looks-arg .given)) (c .looks .ensures)
 
