@@ -1,5 +1,5 @@
 #!/usr/bin/env python3
-"""A plain model of the scope's lists and values, written from the scope's text alone, held
+"""A plain model of the scope's lists and values, written from documents 01 and 02 alone, held
 against recorded answers of the Rust:
 
     python3 model.py ../recorded
@@ -89,12 +89,21 @@ def kept(clip, start, end):
     return clip is None or any(int(c["start"]) <= start and end <= int(c["end"]) for c in clip)
 
 
+def letter_of_a_sample(taken, position):
+    """The letter at the position of the lowest-numbered sample whose taken site's REF reaches it; if none does, N."""
+    for sample in sorted(taken):
+        ref, offset = taken[sample].alleles[0], position - taken[sample].start
+        if offset < len(ref):
+            return ref[offset]
+    return "N"
+
+
 def ref_of(taken, start, reference):
     starting = [s.alleles[0] for s in taken.values() if s.start == start]
     if starting:
         return max(starting, key=len)
     if reference is None:
-        return taken[min(taken)].alleles[0][0]
+        return letter_of_a_sample(taken, start)
     for g in reference:  # the first group in the file that holds the position
         offset = start - int(g["first"])
         if 0 <= offset < len(g["bases"]):

@@ -2,10 +2,10 @@
 
 Run it in the repository's folder. The calls are of three sorts:
 - recorded: all cases of recorded/combine that are by hand, and the first six of every other sort. The list is the Rust's, as recorded, and the model's
-  where sites of a sample overlap. With B
+  where sites of a sample overlap or a letter is needed and no reference is lent. With B
   breakpoints on the busiest contig, those of other sorts have 8,192 places, 1, 2, B - 1, B and B + 1 by turns.
-- tight: each recorded case by hand again, with 0, 1, 2, B - 1, B and B + 1 places and just the output that it needs, and with a byte less (14).
-  With no place it is 10 if it has a site, and else the list.
+- tight: each recorded case by hand but those of letters again, with 0, 1, 2, B - 1, B and B + 1 places and just the output that it needs, and with a
+  byte less (14). With no place it is 10 if it has a site, and else the list.
 - by hand, below: refusals, each with its number beside it from reading documents 01 and 02, and calls just inside the rules; among them contigs with
   more breakpoints than a call has places of its own.
 `judged` is a second reading of the rules, in code: the texts by make_cohort_cases.py, the list by differential/model.py. Every call goes through it,
@@ -25,13 +25,14 @@ PLACES, ROOM, INPUT_ROOM = 8192, 65536, 524288  # what the program has room for
 LONG = 16000  # bytes of a recorded cohort that is left out, for room
 COVERED = {f"refused {n}" for n in range(1, 15)} | {
     "joined", "clip cuts a block", "deletion over a later position", "*", "REF grows", "missing value", "several contigs", "64 samples",
-    "16 alleles", "letter from the reference", "letter from a sample", "clip keeps nothing", "no records", "a site hides another",
+    "16 alleles", "letter from the reference", "letter from a sample", "no REF reaches", "a lower-numbered sample does not reach", "REFs that reach differ",
+    "a block's letter against an unknown one", "an unknown letter joins a REF N", "clip keeps nothing", "no records", "a site hides another",
     "reference groups disagree", "over 1,024 breakpoints", "more breakpoints than places", "one place", "joined over 1,024 breakpoints",
     "a later site supersedes an earlier one in the file", "the first in the file starts last", "equal starts", "three deep", "a superseded deletion",
 }
 CLIP, REFERENCE = ("contig", "start", "end"), ("contig", "first", "bases")
 Case = namedtuple("Case", "name cohort clip reference lent places room")
-CASES = []  # each with its answer: a number, a list, or None for a list that the model makes
+CASES = []  # each with its answer: a number, a list, `pos end ref alt` of each record of a list that the model makes, or None for any such list
 
 
 # ---- the rules
@@ -84,6 +85,37 @@ def shown_of_overlaps(covering):
     }
 
 
+def shown_of_letters(taken, start):
+    """What the REFs show at a position where no site starts and no reference is lent: `reaching` has the letters there, lowest-numbered sample first."""
+    reaching = [(sample, s.alleles[0][start - s.start :][:1]) for sample, s in sorted(taken.items())]
+    letters = [letter for _, letter in reaching if letter]
+    return {
+        "letter from a sample": bool(letters),
+        "no REF reaches": not letters,
+        "a lower-numbered sample does not reach": bool(letters) and not reaching[0][1],
+        "REFs that reach differ": len(set(letters)) > 1,
+    }
+
+
+def shown_of_joins(sites, clip, reference, start, points):
+    """What neighbouring blocks show by their letters, where no reference is lent: `start` begins the second one."""
+    before = max((p for p in points if p < start), default=None)
+    if reference is not None or before is None or not model.kept(clip, before, start - 1):
+        return set()
+    one, two = model.taken_at(sites, before), model.taken_at(sites, start)
+    values = lambda taken: {sample: (s.block, s.gq, s.dp, s.ad, s.pl) for sample, s in taken.items()}
+    if not one or values(one) != values(two) or not all(s.block for s in one.values()):
+        return set()
+    starts = lambda taken, p: any(s.start == p for s in taken.values())
+    known = starts(one, before), starts(two, start)
+    refs = model.ref_of(one, before, None), model.ref_of(two, start, None)
+    shown = {
+        "a block's letter against an unknown one": known == (True, False) and refs[0] != "N" and one == two,
+        "an unknown letter joins a REF N": known[0] != known[1] and refs == ("N", "N"),
+    }
+    return {what for what, is_so in shown.items() if is_so}
+
+
 def check_interval(sites, reference, start):
     """Rows 11 to 13 of an interval, and what it shows. Nothing if no site covers it."""
     covering = covering_at(sites, start)
@@ -105,11 +137,12 @@ def check_interval(sites, reference, start):
         "REF grows": len(set(refs)) > 1,
         "deletion over a later position": any(s.start < start and min(map(len, s.alleles)) < len(s.alleles[0]) for s in taken.values()),
         "letter from the reference": not refs and reference is not None,
-        "letter from a sample": not refs and reference is None,
         "reference groups disagree": not refs and len(letters) > 1,
         "a site hides another": any(len(own) > 1 for own in covering.values()),
         "taken": True,
     }
+    if not refs and reference is None:
+        shown |= shown_of_letters(taken, start)
     for own in covering.values():
         shown = {what: is_so or shown.get(what) for what, is_so in {**shown, **shown_of_overlaps(own)}.items()}
     return {what for what, is_so in shown.items() if is_so}
@@ -124,7 +157,7 @@ def check_contig(sites, clip, reference, places):
         if model.kept(clip, start, after - 1):
             here = check_interval(sites, reference, start)
             covered += "taken" in here
-            shown |= here - {"taken"}
+            shown |= here - {"taken"} | shown_of_joins(sites, clip, reference, start, points)
     if clip is not None and covered == 0:
         shown.add("clip keeps nothing")
     for s in sites:
@@ -205,13 +238,13 @@ def recorded_cases():
         number, sort, *_ = line.split()
         chosen.setdefault(sort, []).append(number)
     for sort, numbers in chosen.items():
-        for i, number in enumerate(numbers if sort == "by" else numbers[:6]):
+        for i, number in enumerate(numbers if sort in ("by", "letters") else numbers[:6]):
             folder = Path("recorded/combine") / number
             texts, combined = texts_in(folder), (folder / "combined.kv").read_bytes()
             if len(texts[0]) > LONG:
                 continue
             most = busiest(texts)
-            places = [PLACES, 1, 2, max(most - 1, 1), most, most + 1][0 if sort == "by" else i]
+            places = [PLACES, 1, 2, max(most - 1, 1), most, most + 1][0 if sort == "by" else i % 6]
             CASES.append((Case(f"recorded-{number}", *texts, places, ROOM), combined))
             if sort == "by":
                 tight(number, texts, combined)
@@ -364,6 +397,26 @@ def letter_cases():
     case("11-then-14", 11, block, cut, "", room=0)
 
 
+def sample_letter_cases():
+    """Letters without a reference: of the lowest-numbered sample whose taken site's REF reaches the position, else N."""
+    block, cut, deletion = one(start=10, end=20), span("c", 13, 14), at(0, "ACG", "A")
+    case("unknown-letter-at-13", ["13 14 N <NON_REF>"], block, cut)
+    case("letter-at-13-is-not-of-a-reference-that-is-not-lent", ["13 14 N <NON_REF>"], block, cut, segment("c", 1, "G" * 20), lent=1)
+    word = "ACGTTGCA" * 15 + "ACGTTGCN"
+    case("the-127th-letter-and-the-128th", ["136 . C *,<NON_REF>", "137 . N *,<NON_REF>"], TWO + at(0, word, "A"), span("c", 136, 140))
+    seen = ["10 . ACG A,<NON_REF>", "11 . C *,<NON_REF>", "12 . G *,<NON_REF>"]
+    blocks = "".join(site(SMALL, site=i, start=5, end=20) for i in range(63))
+    last = deletion.replace("site=0", "site=63")
+    case("only-the-64th-sample-reaches", ["5 9 A <NON_REF>", *seen, "13 20 N <NON_REF>"], header(*range(64)) + blocks + last)
+    other = site(SMALL, contig="d", start=5, end=20) + at(1, "T", "C", contig="d", start=12)
+    case("letters-of-two-contigs", [*seen, "5 11 A <NON_REF>", "12 . T C,<NON_REF>", "13 20 N <NON_REF>"], TWO + deletion + other)
+    ahead = site(SMALL, site=1, start=10, end=13)
+    case("a-letter-that-parts-blocks", ["10 . A <NON_REF>", "11 13 N <NON_REF>"], TWO + ahead, span("c", 10, 10) + span("c", 11, 13))
+    case("the-same-with-a-reference-that-does-not", ["10 13 A <NON_REF>"], TWO + ahead, span("c", 10, 10) + span("c", 11, 13), segment("c", 11, "A"))
+    case("12-though-no-reference-is-lent", 12, TWO + deletion + at(1, "G", "T"))
+    case("14-by-one-byte-of-an-unknown-letter", 14, block, cut, room=len("samples=2\nsample=S0\nsample=S1\nrecords=1\n"))
+
+
 def patched_cases():
     """Groups that overlap and disagree: the first in the file that holds the position gives the letter. At 13, 14 and 15 stand three records."""
     cut = span("c", 13, 13) + span("c", 14, 14) + span("c", 15, 15)
@@ -443,10 +496,16 @@ def answer_of(case):
         return refusal.args[0], {f"refused {refusal.args[0]}"}
 
 
+def heads_of(text):
+    """The `pos`, `end`, `ref` and `alt` of each record of a list."""
+    return [" ".join(head) for head in re.findall(r"\npos=(.*)\nend=(.*)\nref=(.*)\nalt=(.*)\n", text.decode())]
+
+
 def checked(case, answer):
     """The answer of a case, and what it shows. The tool stops if it is not what was expected."""
     found, shown = answer_of(case)
-    if found != answer and not (answer is None and isinstance(found, bytes)):
+    right = isinstance(found, bytes) and (answer is None or answer == heads_of(found))
+    if found != answer and not right:
         sys.exit(f"{case.name}: {answer} was expected, the rules in code say {found}")
     return found, shown
 
@@ -458,7 +517,10 @@ def printed(name, answer):
 
 
 def main():
-    for part in (recorded_cases, cohort_cases, clip_and_reference_cases, place_cases, window_cases, letter_cases, patched_cases, nested_cases, merge_cases):
+    for part in (
+        recorded_cases, cohort_cases, clip_and_reference_cases, place_cases, window_cases, letter_cases, sample_letter_cases, patched_cases,
+        nested_cases, merge_cases,
+    ):
         part()
     assert len({c.name for c, _ in CASES}) == len(CASES)
     stdin, stdout, covered = b"", b"", {}

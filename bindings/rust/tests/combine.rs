@@ -27,6 +27,16 @@ fn one_place_is_enough_and_none_is_10() {
 }
 
 #[test]
+fn a_letter_that_no_ref_reaches_is_n() {
+    // the second record, at 11, lies in the block that starts at 10
+    let (mut scratch, mut out) = ([7u64; 8], vec![9u8; 4096]);
+    let n = combine(COHORT, None, Some(b"contig=c\nfirst=11\nbases=T\n"), &mut scratch, &mut out).unwrap();
+    let unknown = String::from_utf8(LIST.to_vec()).unwrap();
+    assert_eq!(unknown.matches("ref=N\n").count(), 1);
+    assert_eq!(String::from_utf8(out[..n].to_vec()).unwrap(), unknown.replace("ref=N\n", "ref=T\n"));
+}
+
+#[test]
 fn refuses_and_leaves_the_output() {
     let mut scratch = [7u64; 8];
     let mut out = [9u8; 16];

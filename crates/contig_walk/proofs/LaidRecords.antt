@@ -1,18 +1,20 @@
 -- The record of an interval as it is laid: its ALTs as text, its samples' lines, and what the steps of `coalescing` ask of it.
-use Prim.Native.Nat.{_+_, _<_, _^_, _≤_, suc, ℕ}
+use Prim.Native.Nat.{_+_, _<_, _^_, _≤_, min, suc, ℕ}
 use borrow.Author.Tests.{le-ltb}
 use lib.Dec.{eqb}
-use lib.ListN.{drop, length, length-append, length-map, take}
+use lib.ListN.{drop, getD, length, length-append, length-map, take}
 use lib.Seq.{length-take-le, sets, take-at, take-length}
 use mathlib.Core.Bool.{Bool, _&&_, false, true}
-use mathlib.Core.List.{List, [], _++_, flatMap, map}
+use mathlib.Core.List.{List, [], _++_, _∷_, flatMap, map}
 use mathlib.Core.Option.{none}
 use mathlib.Core.Path.{_∙_, _≡_, ap, refl, subst, sym}
 use native.Mathlib.Nat.{zero-add}
 use native.Mathlib.Omega.{arith}
 use Rattle.coalescing.specs.Held.{HeldBlock}
-use Rattle.coalescing.specs.Steps.{OtherRecord, RecordFits, recordBytes}
+use Rattle.coalescing.specs.Steps.{OtherRecord, recordStepped}
 use Rattle.coalescing.specs.declared.Pending.{Pending}
+use Rattle.coalescing.specs.declared.Pending.the-variants.{Nothing}
+use Rattle.coalescing.specs.declared.Stepped.{Stepped}
 use Rattle.definitions.specs.Alleles.{isBlock, onlyNonRef, writtenAlleles}
 use Rattle.definitions.specs.Bytes.{comma, fieldsOf, text}
 use Rattle.definitions.specs.Lists.{numbersFrom, onlyIf}
@@ -27,17 +29,19 @@ use Rattle.laws.proofs.MergedAltsSound.{merged-alleles-sound}
 use Rattle.laws.proofs.SoundInput.{SoundSite}
 use Rattle.laws.proofs.SoundRecords.{SoundAlleles}
 use Rattle.laws.proofs.SoundValues.{Name}
-use Rattle.merged_records.proofs.Records.{found-are-sound, recordAlleles, recordAlts, recordData, recordRef, ref-for, sites-are-sound}
+use Rattle.list_header.specs.Measured.{limit, mostCount}
+use Rattle.merged_records.proofs.Records.{found-are-sound, recordAlleles, recordAlts, recordData, ref-for, sites-are-sound}
 use Rattle.merged_records.specs.Found.{covering}
 use Rattle.merged_records.specs.Loaded.{OnContig}
-use Rattle.merged_ref.specs.declared.RefAt.{RefAt}
 use Rattle.record_laws.proofs.Coalescing.{block-record, end-not-block}
 use Rattle.record_laws.proofs.DerivedData.{all-data-derived}
 use Rattle.record_laws.proofs.Lengths.{all-block-data-few, alleles-few, decimal-few}
 use Rattle.record_laws.proofs.SamePrinted.{Derived}
+use Rattle.record_laws.specs.Pending.{blockRecord}
 use Rattle.record_lines.proofs.Alleles.{alleles-in-written, written-count}
 use Rattle.record_lines.proofs.Head.{head-length, printed-record}
 use Rattle.record_lines.specs.Head.{endFrom}
+use Rattle.record_lines.specs.Records.{RecordFits, recordBytes}
 use Rattle.record_lines.specs.Samples.{SamplesPrintable, printedOwn, printedSamples}
 use Rattle.sample_alleles.specs.Readings.{allelesIn}
 use Rattle.tables.specs.Tables.{siteAt}
@@ -48,6 +52,18 @@ and-true : (b : Bool) → b && true ≡ b
 and-true true = refl
 and-true false = refl
 
+-- a list of one letter is that letter
+only-letter : (l : List ℕ) → length l ≡ 1 → l ≡ getD l 0 0 ∷ []
+only-letter [] e = absurd (omega arith)
+only-letter (a ∷ []) e = refl
+only-letter (a ∷ b ∷ l) e = absurd (omega arith)
+
+-- where the list goes on and how many records it has, behind a record
+pub record-counted : (at count : ℕ) (lines : List ℕ) {end at′ count′ : ℕ} → end ≡ at + length lines → at′ ≡ min limit end → count′ ≡ min mostCount (count + 1)
+    → _≡_ {A = Stepped} (record { pending = Nothing; at = at′; count = count′ }) (recordStepped at lines count)
+unfolding recordStepped
+record-counted at count lines e a c = rw (a, e, c)
+
 -- a contig is named as a site's contig is
 pub contig-named : {s rows : List ℕ} {samples : ℕ} {referenced : Bool} {reference contig : List ℕ} → OnContig s rows samples referenced reference contig → Name contig
 unfolding siteAt
@@ -57,9 +73,9 @@ contig-named {s} {rows} on =
     every-of-map-back (siteAt s rows) (numbersFrom 0 (length sites)) (subst (Every SoundSite) (on .loaded .table .read) (on .loaded .sound .cohort .sites)) in
     rw (on .name) (every-member {a = on .first} (numbers-member 0 (length sites) (omega arith) (omega (arith, on .known))) all .contig)
 
-module _ {s rows : List ℕ} {samples : ℕ} {reference contig : List ℕ} {first last : ℕ} {place : RefAt} {number : ℕ} {own alts : List ℕ}
+module _ {s rows : List ℕ} {samples : ℕ} {contig : List ℕ} {first last : ℕ} {allele : List ℕ} {number : ℕ} {own alts : List ℕ}
     {pending : Pending} {held fresh : List ℕ} {at : ℕ}
-    (r : LayReady s rows samples reference contig first last place number own alts pending held fresh at) where
+    (r : LayReady s rows samples contig first last allele number own alts pending held fresh at) where
   -- ---- the ALTs
 
   text-is : writtenAlleles (recordAlts (r .on) first (r .to)) ≡ alts
@@ -80,11 +96,11 @@ module _ {s rows : List ℕ} {samples : ℕ} {reference contig : List ℕ} {firs
   abbrev sound-sites : Every SoundSite (map (siteAt s rows) (r .found))
   sound-sites = found-are-sound (r .on) first (r .to)
 
-  pub samples-are : printedSamples s rows samples own first (recordRef (r .on) first (r .to)) alts ≡ flatMap printedSampleData (recordData (r .on) first (r .to))
+  pub samples-are : printedSamples s rows samples own first allele alts ≡ flatMap printedSampleData (recordData (r .on) first (r .to))
   unfolding printedOwn
   samples-are =
-      ap (flatMap printedSampleData) (own-data s rows first (recordRef (r .on) first (r .to)) alts (r .found) sound-sites (r .own-is) (r .on .loaded .few))
-      ∙ rw (alleles-are, r .to .sites)
+      ap (flatMap printedSampleData) (own-data s rows first allele alts (r .found) sound-sites (r .own-is) (r .on .loaded .few))
+      ∙ rw (r .allele-is, alleles-are, r .to .sites)
 
   enough : samples ≤ length own
   enough = own-enough s rows first [] alts (r .found) sound-sites (r .own-is) (r .on .loaded .few)
@@ -101,15 +117,18 @@ module _ {s rows : List ℕ} {samples : ℕ} {reference contig : List ℕ} {firs
   }
 
   -- a block, by the number of ALTs and the length of REF
-  pub by-numbers : isBlock (laidRecord r .alleles) ≡ (eqb number 1 && eqb (length (recordRef (r .on) first (r .to))) 1)
+  pub by-numbers : isBlock (laidRecord r .alleles) ≡ (eqb number 1 && eqb (length allele) 1)
   unfolding isBlock onlyNonRef
-  by-numbers = rw (sound-alleles .non-ref, ← r .to .number, and-true (eqb number 1))
+  by-numbers = rw (r .allele-is, sound-alleles .non-ref, ← r .to .number, and-true (eqb number 1))
 
   -- ---- a block
 
   module _ (block : isBlock (laidRecord r .alleles) ≡ true) where
     one-alt : length (recordAlts (r .on) first (r .to)) ≡ 1
     one-alt = ap length (block-is (laidRecord r .alleles) block .0)
+
+    pub one-letter : length allele ≡ 1
+    one-letter = ap length (r .allele-is) ∙ block-is (laidRecord r .alleles) block .1
 
     derived : Every (Derived 2) (recordData (r .on) first (r .to))
     derived = subst (λ (k : ℕ). Every (Derived (suc k)) (recordData (r .on) first (r .to))) one-alt
@@ -128,7 +147,7 @@ module _ {s rows : List ℕ} {samples : ℕ} {reference contig : List ℕ} {firs
       pub lines : take len after ≡ flatMap printedSampleData (recordData (r .on) first (r .to))
 
     pub fresh-lines : (after : List ℕ) (len : ℕ)
-        → Laid fresh 0 (printedSamples s rows samples own first (recordRef (r .on) first (r .to)) alts) after len → FreshLines after len
+        → Laid fresh 0 (printedSamples s rows samples own first allele alts) after len → FreshLines after len
     fresh-lines after len l =
         let few = lines-few in
         let room = r .fresh-room in
@@ -144,14 +163,15 @@ module _ {s rows : List ℕ} {samples : ℕ} {reference contig : List ℕ} {firs
         }
 
     pub new-block : (lines : List ℕ) → lines ≡ flatMap printedSampleData (recordData (r .on) first (r .to))
-        → HeldBlock s rows samples reference contig lines first last place (length lines) (laidRecord r)
+        → HeldBlock samples contig lines first last (getD allele 0 0) (length lines) (laidRecord r)
     new-block lines e = record {
       values = recordData (r .on) first (r .to);
-      record-is = block-record contig (record { first = first; last = last }) (recordAlleles (r .on) first (r .to)) (recordData (r .on) first (r .to)) block;
+      record-is =
+          block-record contig (record { first = first; last = last }) (recordAlleles (r .on) first (r .to)) (recordData (r .on) first (r .to)) block
+          ∙ ap (λ (ref : List ℕ). blockRecord contig first last ref (recordData (r .on) first (r .to))) (sym (r .allele-is) ∙ only-letter allele one-letter);
       derived = derived;
       all-samples = samples-count;
       printed = take-length lines ∙ e;
-      one-letter = block-is (laidRecord r .alleles) block .1;
       ordered = r .ordered;
       in-range = r .in-range;
     }
@@ -159,21 +179,21 @@ module _ {s rows : List ℕ} {samples : ℕ} {reference contig : List ℕ} {firs
   -- ---- another record
 
   module _ (other : isBlock (laidRecord r .alleles) ≡ false) where
-    pub other-record : OtherRecord s rows samples reference contig first place own alts (laidRecord r)
+    pub other-record : OtherRecord (recordBytes s rows samples contig first allele own alts) (laidRecord r)
     unfolding onlyIf recordBytes
     other-record = record {
       not-block = other;
       printed =
-          printed-record (laidRecord r) first refl refl (end-not-block (recordAlleles (r .on) first (r .to)) (record { first = first; last = last }) other ∙ no-end) refl text-is
+          printed-record (laidRecord r) first refl refl (end-not-block (recordAlleles (r .on) first (r .to)) (record { first = first; last = last }) other ∙ no-end) (sym (r .allele-is)) text-is
           ∙ rw (← samples-are);
     }
       where
         no-end : none ≡ endFrom first first
         no-end = rw (le-ltb first first (omega arith))
 
-  pub record-fits : RecordFits s rows samples reference contig first place own alts 9223372036854775808
+  pub record-fits : (k : ℕ) → k ≤ 2 ^ 63 → RecordFits s rows samples contig first allele own alts k
   unfolding onlyIf writtenOrMissing text
-  record-fits = record {
+  record-fits k h = record {
     in-range = omega (arith, r .ordered, r .in-range);
     enough = enough;
     sound = sound-rows;
@@ -192,8 +212,8 @@ module _ {s rows : List ℕ} {samples : ℕ} {reference contig : List ℕ} {firs
       named : length contig ≤ 32
       named = contig-named (r .on) .not-too-long
 
-      short-ref : length (recordRef (r .on) first (r .to)) ≤ 128
-      short-ref = ref-for (r .on) first (r .to) .letters .not-too-long
+      short-ref : length allele ≤ 128
+      short-ref = rw (r .allele-is) (ref-for (r .on) first (r .to) .letters .not-too-long)
 
       short-alts : length alts ≤ 4096
       short-alts = rw (← text-is) (omega (arith, alleles-few (sound-alleles .alts), r .to .number, r .to .few-alts))

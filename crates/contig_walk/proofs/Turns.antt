@@ -19,7 +19,7 @@ use Rattle.definitions.specs.CoveringSites.{coveringSites}
 use Rattle.definitions.specs.Records.{Record}
 use Rattle.found_sites.specs.Own.{foundList, ownRows}
 use Rattle.kv_text.specs.Fields.{between}
-use Rattle.merged_records.proofs.Records.{owners-beside, record-is}
+use Rattle.merged_records.proofs.Records.{owners-beside, record-is, recordRef}
 use Rattle.merged_records.specs.Found.{RecordTo, covering}
 use Rattle.merged_records.specs.Loaded.{OnContig, coveringNumbers, coveringOwners}
 use Rattle.merged_ref.specs.declared.RefAt.{RefAt}
@@ -41,14 +41,14 @@ text-front t alts len e = e ∙ rw (sub-zero len)
 -- ---- a turn
 
 -- nothing changes
-pub unchanged : (x : Input) (s rows : List ℕ) (samples : ℕ) (reference contig : List ℕ) (first last : ℕ) (pending : Pending) (held : List ℕ) (at : ℕ)
-    (waiting : Option Record) (d₀ bytes : List ℕ) (records : ℕ) → Holds s rows samples reference contig held pending waiting
+pub unchanged : (x : Input) (samples : ℕ) (contig : List ℕ) (first last : ℕ) (pending : Pending) (held : List ℕ) (at : ℕ)
+    (waiting : Option Record) (d₀ bytes : List ℕ) (records : ℕ) → Holds samples contig held pending waiting
     → (out : List ℕ) (count : ℕ) → Progress d₀ bytes records out at count
     → ((later : Checked (List Record)) → withInterval x contig (record { first = first; last = last }) later ≡ later)
-    → Turns x s rows samples reference contig held out first last waiting d₀ bytes records
+    → Turns x samples contig held out first last waiting d₀ bytes records
     (turned.To (record { pending = pending; at = at; count = count }))
 unfolding Turns flatMap
-unchanged x s rows samples reference contig first last pending held at waiting d₀ bytes records h out count p same = record {
+unchanged x samples contig first last pending held at waiting d₀ bytes records h out count p same = record {
   laid = [];
   waits = waiting;
   holds = h;
@@ -106,16 +106,20 @@ module _ {s rows : List ℕ} {samples : ℕ} {referenced : Bool} {reference cont
     }
 
     unfoldable pub lay-ready : (text : List ℕ) → text ≡ between alts 0 len → (own : List ℕ) → own ≡ ownOf rows (take n found)
-        → LayReady s rows samples reference contig first last place number own text pending held fresh at
-    lay-ready text e own o =
+        → (allele : List ℕ) → allele ≡ recordRef on first to
+        → LayReady s rows samples contig first last allele number own text pending held fresh at
+    lay-ready text e own o allele a =
         let i = ready .sound some-covering in
         record {
           referenced = referenced;
+          reference = reference;
           on = on;
           found = take n found;
           own-is = o;
           sites = n;
+          place = place;
           to = exact text e;
+          allele-is = a;
           ordered = i .ordered;
           in-range = i .in-range;
           fits = ready .fits;
@@ -127,23 +131,23 @@ module _ {s rows : List ℕ} {samples : ℕ} {referenced : Bool} {reference cont
     {first last : ℕ} {pending : Pending} {held fresh found₀ owners₀ alts₀ : List ℕ} {at : ℕ}
     (ready : TurnReady s rows samples referenced reference contig chosen from bounds first last pending held fresh found₀ owners₀ alts₀ at)
     (waiting : Option Record) (d₀ bytes : List ℕ) (records : ℕ)
-    (h : Holds s rows samples reference contig held pending waiting) where
+    (h : Holds samples contig held pending waiting) where
   abbrev on′ : OnContig s rows samples referenced reference contig
   on′ = ready .runs .on
 
   pub turn-bare : covering on′ first ≡ [] → (out : List ℕ) (count : ℕ) → Progress d₀ bytes records out at count
-      → Turns (on′ .loaded .input) s rows samples reference contig held out first last waiting d₀ bytes records
+      → Turns (on′ .loaded .input) samples contig held out first last waiting d₀ bytes records
       (turned.To (record { pending = pending; at = at; count = count }))
   unfolding withInterval
   turn-bare e out count p =
-      unchanged (on′ .loaded .input) s rows samples reference contig first last pending held at waiting d₀ bytes records h out count p
+      unchanged (on′ .loaded .input) samples contig first last pending held at waiting d₀ bytes records h out count p
       (λ later. rw (ready .inside, e))
 
   -- a position without sites has no record to refuse
   pub turn-none : (row : ℕ) → 0 < length (covering on′ first)
       → ((last : ℕ) → intervalRecord (on′ .loaded .input) contig (record { first = first; last = last }) ≡ refused row)
       → (out : List ℕ) → out ≡ sets d₀ 0 bytes
-      → Turns (on′ .loaded .input) s rows samples reference contig held out first last waiting d₀ bytes records (turned.Refused row)
+      → Turns (on′ .loaded .input) samples contig held out first last waiting d₀ bytes records (turned.Refused row)
   unfolding Turns
   turn-none row some-site e out same = record {
     unlaid = same;
@@ -151,11 +155,12 @@ module _ {s rows : List ℕ} {samples : ℕ} {referenced : Bool} {reference cont
   }
 
   module _ (found alts : List ℕ) (n : ℕ) (place : RefAt) (len number : ℕ) (to : RecordTo on′ first (take n found) alts n place len number) where
-    pub turn-laid : (text : List ℕ) (e : text ≡ between alts 0 len) (own : List ℕ) (o : own ≡ ownOf rows (take n found)) (held′ out : List ℕ) (step : Stepped)
-        → StepTo s rows samples reference contig held′ out waiting (laidRecord (lay-ready ready found alts n place len number to text e own o)) d₀ bytes records step
-        → Turns (on′ .loaded .input) s rows samples reference contig held′ out first last waiting d₀ bytes records (turned.To step)
+    pub turn-laid : (text : List ℕ) (e : text ≡ between alts 0 len) (own : List ℕ) (o : own ≡ ownOf rows (take n found))
+        (allele : List ℕ) (a : allele ≡ recordRef on′ first to) (held′ out : List ℕ) (step : Stepped)
+        → StepTo samples contig held′ out waiting (laidRecord (lay-ready ready found alts n place len number to text e own o allele a)) d₀ bytes records step
+        → Turns (on′ .loaded .input) samples contig held′ out first last waiting d₀ bytes records (turned.To step)
     unfolding Turns lay-ready
-    turn-laid text e own o held′ out step t = record {
+    turn-laid text e own o allele a held′ out step t = record {
       laid = t .laid;
       waits = t .waits;
       holds = t .holds;

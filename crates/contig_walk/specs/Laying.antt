@@ -19,7 +19,7 @@ use Rattle.definitions.specs.Limits.{maxSamples}
 use Rattle.definitions.specs.Numbers.{maxNumber}
 use Rattle.definitions.specs.Printed.{printedRecord}
 use Rattle.definitions.specs.Records.{Record, endOf}
-use Rattle.merged_records.proofs.Records.{recordAlleles, recordData}
+use Rattle.merged_records.proofs.Records.{recordAlleles, recordData, recordRef}
 use Rattle.merged_records.specs.Found.{RecordRoom, RecordTo}
 use Rattle.found_sites.specs.Own.{foundList, ownRows}
 use Rattle.laws.proofs.IntervalsSound.{SoundInterval}
@@ -37,24 +37,27 @@ abbrev pub ownOf : List ℕ → List ℕ → List ℕ
 ownOf rows found = ownRows (foundList found (map (column 0 rows) found)) 0 (replicate maxSamples (length rows))
 
 -- the record was found, its interval is sound, and what is held back can be laid
-pub record LayReady (s rows : List ℕ) (samples : ℕ) (reference contig : List ℕ) (first last : ℕ) (place : RefAt) (number : ℕ) (own alts : List ℕ)
+pub record LayReady (s rows : List ℕ) (samples : ℕ) (contig : List ℕ) (first last : ℕ) (allele : List ℕ) (number : ℕ) (own alts : List ℕ)
     (pending : Pending) (held fresh : List ℕ) (at : ℕ) : Type 0 where
   pub referenced : Bool
+  pub reference : List ℕ
   pub on : OnContig s rows samples referenced reference contig
   pub found : List ℕ
   pub own-is : own ≡ ownOf rows found
   pub sites : ℕ
+  pub place : RefAt
   pub to : RecordTo on first found alts sites place (length alts) number
+  pub allele-is : allele ≡ recordRef on first to
   pub ordered : first ≤ last
   pub in-range : last ≤ maxNumber
-  pub fits : PendingFits s rows reference contig held pending at
+  pub fits : PendingFits contig held pending at
   pub room : 8192 ≤ length held
   pub fresh-room : 8192 ≤ length fresh
 
-module _ {s rows : List ℕ} {samples : ℕ} {reference contig : List ℕ} {first last : ℕ} {place : RefAt} {number : ℕ} {own alts : List ℕ}
+module _ {s rows : List ℕ} {samples : ℕ} {contig : List ℕ} {first last : ℕ} {allele : List ℕ} {number : ℕ} {own alts : List ℕ}
     {pending : Pending} {held fresh : List ℕ} {at : ℕ} where
   -- the record
-  abbrev pub laidRecord : LayReady s rows samples reference contig first last place number own alts pending held fresh at → Record
+  abbrev pub laidRecord : LayReady s rows samples contig first last allele number own alts pending held fresh at → Record
   laidRecord r = record {
     contig = contig;
     pos = first;
@@ -64,10 +67,10 @@ module _ {s rows : List ℕ} {samples : ℕ} {reference contig : List ℕ} {firs
   }
 
 -- what is laid and what waits: a list was begun, and this record is held back
-pub record Underway (s rows : List ℕ) (samples : ℕ) (reference contig held : List ℕ) (pending : Pending) (out : List ℕ) (at count : ℕ) : Type 0 where
+pub record Underway (samples : ℕ) (contig held : List ℕ) (pending : Pending) (out : List ℕ) (at count : ℕ) : Type 0 where
   pub begun : Begun out at count
   pub waiting : Option Record
-  pub holds : Holds s rows samples reference contig held pending waiting
+  pub holds : Holds samples contig held pending waiting
 
 -- the lists that a turn of the walk fills are long enough
 pub record TurnRoom (samples : ℕ) (held fresh found owners alts : List ℕ) : Type 0 where
@@ -82,15 +85,15 @@ pub record TurnReady (s rows : List ℕ) (samples : ℕ) (referenced : Bool) (re
   pub inside : inClip contig (runs .on .loaded .input .clip) (record { first = first; last = last }) ≡ true
   pub sound : 0 < length (coveringSites (runs .on .loaded .input .cohort) contig first) → SoundInterval (record { first = first; last = last })
   pub ended : Ended rows chosen bounds from samples first
-  pub fits : PendingFits s rows reference contig held pending at
+  pub fits : PendingFits contig held pending at
   pub room : TurnRoom samples held fresh found owners alts
 
 -- the records that are laid now, and the one that waits: all goes on with them as it would have gone on with the interval
-pub record TurnTo (x : Input) (s rows : List ℕ) (samples : ℕ) (reference contig held out : List ℕ) (first last : ℕ)
+pub record TurnTo (x : Input) (samples : ℕ) (contig held out : List ℕ) (first last : ℕ)
     (waiting : Option Record) (d₀ bytes : List ℕ) (records : ℕ) (r : Stepped) : Type 0 where
   pub laid : List Record
   pub waits : Option Record
-  pub holds : Holds s rows samples reference contig held (r .pending) waits
+  pub holds : Holds samples contig held (r .pending) waits
   pub progress : Progress d₀ (bytes ++ flatMap printedRecord laid) (records + length laid) out (r .at) (r .count)
   pub turned : (done : List Record) (later : Checked (List Record))
       → finish done waiting (withInterval x contig (record { first = first; last = last }) later) ≡ finish (done ++ laid) waits later
@@ -102,8 +105,8 @@ pub record TurnRefused (x : Input) (contig out : List ℕ) (first last : ℕ) (w
   pub refuses : (done : List Record) (later : Checked (List Record))
       → finish done waiting (withInterval x contig (record { first = first; last = last }) later) ≡ refused row
 
-unfoldable pub Turns : Input → List ℕ → List ℕ → ℕ → List ℕ → List ℕ → List ℕ → List ℕ → ℕ → ℕ → Option Record → List ℕ → List ℕ → ℕ → Turned → Type 0
-Turns x s rows samples reference contig held out first last waiting d₀ bytes records (turned.To step) =
-    TurnTo x s rows samples reference contig held out first last waiting d₀ bytes records step
-Turns x s rows samples reference contig held out first last waiting d₀ bytes records (turned.Refused row) =
+unfoldable pub Turns : Input → ℕ → List ℕ → List ℕ → List ℕ → ℕ → ℕ → Option Record → List ℕ → List ℕ → ℕ → Turned → Type 0
+Turns x samples contig held out first last waiting d₀ bytes records (turned.To step) =
+    TurnTo x samples contig held out first last waiting d₀ bytes records step
+Turns x samples contig held out first last waiting d₀ bytes records (turned.Refused row) =
     TurnRefused x contig out first last waiting d₀ bytes row

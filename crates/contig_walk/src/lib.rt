@@ -1,17 +1,18 @@
 // The intervals of a contig one after the other: their records, coalesced and laid.
 ghost use lib.Dec.{eqb};
 ghost use lib.ListN.{length};
+ghost use lib.Seq.{sets};
 ghost use mathlib.Core.Bool.{_&&_, true};
 ghost use mathlib.Core.Path.{_≡_};
-ghost use Rattle.coalescing.specs.Steps.{StepTo};
+ghost use Rattle.coalescing.specs.Steps.{StepTo, recordStepped};
 ghost use Rattle.definitions.specs.Alleles.{isBlock};
-ghost use Rattle.merged_ref.specs.Answers.{refBytes};
+ghost use Rattle.record_lines.specs.Records.{RecordFits, recordBytes};
 ghost use Rattle.contig_walk.specs.Laying.{LayReady, TurnReady, Turns, Underway, laidRecord};
 use bio_ids::GenomeLoc;
+use bio_ids::GenomePosition;
 use coalescing::Pending;
 use coalescing::Stepped;
 use merged_records::RecordAt;
-use merged_ref::RefAt;
 
 // Where the list goes on and how many records it has so far; or the row that refuses it.
 pub enum Walked {
@@ -20,14 +21,13 @@ pub enum Walked {
 }
 
 // The next record is a block: its samples' lines are laid aside, and it joins the one that is held back or is held itself.
-fn lay_block<'a>(
-    s: &'a [u8],
+fn lay_block(
+    s: &[u8],
     rows: &[usize],
     samples: usize,
-    reference: &'a [u8],
     contig: &[u8],
     loc: GenomeLoc,
-    place: RefAt,
+    allele: &[u8],
     number: usize,
     own: &[usize],
     alts: &[u8],
@@ -38,15 +38,14 @@ fn lay_block<'a>(
     at: usize,
     count: usize,
 ) -> Stepped
-    requires { ⌜ ((r : LayReady (now s) (now rows) samples (now reference) (now contig) (loc .start .0) (loc .end .0) place number (now own) (now alts) pending (now held) (now fresh) at) × (isBlock (laidRecord r .alleles) ≡ true)
-        × Underway (now s) (now rows) samples (now reference) (now contig) (now held) pending (now out) at count) ⌝ }
-    ensures { λ r. ⌜ ((ready : LayReady (now (s .entry)) (now (rows .entry)) samples (now (reference .entry)) (now (contig .entry)) (loc .start .0) (loc .end .0) place number (now (own .entry)) (now (alts .entry)) pending (now (held .entry)) (now (fresh .entry)) at)
+    requires { ⌜ ((r : LayReady (now s) (now rows) samples (now contig) (loc .start .0) (loc .end .0) (now allele) number (now own) (now alts) pending (now held) (now fresh) at) × (isBlock (laidRecord r .alleles) ≡ true)
+        × Underway samples (now contig) (now held) pending (now out) at count) ⌝ }
+    ensures { λ r. ⌜ ((ready : LayReady (now (s .entry)) (now (rows .entry)) samples (now (contig .entry)) (loc .start .0) (loc .end .0) (now (allele .entry)) number (now (own .entry)) (now (alts .entry)) pending (now (held .entry)) (now (fresh .entry)) at)
         (block : isBlock (laidRecord ready .alleles) ≡ true)
-        (way : Underway (now (s .entry)) (now (rows .entry)) samples (now (reference .entry)) (now (contig .entry)) (now (held .entry)) pending (now (out .entry)) at count)
-        → StepTo (now (s .entry)) (now (rows .entry)) samples (now (reference .entry)) (now (contig .entry)) (now (held .exit)) (now (out .exit)) (way .waiting) (laidRecord ready)
+        (way : Underway samples (now (contig .entry)) (now (held .entry)) pending (now (out .entry)) at count)
+        → StepTo samples (now (contig .entry)) (now (held .exit)) (now (out .exit)) (way .waiting) (laidRecord ready)
         (way .begun .d₀) (way .begun .bytes) (way .begun .records) r) ⌝ }
 {
-    let allele = merged_ref::ref_bytes(s, rows, reference, place);
     let len = record_lines::merge_genotypes(
         s,
         rows,
@@ -58,13 +57,11 @@ fn lay_block<'a>(
         fresh,
         0,
     );
+    let base = allele[0];
     coalescing::coalesce_homref_blocks(
-        s,
-        rows,
-        reference,
         contig,
         loc,
-        place,
+        base,
         &fresh[..len],
         pending,
         held,
@@ -75,31 +72,62 @@ fn lay_block<'a>(
 }
 
 // Whether a record with this REF and so many ALTs is a block: REF is one letter, and the only ALT is <NON_REF>.
-fn is_homref_nonref_only<'a>(
-    s: &'a [u8],
-    rows: &[usize],
-    reference: &'a [u8],
-    place: RefAt,
-    number: usize,
-) -> bool
-    ensures { λ r. ⌜ r ≡ (eqb number 1 && eqb (length (refBytes (now (s .entry)) (now (rows .entry)) (now (reference .entry)) place)) 1) ⌝ }
+fn is_homref_nonref_only(allele: &[u8], number: usize) -> bool
+    ensures { λ r. ⌜ r ≡ (eqb number 1 && eqb (length (now (allele .entry))) 1) ⌝ }
 {
     if number != 1 {
         return false;
     }
-    let allele = merged_ref::ref_bytes(s, rows, reference, place);
     allele.len() == 1
 }
 
-// Lays the record of an interval behind the one that is held back, or joins it to that one, or holds it.
-fn lay_record<'a>(
-    s: &'a [u8],
+// Lays a record that is no block behind those that are laid.
+fn lay_behind(
+    s: &[u8],
     rows: &[usize],
     samples: usize,
-    reference: &'a [u8],
+    contig: &[u8],
+    position: GenomePosition,
+    allele: &[u8],
+    own: &[usize],
+    alts: &[u8],
+    out: &mut [u8],
+    at: usize,
+    count: usize,
+) -> Stepped
+    requires { ⌜ RecordFits (now s) (now rows) samples (now contig) (position .0) (now allele) (now own) (now alts) at ⌝ }
+    ensures step { λ r. ⌜ r ≡ recordStepped at
+        (recordBytes (now (s .entry)) (now (rows .entry)) samples (now (contig .entry)) (position .0) (now (allele .entry)) (now (own .entry)) (now (alts .entry))) count ⌝ }
+    ensures laid { λ _. ⌜ now (out .exit) ≡ sets (now (out .entry)) at
+        (recordBytes (now (s .entry)) (now (rows .entry)) samples (now (contig .entry)) (position .0) (now (allele .entry)) (now (own .entry)) (now (alts .entry))) ⌝ }
+{
+    let end = record_lines::merge_result_to_record(
+        s,
+        rows,
+        samples,
+        contig,
+        position,
+        allele,
+        own,
+        alts,
+        out,
+        at,
+    );
+    Stepped {
+        pending: Pending::Nothing,
+        at: list_header::cap(end),
+        count: list_header::count_more(count),
+    }
+}
+
+// Lays the record of an interval behind the one that is held back, or joins it to that one, or holds it.
+fn lay_record(
+    s: &[u8],
+    rows: &[usize],
+    samples: usize,
     contig: &[u8],
     loc: GenomeLoc,
-    place: RefAt,
+    allele: &[u8],
     number: usize,
     own: &[usize],
     alts: &[u8],
@@ -110,22 +138,21 @@ fn lay_record<'a>(
     at: usize,
     count: usize,
 ) -> Stepped
-    requires { ⌜ LayReady (now s) (now rows) samples (now reference) (now contig) (loc .start .0) (loc .end .0) place number (now own) (now alts) pending (now held) (now fresh) at
-        × Underway (now s) (now rows) samples (now reference) (now contig) (now held) pending (now out) at count ⌝ }
-    ensures { λ r. ⌜ ((ready : LayReady (now (s .entry)) (now (rows .entry)) samples (now (reference .entry)) (now (contig .entry)) (loc .start .0) (loc .end .0) place number (now (own .entry)) (now (alts .entry)) pending (now (held .entry)) (now (fresh .entry)) at)
-        (way : Underway (now (s .entry)) (now (rows .entry)) samples (now (reference .entry)) (now (contig .entry)) (now (held .entry)) pending (now (out .entry)) at count)
-        → StepTo (now (s .entry)) (now (rows .entry)) samples (now (reference .entry)) (now (contig .entry)) (now (held .exit)) (now (out .exit)) (way .waiting) (laidRecord ready)
+    requires { ⌜ LayReady (now s) (now rows) samples (now contig) (loc .start .0) (loc .end .0) (now allele) number (now own) (now alts) pending (now held) (now fresh) at
+        × Underway samples (now contig) (now held) pending (now out) at count ⌝ }
+    ensures { λ r. ⌜ ((ready : LayReady (now (s .entry)) (now (rows .entry)) samples (now (contig .entry)) (loc .start .0) (loc .end .0) (now (allele .entry)) number (now (own .entry)) (now (alts .entry)) pending (now (held .entry)) (now (fresh .entry)) at)
+        (way : Underway samples (now (contig .entry)) (now (held .entry)) pending (now (out .entry)) at count)
+        → StepTo samples (now (contig .entry)) (now (held .exit)) (now (out .exit)) (way .waiting) (laidRecord ready)
         (way .begun .d₀) (way .begun .bytes) (way .begun .records) r) ⌝ }
 {
-    if is_homref_nonref_only(s, rows, reference, place, number) {
+    if is_homref_nonref_only(allele, number) {
         return lay_block(
             s,
             rows,
             samples,
-            reference,
             contig,
             loc,
-            place,
+            allele,
             number,
             own,
             alts,
@@ -137,21 +164,19 @@ fn lay_record<'a>(
             count,
         );
     }
-    coalescing::step_record(
+    let before = coalescing::lay_pending(contig, pending, held, out, at, count);
+    lay_behind(
         s,
         rows,
         samples,
-        reference,
         contig,
         loc.start,
-        place,
+        allele,
         own,
         alts,
-        pending,
-        held,
         out,
-        at,
-        count,
+        before.at,
+        before.count,
     )
 }
 
@@ -184,10 +209,10 @@ pub fn walk_interval<'a>(
     count: usize,
 ) -> Turned
     requires { ⌜ TurnReady (now s) (now rows) samples referenced (now reference) (now contig) (now chosen) (now from) (now bounds) (loc .start .0) (loc .end .0) pending (now held) (now fresh) (now found) (now owners) (now alts) at
-        × Underway (now s) (now rows) samples (now reference) (now contig) (now held) pending (now out) at count ⌝ }
+        × Underway samples (now contig) (now held) pending (now out) at count ⌝ }
     ensures { λ r. ⌜ ((ready : TurnReady (now (s .entry)) (now (rows .entry)) samples referenced (now (reference .entry)) (now (contig .entry)) (now (chosen .entry)) (now (from .entry)) (now (bounds .entry)) (loc .start .0) (loc .end .0) pending (now (held .entry)) (now (fresh .entry)) (now (found .entry)) (now (owners .entry)) (now (alts .entry)) at)
-        (way : Underway (now (s .entry)) (now (rows .entry)) samples (now (reference .entry)) (now (contig .entry)) (now (held .entry)) pending (now (out .entry)) at count)
-        → Turns (ready .runs .on .loaded .input) (now (s .entry)) (now (rows .entry)) samples (now (reference .entry)) (now (contig .entry)) (now (held .exit)) (now (out .exit)) (loc .start .0) (loc .end .0)
+        (way : Underway samples (now (contig .entry)) (now (held .entry)) pending (now (out .entry)) at count)
+        → Turns (ready .runs .on .loaded .input) samples (now (contig .entry)) (now (held .exit)) (now (out .exit)) (loc .start .0) (loc .end .0)
         (way .waiting) (way .begun .d₀) (way .begun .bytes) (way .begun .records) r) ⌝ }
 {
     let same = Stepped { pending, at, count };
@@ -213,14 +238,14 @@ pub fn walk_interval<'a>(
             let mut own = [rows.len(); 64];
             found_sites::own_sites(&found[..n], &owners[..n], &mut own);
             let text = tables::part(alts, 0, len);
+            let allele = merged_ref::ref_bytes(s, reference, b"N", place);
             let step = lay_record(
                 s,
                 rows,
                 samples,
-                reference,
                 contig,
                 loc,
-                place,
+                allele,
                 number,
                 &own,
                 text,

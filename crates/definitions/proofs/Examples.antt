@@ -119,10 +119,10 @@ abbrev pub checkedByHand : List Row
 checkedByHand =
     (decimal (genotypeIndex 0 2) gives "3")
     ∷ (decimal (genotypeIndex 15 15) gives "135")
-    ∷ (allelesIn (two ++ bare "0" "10" "10" "A" "G,<NON_REF>" ++ bare "1" "10" "11" "AT" "A,<NON_REF>") gives "AT,A,GT,<NON_REF>;A,*,<NON_REF>")
+    ∷ (allelesIn (two ++ bare "0" "10" "10" "A" "G,<NON_REF>" ++ bare "1" "10" "11" "AT" "A,<NON_REF>") gives "AT,A,GT,<NON_REF>;T,*,<NON_REF>")
     ∷ (allelesAndPl (one ++ withPl "0" "20" "22" "ACG" "A,<NON_REF>" "1,2,3,4,5,6")
-    gives "ACG,A,<NON_REF> 1,2,3,4,5,6;A,*,<NON_REF> 1,2,3,4,5,6;A,*,<NON_REF> 1,2,3,4,5,6")
-    ∷ (allelesAndPl (one ++ withPl "0" "20" "21" "AC" "GT,<NON_REF>" "1,2,3,4,5,6") gives "AC,GT,<NON_REF> 1,2,3,4,5,6;A,*,<NON_REF> 1,4,6,4,6,6")
+    gives "ACG,A,<NON_REF> 1,2,3,4,5,6;C,*,<NON_REF> 1,2,3,4,5,6;G,*,<NON_REF> 1,2,3,4,5,6")
+    ∷ (allelesAndPl (one ++ withPl "0" "20" "21" "AC" "GT,<NON_REF>" "1,2,3,4,5,6") gives "AC,GT,<NON_REF> 1,2,3,4,5,6;C,*,<NON_REF> 1,4,6,4,6,6")
     ∷ (printedValues (calledData 3 2 (withValues (7 ∷ 8 ∷ 9 ∷ []) (90 ∷ 80 ∷ 70 ∷ 10 ∷ 20 ∷ 30 ∷ []))) gives "gq=10\ndp=.\nad=7,8\npl=0,10,10\n")
     ∷ (decimal (gqFromPl (0 ∷ 0 ∷ 5 ∷ [])) gives "0")
     ∷ (decimal (gqFromPl (0 ∷ 150 ∷ 200 ∷ [])) gives "99")
@@ -172,7 +172,7 @@ refusals =
 -- 'Slips to rule out' that the rows above would let through, and which of two refusals decides
 abbrev pub slips : List Row
 slips =
-    (allelesIn (two ++ bare "0" "10" "10" "A" "*,<NON_REF>" ++ bare "1" "10" "11" "AT" "A,<NON_REF>") gives "AT,A,*,<NON_REF>;A,*,<NON_REF>")
+    (allelesIn (two ++ bare "0" "10" "10" "A" "*,<NON_REF>" ++ bare "1" "10" "11" "AT" "A,<NON_REF>") gives "AT,A,*,<NON_REF>;T,*,<NON_REF>")
     ∷ (decimal (gqFromPl (30 ∷ 0 ∷ 20 ∷ [])) gives "20")
     ∷ (spans (one ++ siteGroup "0" "10" "12" "A" "<NON_REF>" "7" "." ++ siteGroup "0" "13" "15" "A" "<NON_REF>" "8" ".") gives "10-12;13-15")
     ∷ (shown (λ (x : Float). decimal (toBits binary64 x)) (likelihoodSubset (map log10FromPl (40 ∷ 0 ∷ 50 ∷ 60 ∷ 70 ∷ 80 ∷ [])) 3 (2 ∷ 0 ∷ []) 136)
@@ -183,7 +183,11 @@ slips =
     gives "samples=1\nsample=S0\nrecords=1\ncontig=c\npos=10\nend=19\nref=A\nalt=<NON_REF>\ngt=.\ngq=.\ndp=.\nad=.\npl=.\n")
     ∷ (answerWithin 0 65536 (alone one) gives "samples=1\nsample=S0\nrecords=0\n")
     ∷ (allelesIn (one ++ bare "0" "10" "13" "ACGT" "A,<NON_REF>" ++ bare "0" "12" "12" "G" "T,<NON_REF>" ++ bare "0" "12" "12" "G" "C,<NON_REF>")
-    gives "ACGT,A,<NON_REF>;A,*,<NON_REF>;G,T,<NON_REF>;A,*,<NON_REF>")
+    gives "ACGT,A,<NON_REF>;C,*,<NON_REF>;G,T,<NON_REF>;T,*,<NON_REF>")
+    ∷ (allelesIn (two ++ bare "0" "10" "12" "A" "<NON_REF>" ++ bare "1" "9" "11" "GAT" "G,<NON_REF>")
+    gives "GAT,G,<NON_REF>;A,*,<NON_REF>;T,*,<NON_REF>;N,<NON_REF>")
+    ∷ (allelesIn (two ++ bare "0" "10" "11" "AC" "A,<NON_REF>" ++ bare "1" "9" "11" "GAT" "G,<NON_REF>")
+    gives "GAT,G,<NON_REF>;AC,A,*,<NON_REF>;C,*,<NON_REF>")
     ∷ (answerToSite "10" "9" "A" "G,G" "." gives "refused=4\n")
     ∷ (answerToSite "10" "12" "A" "G,<NON_REF>" "0,30" gives "refused=7\n")
     ∷ (answer (one ++ withPl "0" "10" "10" "A" "<NON_REF>" "0,30" ++ bare "0" "010" "10" "A" "<NON_REF>") gives "refused=8\n")
@@ -257,7 +261,7 @@ exampleList =
     ++ text "contig=c\npos=10\nend=.\nref=A\nalt=G,<NON_REF>\n"
     ++ text "gt=0/0\ngq=30\ndp=9\nad=9,0,0\npl=0,30,300,30,300,300\n"
     ++ text "gt=0/1\ngq=40\ndp=8\nad=4,4,0\npl=40,0,50,60,70,80\n"
-    ++ text "contig=c\npos=11\nend=.\nref=A\nalt=<NON_REF>\n"
+    ++ text "contig=c\npos=11\nend=.\nref=N\nalt=<NON_REF>\n"
     ++ text "gt=0/0\ngq=30\ndp=9\nad=9,0\npl=0,30,300\n"
     ++ text "gt=.\ngq=.\ndp=.\nad=.\npl=.\n"
 

@@ -1,9 +1,9 @@
 -- REF of a record (`mergedRef` of definitions): what starts there is a prefix of it, and it is extended as samples are put in.
 use Prim.Native.Nat.{_≤_, ℕ}
-use lib.ListN.{drop, length, length-append, length-take, take, take-append-drop}
+use lib.ListN.{drop, length, length-append, take, take-append-drop}
 use lib.Seq.{drop-append-le, drop-append-seam}
 use mathlib.Core.Bool.{Bool, cond, false, true}
-use mathlib.Core.List.{List, List·Memᴰ·head, List·Memᴰ·not-nil, Memᴰ·map, [], _++_, _∷_, map}
+use mathlib.Core.List.{List, Memᴰ·map, [], _++_, map}
 use mathlib.Core.Logic.{_⊎_, inl, inr}
 use mathlib.Core.Option.{Option, none, some}
 use mathlib.Core.Path.{_∙_, _≡_, ap, refl, sym}
@@ -14,7 +14,7 @@ use Rattle.definitions.specs.Checked.{accepted}
 use Rattle.definitions.specs.ClipAndReference.{ReferenceSegment}
 use Rattle.definitions.specs.Cohort.{Site}
 use Rattle.definitions.specs.Lists.{allOf, anyOf, filterBy}
-use Rattle.definitions.specs.MergedRef.{firstRef, longest, mergedRef, refLetter, sharedRef, siteRef, startsAt}
+use Rattle.definitions.specs.MergedRef.{longest, mergedRef, refLetter, sharedRef, siteRef, startsAt}
 use Rattle.laws.proofs.Alleles.{block-is}
 use Rattle.laws.proofs.Bytes.{same-is}
 use Rattle.laws.proofs.Checked.{accepted-same, after-required, after-then}
@@ -23,13 +23,6 @@ use Rattle.laws.proofs.Members.{_∈_, any-member, filter-member, member-any, m
 use Rattle.laws.proofs.MergedRefSound.{longest-in}
 use Rattle.demands.specs.Inserted.{unnumbered}
 use Rattle.demands.proofs.ExtendedAlleles.{Extends}
-
--- where each REF has one letter, so has the first
-first-ref : (l : List Site) {s : Site} → s ∈ l → ((t : Site) → t ∈ l → length (siteRef t) ≡ 1)
-    → length (take 1 (firstRef l)) ≡ 1
-unfolding firstRef
-first-ref [] m h = absurd (List·Memᴰ·not-nil m)
-first-ref (x ∷ l) m h = length-take 1 (siteRef x) ∙ omega (arith, h x (List·Memᴰ·head refl))
 
 -- REF is empty, or the REF of a covering site that starts there
 abbrev RefAmong : ℕ → List Site → List ℕ → Type 0
@@ -74,9 +67,9 @@ module _ (reference : Option (List ReferenceSegment)) (g : List ℕ) (q : ℕ) (
           inr (s, n, starts, sym (shared e .1) ∙ is)
 
   -- blocks alone have a one-letter REF
-  pub one-letter : (s : Site) → s ∈ covering → ((t : Site) → t ∈ covering → isBlock (t .alleles) ≡ true) → length ref ≡ 1
+  pub one-letter : ((t : Site) → t ∈ covering → isBlock (t .alleles) ≡ true) → length ref ≡ 1
   unfolding mergedRef refLetter siteRef
-  one-letter s m blocks = go (anyOf (startsAt q) covering) refl
+  one-letter blocks = go (anyOf (startsAt q) covering) refl
     where
       block-ref : (t : Site) → t ∈ covering → length (siteRef t) ≡ 1
       block-ref t n = block-is _ (blocks t n) .1
@@ -89,7 +82,7 @@ module _ (reference : Option (List ReferenceSegment)) (g : List ℕ) (q : ℕ) (
       started e (inr (t, n, starts, is)) = ap length is ∙ block-ref t n
 
       letter : (o : Option (List ReferenceSegment)) → refLetter o g q covering ≡ accepted ref → length ref ≡ 1
-      letter none h = sym (ap length (accepted-same h)) ∙ first-ref covering m block-ref
+      letter none h = sym (ap length (accepted-same h))
       letter (some l) h = after-then _ _ h λ b p k. ap length (sym (accepted-same k))
 
       go : (b : Bool) → anyOf (startsAt q) covering ≡ b → length ref ≡ 1

@@ -47,7 +47,7 @@ refGrows = record {
   newReference = none;
 }
 
-ref-grows : Worked refGrows "10-10:A,G,<NON_REF>" "10-10:AT,GT,A,<NON_REF> 11-11:A,*,<NON_REF>"
+ref-grows : Worked refGrows "10-10:A,G,<NON_REF>" "10-10:AT,GT,A,<NON_REF> 11-11:T,*,<NON_REF>"
 unfolding computed
 ref-grows = worked refGrows tt tt (record { names = refl; sites = refl }) refl refl
 
@@ -78,13 +78,13 @@ onAllSides = record {
   newReference = none;
 }
 
-on-all-sides : Worked onAllSides "10-10:A,G,<NON_REF> 11-16:A,<NON_REF>"
-    "10-10:AT,GT,A,<NON_REF> 11-11:A,*,<NON_REF> 12-12:C,T,<NON_REF> 13-16:A,<NON_REF>"
+on-all-sides : Worked onAllSides "10-10:A,G,<NON_REF> 11-16:N,<NON_REF>"
+    "10-10:AT,GT,A,<NON_REF> 11-11:T,*,<NON_REF> 12-12:C,T,<NON_REF> 13-16:N,<NON_REF>"
 unfolding computed
 on-all-sides = worked onAllSides tt tt (record { names = refl; sites = refl }) refl refl
 
 -- the second list is one that can be called; its block is dropped
-on-all-sides-called : CalledAs onAllSides "10-10:AT,GT,A 11-11:A,* 12-12:C,T"
+on-all-sides-called : CalledAs onAllSides "10-10:AT,GT,A 11-11:T,* 12-12:C,T"
 unfolding computed
 on-all-sides-called = called-as onAllSides tt tt refl
 
@@ -105,7 +105,7 @@ missingValues = record {
   newReference = none;
 }
 
-missing-values : Worked missingValues "10-10:A,G,<NON_REF> 11-16:A,<NON_REF>"
-    "10-10:AT,A,GT,<NON_REF> 11-11:A,*,<NON_REF> 12-16:A,<NON_REF>"
+missing-values : Worked missingValues "10-10:A,G,<NON_REF> 11-16:N,<NON_REF>"
+    "10-10:AT,A,GT,<NON_REF> 11-11:T,*,<NON_REF> 12-16:N,<NON_REF>"
 unfolding computed
 missing-values = worked missingValues tt tt (record { names = refl; sites = refl }) refl refl

@@ -1,17 +1,16 @@
 -- The genotypes by place, for callers. That a pair stands at its place is `genotype-pairs-at` of `laws`; here, that every place has such a pair.
 -- Assumes nothing.
 use Prim.Native.Nat.{_+_, _-_, _<_, _≤_, suc, zero, ℕ}
-use lib.ListN.{getElem?, length, take}
+use lib.ListN.{getElem?, take}
 use lib.Seq.{take-at}
-use mathlib.Core.List.{List, [], _∷_}
 use mathlib.Core.Option.{none, some}
-use mathlib.Core.Path.{_∙_, _≡_, ap, refl, sym}
+use mathlib.Core.Path.{_∙_, _≡_, ap, sym}
 use native.Mathlib.Decide.{decLt}
 use native.Mathlib.Omega.{arith}
 use Rattle.definitions.specs.Alleles.{genotypeCount}
 use Rattle.definitions.specs.Genotypes.{AllelePair, genotypeIndex, genotypePairs}
 use Rattle.laws.proofs.Genotypes.{genotype-pairs-append, genotype-pairs-at, genotype-pairs-length}
-use Rattle.laws.proofs.Members.{below-at}
+use Rattle.laws.proofs.Members.{below-at, past-at}
 use Rattle.laws.proofs.Tests.{not-none, some-same}
 use Rattle.bio_ids.specs.declared.AlleleIndex.{AlleleIndex}
 use Rattle.diploid_pairs.specs.Pairs.{pairOf}
@@ -49,12 +48,7 @@ there-pair n place e =
 
 -- past the places there is none
 pub no-pair : (n place : ℕ) → genotypeCount n ≤ place → getElem? (genotypePairs n) place ≡ none
-no-pair n place h = past (genotypePairs n) place (rw genotype-pairs-length h)
-  where
-    past : {A : Type 0} (l : List A) (k : ℕ) → length l ≤ k → getElem? l k ≡ none
-    past [] k g = refl
-    past (x ∷ l) zero g = absurd (omega arith)
-    past (x ∷ l) (suc k) g = past l k (omega arith)
+no-pair n place h = past-at (genotypePairs n) place (rw genotype-pairs-length h)
 
 -- the pairs of fewer alleles stand at the same places
 pub same-pair : (n m place : ℕ) → n ≤ m → place < genotypeCount n → getElem? (genotypePairs n) place ≡ getElem? (genotypePairs m) place

@@ -73,13 +73,10 @@ module _ {s rows : List ℕ} {samples : ℕ} {referenced : Bool} {reference cont
 
   -- ---- REF
 
-  module _ (some-site : 0 < length numbers) (ref : List ℕ)
+  module _ (ref : List ℕ)
       (merged : mergedRef (on .loaded .input .reference) contig position (covering on position) ≡ accepted ref) where
-    some-covering : 0 < length (covering on position)
-    some-covering = rw (← numbers-cover) (rw (length-map numbers (siteAt s rows)) some-site)
-
     ref-letters : Letters maxSiteLetters ref
-    ref-letters = merged-ref-sound (on .loaded .input .reference) contig position (covering on position) ref some-covering
+    ref-letters = merged-ref-sound (on .loaded .input .reference) contig position (covering on position) ref
         (covering-sound (on .loaded .input .cohort) contig position (on .loaded .sound .cohort .sites))
         (on .loaded .sound .reference) merged .letters
 
@@ -127,19 +124,19 @@ module _ {s rows : List ℕ} {samples : ℕ} {referenced : Bool} {reference cont
         sym (h ∙ by-segments reference rows referenced (l .segments) (l .segments-from) (l .segments-indexed) contig position _
         ∙ rw (here, numbers-cover, l .reference-is))
 
-    module _ (at : RefAt) (some-site : 0 < length sites)
+    module _ (at : RefAt)
         (merged : mergedRef (on .loaded .input .reference) contig position (covering on position)
-        ≡ accepted (refBytes s rows reference at)) where
-      pub found-sites-sound : SoundSites s rows sites (refBytes s rows reference at)
-      found-sites-sound = rw here (sites-sound (rw here at some-site) (refBytes s rows reference at) merged)
+        ≡ accepted (refBytes s reference at)) where
+      pub found-sites-sound : SoundSites s rows sites (refBytes s reference at)
+      found-sites-sound = rw here (sites-sound (refBytes s reference at) merged)
 
-      pub record-found : (alts : List ℕ) (r : RecordAt) → AltsFound s rows reference position at sites alts r
+      pub record-found : 0 < length sites → (alts : List ℕ) (r : RecordAt) → AltsFound s rows reference position at sites alts r
           → RecordFound on position (λ _. sites) alts r
       unfolding AltsFound RecordFound
-      record-found alts answer.NoSites h = absurd h
-      record-found alts (answer.Refused row) h =
-          (covering-some sites here some-site, λ last. rw (h .0) (alts-refused last (refBytes s rows reference at) merged (rw (← numbers-cover, ← here) (h .1))))
-      record-found alts (answer.Record m same len number) h =
+      record-found some-site alts answer.NoSites h = absurd h
+      record-found some-site alts (answer.Refused row) h =
+          (covering-some sites here some-site, λ last. rw (h .0) (alts-refused last (refBytes s reference at) merged (rw (← numbers-cover, ← here) (h .1))))
+      record-found some-site alts (answer.Record m same len number) h =
           let cover : map (siteAt s rows) sites ≡ covering on position = ap (map (siteAt s rows)) here ∙ numbers-cover in
           rw (h .same-ref) (record {
             sites = cover;
@@ -163,16 +160,16 @@ module _ {s rows : List ℕ} {samples : ℕ} {referenced : Bool} {reference cont
       let same : n ≡ m = h .all ∙ sym e in
       subst (λ (k : ℕ). RecordTo on position (take k after) alts n at len number) (sym same) h
 
--- an answer that is a site or a letter is REF
-pub site-answered : (s rows reference : List ℕ) (at : RefAt) (site : ℕ) → at ≡ ref.Site site
-    → refAnswer s rows reference at ≡ accepted (refBytes s rows reference at)
+-- an answer that is an allele of the cohort text or a letter is REF
+pub allele-answered : (s reference : List ℕ) (at : RefAt) (from to : ℕ) → at ≡ ref.Allele from to
+    → refAnswer s reference at ≡ accepted (refBytes s reference at)
 unfolding refAnswer
-site-answered s rows reference at site e = rw e
+allele-answered s reference at from to e = rw e
 
-pub letter-answered : (s rows reference : List ℕ) (at : RefAt) (place : Place) → at ≡ ref.Letter place
-    → refAnswer s rows reference at ≡ accepted (refBytes s rows reference at)
+pub letter-answered : (s reference : List ℕ) (at : RefAt) (place : Place) → at ≡ ref.Letter place
+    → refAnswer s reference at ≡ accepted (refBytes s reference at)
 unfolding refAnswer
-letter-answered s rows reference at place e = rw e
+letter-answered s reference at place e = rw e
 
 -- ---- the numbers at the front of the list that was filled
 
@@ -217,7 +214,7 @@ module _ {s rows : List ℕ} {samples : ℕ} {referenced : Bool} {reference cont
       rw (here, at, same, owned) (front-of owners₀ (coveringOwners on position) (omega arith))
 
   abbrev pub recordRef : List ℕ
-  recordRef = refBytes s rows reference at
+  recordRef = refBytes s reference at
 
   abbrev pub recordAlts : List Allele
   recordAlts = mergedAlts recordRef position (covering on position)
@@ -253,5 +250,4 @@ module _ {s rows : List ℕ} {samples : ℕ} {referenced : Bool} {reference cont
   pub ref-for : RefFor position (covering on position) recordRef
   ref-for =
       merged-ref-sound (on .loaded .input .reference) contig position (covering on position) recordRef
-      (rw (← to .sites) (rw (length-map found (siteAt s rows)) (omega (arith, to .all, to .some-site))))
       sites-are-sound (on .loaded .sound .reference) (to .ref)

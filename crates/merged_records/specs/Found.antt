@@ -33,9 +33,9 @@ module _ {s rows : List ℕ} {samples : ℕ} {referenced : Bool} {reference cont
     pub some-site : 0 < n
     pub few : n ≤ samples
     pub ref : mergedRef (on .loaded .input .reference) contig position covering
-        ≡ accepted (refBytes s rows reference at)
-    pub text : take len alts ≡ writtenAlleles (mergedAlts (refBytes s rows reference at) position covering)
-    pub number : count ≡ length (mergedAlts (refBytes s rows reference at) position covering)
+        ≡ accepted (refBytes s reference at)
+    pub text : take len alts ≡ writtenAlleles (mergedAlts (refBytes s reference at) position covering)
+    pub number : count ≡ length (mergedAlts (refBytes s reference at) position covering)
     pub few-alts : count ≤ 15
 
   -- no site covers the position; or some do and the record is refused, however far its interval goes; or it is as found, with n sites in a list
@@ -50,12 +50,12 @@ module _ {s rows : List ℕ} {samples : ℕ} {referenced : Bool} {reference cont
 pub record AltsTo (s rows reference : List ℕ) (position : ℕ) (at : RefAt) (found alts : List ℕ) (n : ℕ) (same : RefAt) (len count : ℕ) : Type 0 where
   pub number : n ≡ length found
   pub same-ref : same ≡ at
-  pub written : AltsWritten (mergedAlts (refBytes s rows reference at) position (map (siteAt s rows) found)) alts len count
+  pub written : AltsWritten (mergedAlts (refBytes s reference at) position (map (siteAt s rows) found)) alts len count
 
 unfoldable pub AltsFound : List ℕ → List ℕ → List ℕ → ℕ → RefAt → List ℕ → List ℕ → RecordAt → Type 0
 AltsFound s rows reference position at found alts answer.NoSites = ⊥
 AltsFound s rows reference position at found alts (answer.Refused row) =
-    (row ≡ 13) × (15 < length (mergedAlts (refBytes s rows reference at) position (map (siteAt s rows) found)))
+    (row ≡ 13) × (15 < length (mergedAlts (refBytes s reference at) position (map (siteAt s rows) found)))
 AltsFound s rows reference position at found alts (answer.Record n same len count) = AltsTo s rows reference position at found alts n same len count
 
 -- these are the numbers of the sites that cover a position of the contig, and there are some

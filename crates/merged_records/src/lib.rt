@@ -29,10 +29,10 @@ fn alts_at<'a>(
     found: &[usize],
     alts: &mut [u8],
 ) -> RecordAt
-    requires { ⌜ (4096 ≤ length (now alts)) × SoundSites (now s) (now rows) (now found) (refBytes (now s) (now rows) (now reference) at) ⌝ }
+    requires { ⌜ (4096 ≤ length (now alts)) × SoundSites (now s) (now rows) (now found) (refBytes (now s) (now reference) at) ⌝ }
     ensures { λ r. ⌜ AltsFound (now (s .entry)) (now (rows .entry)) (now (reference .entry)) (position .0) at (now (found .entry)) (now (alts .exit)) r ⌝ }
 {
-    let allele = merged_ref::ref_bytes(s, rows, reference, at);
+    let allele = merged_ref::ref_bytes(s, reference, b"N", at);
     let read = merged_alleles::collect_target_alleles(s, rows, found, position, allele, alts);
     match read {
         AltsAt::TooMany => RecordAt::Refused(13),
@@ -67,7 +67,7 @@ fn record_over<'a>(
     );
     match at {
         RefAt::Refused(row) => RecordAt::Refused(row),
-        RefAt::Site(_) => alts_at(s, rows, reference, position, at, found, alts),
+        RefAt::Allele(_, _) => alts_at(s, rows, reference, position, at, found, alts),
         RefAt::Letter(_) => alts_at(s, rows, reference, position, at, found, alts),
     }
 }

@@ -25,7 +25,7 @@ part-room s a e k h =
     let l : k < length (between s a e) = h in
     (omega (arith, length-take (e - a) (drop a s), length-drop a s), omega (arith, length-take (e - a) (drop a s)))
 
-part-letter : (s : List ℕ) (a e k : ℕ) → k < length (between s a e) → take 1 (drop (a + k) s) ≡ getD (between s a e) k 0 ∷ []
+pub part-letter : (s : List ℕ) (a e k : ℕ) → k < length (between s a e) → take 1 (drop (a + k) s) ≡ getD (between s a e) k 0 ∷ []
 part-letter s a e k h =
     let (in-text, in-part) = part-room s a e k h in
     rw (drop-cons s (a + k) 0 in-text, getD-take (e - a) (drop a s) k 0 in-part, getD-drop a s k 0)

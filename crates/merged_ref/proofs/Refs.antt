@@ -2,35 +2,38 @@
 use Prim.Native.Nat.{ℕ}
 use mathlib.Core.Bool.{Bool, false, true}
 use mathlib.Core.List.{List}
+use mathlib.Core.Option.{none, some}
 use mathlib.Core.Path.{_∙_, _≡_, ap, refl, sym}
 use Rattle.clip_and_reference.proofs.Groups.{all-read}
 use Rattle.clip_and_reference.specs.Groups.{SegmentsFrom}
 use Rattle.definitions.specs.Bytes.{isPrefix}
-use Rattle.definitions.specs.Checked.{accepted, orRefuse}
+use Rattle.definitions.specs.Checked.{Checked, accepted, orRefuse}
 use Rattle.definitions.specs.ClipAndReference.{ReferenceSegment, segmentOf}
 use Rattle.definitions.specs.Cohort.{Site}
 use Rattle.definitions.specs.Lists.{allOf, onlyIf}
-use Rattle.definitions.specs.MergedRef.{firstRef, mergedRef, refLetter, sharedRef}
+use Rattle.definitions.specs.MergedRef.{mergedRef, refLetter, sharedRef}
 use Rattle.indexed_groups.proofs.Storing.{segments-split}
 use Rattle.indexed_groups.specs.Indexed.{SegmentsIndexed}
 use Rattle.laws.proofs.Checked.{not-required, or-refused, required, then, then-refused}
-use Rattle.tables.specs.Tables.{partAt}
-use Rattle.merged_ref.specs.Answers.{letterBytes, refAnswer, refBytes, referenceSegments, sitesAt, startingRefs}
+use Rattle.laws.proofs.ReachedLetter.{ref-letter-reached, ref-letter-unknown}
+use Rattle.tables.specs.Tables.{column, partAt}
+use Rattle.merged_ref.specs.Answers.{letterBytes, partOr, reachedPlace, refAnswer, refBytes, refOr, referenceSegments, sitesAt, startingRefs}
 use Rattle.merged_ref.proofs.Letters.{LetterFound, letter-is, letter-lacks}
+use Rattle.merged_ref.proofs.Reached.{none-there, reached-there}
 use Rattle.merged_ref.proofs.Starting.{LongestFound}
 use Rattle.merged_ref.specs.declared.LetterAt.the-variants as letterAt
 use Rattle.merged_ref.specs.declared.LongestAt.the-variants as longestAt
-use Rattle.merged_ref.specs.declared.Place.the-variants.{Cohort, Reference}
+use Rattle.merged_ref.specs.declared.Place.the-variants.{Cohort, Nowhere, Reference}
 use Rattle.merged_ref.specs.declared.RefAt.{RefAt}
 use Rattle.merged_ref.specs.declared.RefAt.the-variants as answer
 
 -- for callers: an answer that does not refuse says where REF stands
-pub answered : (s rows reference : List ℕ) (at : RefAt) → ((row : ℕ) → at ≡ answer.Refused row → ⊥)
-    → refAnswer s rows reference at ≡ accepted (refBytes s rows reference at)
+pub answered : (s reference : List ℕ) (at : RefAt) → ((row : ℕ) → at ≡ answer.Refused row → ⊥)
+    → refAnswer s reference at ≡ accepted (refBytes s reference at)
 unfolding refAnswer
-answered s rows reference (answer.Site site) h = refl
-answered s rows reference (answer.Letter place) h = refl
-answered s rows reference (answer.Refused row) h = absurd (h row refl)
+answered s reference (answer.Allele from to) h = refl
+answered s reference (answer.Letter place) h = refl
+answered s reference (answer.Refused row) h = absurd (h row refl)
 
 module _ (s rows reference contig : List ℕ) (position : ℕ) (found : List ℕ) (referenced : Bool) (segments : List ReferenceSegment) where
   abbrev covering : List Site
@@ -38,40 +41,48 @@ module _ (s rows reference contig : List ℕ) (position : ℕ) (found : List ℕ
 
   -- ---- a letter
 
-  pub not-referenced : referenced ≡ false → (site : ℕ) → partAt 9 10 s rows site ≡ firstRef covering
-      → refAnswer s rows reference (answer.Letter (Cohort site)) ≡ refLetter (onlyIf referenced segments) contig position covering
-  unfolding refAnswer refBytes letterBytes refLetter onlyIf
-  not-referenced h site e = rw (h, e)
+  pub letter-reached : referenced ≡ false → (i : ℕ) → some i ≡ reachedPlace s rows position found
+      → refAnswer s reference (answer.Letter (Cohort i)) ≡ refLetter (onlyIf referenced segments) contig position covering
+  unfolding refAnswer refBytes refOr partOr letterBytes onlyIf
+  letter-reached h i e =
+      let (letter, is, byte) = reached-there s rows position found (sym e) in
+      rw (h, byte) (sym (ref-letter-reached contig position covering is))
+
+  pub letter-unknown : referenced ≡ false → none ≡ reachedPlace s rows position found
+      → refAnswer s reference (answer.Letter Nowhere) ≡ refLetter (onlyIf referenced segments) contig position covering
+  unfolding refAnswer refBytes refOr partOr letterBytes onlyIf
+  letter-unknown h e = rw h (sym (ref-letter-unknown contig position covering (none-there s rows position found (sym e))))
 
   pub letter-there : referenced ≡ true → (i : ℕ) → LetterFound reference contig position segments (letterAt.At i)
-      → refAnswer s rows reference (answer.Letter (Reference i)) ≡ refLetter (onlyIf referenced segments) contig position covering
-  unfolding refAnswer refBytes letterBytes refLetter onlyIf
+      → refAnswer s reference (answer.Letter (Reference i)) ≡ refLetter (onlyIf referenced segments) contig position covering
+  unfolding refAnswer refBytes refOr partOr letterBytes refLetter onlyIf
   letter-there h i f =
       let (letter, first, is) = letter-is reference contig position segments i f in
       rw (h, is) (sym (then _ _ (or-refused 11 _ first) refl))
 
   pub letter-lacking : referenced ≡ true → LetterFound reference contig position segments letterAt.Absent
-      → refAnswer s rows reference (answer.Refused 11) ≡ refLetter (onlyIf referenced segments) contig position covering
+      → refAnswer s reference (answer.Refused 11) ≡ refLetter (onlyIf referenced segments) contig position covering
   unfolding refAnswer refLetter onlyIf orRefuse
   letter-lacking h f = rw h (sym (then-refused _ _ (ap (orRefuse 11) (letter-lacks reference contig position segments f))))
 
   -- ---- REF
 
-  pub by-letter : LongestFound s rows position found longestAt.NoneStarts
-      → refLetter (onlyIf referenced segments) contig position covering
-      ≡ mergedRef (onlyIf referenced segments) contig position covering
+  pub by-letter : LongestFound s rows position found longestAt.NoneStarts → {ref : Checked (List ℕ)}
+      → ref ≡ refLetter (onlyIf referenced segments) contig position covering
+      → ref ≡ mergedRef (onlyIf referenced segments) contig position covering
   unfolding mergedRef LongestFound
-  by-letter f = rw f
+  by-letter f e = rw f e
 
   module _ (site : ℕ) (f : LongestFound s rows position found (longestAt.Site site)) {agree : Bool}
       (e : agree ≡ allOf (λ ref. isPrefix ref (partAt 9 10 s rows site)) (startingRefs position covering)) where
     pub shared : agree ≡ true
-        → refAnswer s rows reference (answer.Site site) ≡ mergedRef (onlyIf referenced segments) contig position covering
-    unfolding refAnswer refBytes mergedRef sharedRef LongestFound startingRefs
+        → refAnswer s reference (answer.Allele (column 9 rows site) (column 10 rows site))
+        ≡ mergedRef (onlyIf referenced segments) contig position covering
+    unfolding refAnswer refBytes refOr partAt mergedRef sharedRef LongestFound startingRefs
     shared h = rw (f .0, ← f .1) (sym (required 12 _ _ (sym e ∙ h) refl))
 
     pub conflict : agree ≡ false
-        → refAnswer s rows reference (answer.Refused 12) ≡ mergedRef (onlyIf referenced segments) contig position covering
+        → refAnswer s reference (answer.Refused 12) ≡ mergedRef (onlyIf referenced segments) contig position covering
     unfolding refAnswer mergedRef sharedRef LongestFound startingRefs
     conflict h = rw (f .0, ← f .1) (sym (not-required 12 _ _ (sym e ∙ h)))
 

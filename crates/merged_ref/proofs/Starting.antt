@@ -2,17 +2,16 @@
 use Prim.Native.Nat.{_<_, _≤_, ℕ}
 use borrow.Author.Tests.{eq-eqb, le-ltb, lt-ltb, ltb-false, ltb-true, ne-eqb}
 use lib.Dec.{ltb}
-use lib.ListN.{getD, length}
+use lib.ListN.{length}
 use mathlib.Core.Bool.{Bool, _&&_, cond, false, true}
 use mathlib.Core.List.{List, [], _∷_, foldr, map}
 use mathlib.Core.Path.{_∙_, _≡_, ap, refl, sym}
 use native.Mathlib.Omega.{arith}
 use Rattle.definitions.specs.Cohort.{Site}
 use Rattle.definitions.specs.Lists.{allOf, anyOf, filterBy}
-use Rattle.definitions.specs.MergedRef.{firstRef, longest, siteRef, startsAt}
+use Rattle.definitions.specs.MergedRef.{longest, siteRef, startsAt}
 use Rattle.laws.proofs.Members.{filter-no, filter-yes}
 use Rattle.laws.proofs.Tests.{or-neither}
-use Rattle.tables.proofs.Parts.{between-none, column-past}
 use Rattle.tables.specs.Tables.{column, partAt, refAltsSpelled, siteAt}
 use Rattle.merged_ref.specs.Answers.{longerOf, longerSite, longestSite, sitesAt, startingRefs}
 use Rattle.merged_ref.specs.declared.LongestAt.{LongestAt}
@@ -61,22 +60,6 @@ module _ (f : List ℕ → Bool) (position : ℕ) (x : Site) where
   pub tested-there : startsAt position x ≡ true → f (siteRef x) ≡ allOf f (startingRefs position (x ∷ []))
   unfolding startingRefs filterBy allOf
   tested-there h = rw (h, and-true (f (siteRef x)))
-
--- ---- the first site's REF
-
-module _ (s rows : List ℕ) where
-  pub ref-first : (found : List ℕ) → 0 < length found → partAt 9 10 s rows (getD found 0 0) ≡ firstRef (sitesAt s rows found)
-  unfolding firstRef siteRef siteAt refAltsSpelled
-  ref-first [] h = absurd (omega arith)
-  ref-first (x ∷ found) h = refl
-
-  -- without a site, by a number past the table
-  pub ref-none : (found : List ℕ) → length found ≡ 0 → partAt 9 10 s rows (length rows) ≡ firstRef (sitesAt s rows found)
-  unfolding firstRef partAt
-  ref-none [] h =
-      between-none s (column 9 rows (length rows)) (column 10 rows (length rows))
-      (omega (arith, column-past 10 rows (length rows) (omega arith)))
-  ref-none (x ∷ found) h = absurd (omega arith)
 
 -- ---- whether a row's site starts there
 

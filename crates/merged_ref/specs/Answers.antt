@@ -1,19 +1,19 @@
 -- What the answers about REF of the record at a position stand for. Sites are numbers of a table's rows, in the order of samples.
 use Prim.Native.Nat.{_+_, _-_, ℕ}
-use lib.Dec.{ltb}
+use lib.Dec.{eqb, ltb}
 use lib.ListN.{drop, length, take}
 use mathlib.Core.Bool.{cond}
-use mathlib.Core.List.{List, [], _++_, foldr, map}
-use mathlib.Core.Option.{Option, Option·map, none, some}
+use mathlib.Core.List.{List, [], _++_, _∷_, foldr, map}
+use mathlib.Core.Option.{Option, Option·map, none, orElse, some}
 use Rattle.clip_and_reference.specs.Groups.{PlacedSegment, segmentsPlaced, segmentsRead}
 use Rattle.definitions.specs.Checked.{Checked, accepted, refused}
 use Rattle.definitions.specs.ClipAndReference.{ReferenceSegment, segmentHolds}
 use Rattle.definitions.specs.Cohort.{Site}
-use Rattle.definitions.specs.Lists.{filterBy, firstWhere, numbersFrom}
-use Rattle.definitions.specs.MergedRef.{siteRef, startsAt}
+use Rattle.definitions.specs.Lists.{filterBy, firstWhere, numbersFrom, onlyIf}
+use Rattle.definitions.specs.MergedRef.{siteRef, startsAt, unknownBase}
 use Rattle.indexed_groups.specs.Indexed.{placedAt}
 use Rattle.kv_text.specs.Fields.{between}
-use Rattle.tables.specs.Tables.{partAt, segmentAt, segmentCount, segmentsNext, siteAt}
+use Rattle.tables.specs.Tables.{column, partAt, segmentAt, segmentCount, segmentsNext, siteAt}
 use Rattle.merged_ref.specs.declared.LetterAt.{LetterAt}
 use Rattle.merged_ref.specs.declared.LetterAt.the-variants as letter
 use Rattle.merged_ref.specs.declared.LongestAt.{LongestAt}
@@ -89,19 +89,42 @@ longerSite s rows position site best = cond (startsAt position (siteAt s rows si
 unfoldable pub longestSite : List ℕ → List ℕ → ℕ → List ℕ → LongestAt
 longestSite s rows position = foldr (longerSite s rows position) longer.NoneStarts
 
--- a letter by its place
-unfoldable pub letterBytes : List ℕ → List ℕ → List ℕ → Place → List ℕ
-letterBytes reference s rows (place.Reference i) = take 1 (drop i reference)
-letterBytes reference s rows (place.Cohort site) = take 1 (partAt 9 10 s rows site)
+-- ---- a letter of the sites' own REFs
 
--- REF
-unfoldable pub refBytes : List ℕ → List ℕ → List ℕ → RefAt → List ℕ
-refBytes s rows reference (answer.Site site) = partAt 9 10 s rows site
-refBytes s rows reference (answer.Letter place) = letterBytes reference s rows place
-refBytes s rows reference (answer.Refused row) = []
+-- where the letter of a row's site at the position stands in the cohort text: as far behind the beginning of REF as the position is
+-- behind the start; none if REF does not reach so far
+unfoldable pub reachedOffset : List ℕ → List ℕ → ℕ → ℕ → Option ℕ
+reachedOffset s rows position site =
+    onlyIf (ltb (position - column 2 rows site) (length (partAt 9 10 s rows site))) (column 9 rows site + (position - column 2 rows site))
+
+-- where that of the first of these sites whose REF reaches the position stands
+unfoldable pub reachedPlace : List ℕ → List ℕ → ℕ → List ℕ → Option ℕ
+reachedPlace s rows position = foldr (λ site r. orElse (reachedOffset s rows position site) r) none
+
+-- ---- the parts handed on
+
+-- a letter by its place: one byte of the text that holds it, and none for nowhere
+unfoldable pub letterBytes : List ℕ → List ℕ → Place → List ℕ
+letterBytes reference s (place.Reference i) = take 1 (drop i reference)
+letterBytes reference s (place.Cohort i) = take 1 (drop i s)
+letterBytes reference s place.Nowhere = []
+
+-- the part, or another if it is empty
+unfoldable pub partOr : List ℕ → List ℕ → List ℕ
+partOr other part = cond (eqb (length part) 0) other part
+
+-- REF, with these bytes for a letter that stands nowhere
+unfoldable pub refOr : List ℕ → List ℕ → List ℕ → RefAt → List ℕ
+refOr unknown s reference (answer.Allele from to) = between s from to
+refOr unknown s reference (answer.Letter place) = partOr unknown (letterBytes reference s place)
+refOr unknown s reference (answer.Refused row) = []
+
+-- REF: `N` for a letter that stands nowhere
+unfoldable pub refBytes : List ℕ → List ℕ → RefAt → List ℕ
+refBytes s reference at = refOr (unknownBase ∷ []) s reference at
 
 -- REF, or the row that refuses it
-unfoldable pub refAnswer : List ℕ → List ℕ → List ℕ → RefAt → Checked (List ℕ)
-refAnswer s rows reference (answer.Site site) = accepted (refBytes s rows reference (answer.Site site))
-refAnswer s rows reference (answer.Letter place) = accepted (refBytes s rows reference (answer.Letter place))
-refAnswer s rows reference (answer.Refused row) = refused row
+unfoldable pub refAnswer : List ℕ → List ℕ → RefAt → Checked (List ℕ)
+refAnswer s reference (answer.Allele from to) = accepted (refBytes s reference (answer.Allele from to))
+refAnswer s reference (answer.Letter place) = accepted (refBytes s reference (answer.Letter place))
+refAnswer s reference (answer.Refused row) = refused row

@@ -1,22 +1,21 @@
 // REF of the record at a position, from the sites found over it, numbers of a table's rows in the order of samples. The answer says
-// where REF stands; `ref_bytes` hands on the part of the text. Nothing is copied.
+// where REF stands, by offsets of the texts; `ref_bytes` hands on the part of the text. Nothing is copied.
 ghost use lib.ListN.{drop, take};
-ghost use mathlib.Core.List.{List, [], _∷_};
+ghost use mathlib.Core.List.{[], _∷_};
 ghost use mathlib.Core.Path.{_≡_};
-ghost use Prim.Native.Nat.{ℕ};
+ghost use Prim.Native.Nat.{_-_};
 ghost use Rattle.clip_and_reference.specs.Groups.{segmentsPlaced};
 ghost use Rattle.definitions.specs.Bytes.{isPrefix};
 ghost use Rattle.definitions.specs.Lists.{allOf, onlyIf};
-ghost use Rattle.definitions.specs.MergedRef.{firstRef, mergedRef, refLetter};
+ghost use Rattle.definitions.specs.MergedRef.{mergedRef, refLetter};
 ghost use Rattle.indexed_groups.specs.Indexed.{placedAt};
-ghost use Rattle.tables.specs.Tables.{partAt};
-ghost use Rattle.merged_ref.specs.Answers.{letterBytes, letterOffset, letterPlace, longerSite, longestSite, placedBy, placedIn, refAnswer, refBytes, referencePlaced, referenceSegments, sitesAt, startingRefs};
+ghost use Rattle.merged_ref.specs.Answers.{letterBytes, letterOffset, letterPlace, longerSite, longestSite, partOr, placedBy, placedIn, reachedOffset, reachedPlace, refAnswer, refOr, referencePlaced, referenceSegments, sitesAt, startingRefs};
 use bio_ids::GenomePosition;
 use clip_and_reference::SegmentAt;
 
 // ---- the reference letter
 
-// Where a letter stands in the reference text.
+// Where a letter stands in a text.
 pub enum LetterAt {
     At(usize),
     Absent,
@@ -245,33 +244,67 @@ pub fn refs_agree(
     true
 }
 
+// ---- the letter of the sites' own REFs
+
+// How far a position lies behind another; 0 if it does not.
+fn behind(position: u64, start: u64) -> u64
+    ensures { λ r. ⌜ r ≡ position - start ⌝ }
+{
+    if position < start {
+        return 0;
+    }
+    position - start
+}
+
+// The letter that a site's REF has at the position, by its offset in the cohort text, if REF reaches the position.
+fn site_letter(s: &[u8], rows: &[usize], site: usize, position: GenomePosition) -> LetterAt
+    ensures { λ r. ⌜ letterOffset r ≡ reachedOffset (now (s .entry)) (now (rows .entry)) (position .0) site ⌝ }
+{
+    let start = tables::start_of(rows, site);
+    let index = behind(position.get(), start.get());
+    let allele = tables::reference_allele(s, rows, site);
+    if allele.len() as u64 <= index {
+        return LetterAt::Absent;
+    }
+    let from = tables::reference_allele_from(rows, site);
+    let at = from + index as usize;
+    LetterAt::At(at)
+}
+
+// That of the first found site whose REF reaches the position.
+fn reached_letter(s: &[u8], rows: &[usize], found: &[usize], position: GenomePosition) -> LetterAt
+    ensures { λ r. ⌜ letterOffset r ≡ reachedPlace (now (s .entry)) (now (rows .entry)) (position .0) (now (found .entry)) ⌝ }
+{
+    for k in 0..found.len() {
+        let site = found[k];
+        let letter = site_letter(s, rows, site, position);
+        if let LetterAt::At(i) = letter {
+            return LetterAt::At(i);
+        }
+    }
+    LetterAt::Absent
+}
+
 // ---- REF
 
-// Where a letter stands: at an offset of the reference text, or first in the REF of a site of the cohort.
+// Where a letter stands: at an offset of the reference text, or of the cohort text; or nowhere, where no REF reaches the position.
 pub enum Place {
     Reference(usize),
     Cohort(usize),
+    Nowhere,
 }
 
-// Where REF stands: it is the REF of a site, or a letter; or the row that refuses it.
+// Where REF stands: in the cohort text, from an offset to before another, or it is a letter; or the row that refuses it.
 pub enum RefAt {
-    Site(usize),
+    Allele(usize, usize),
     Letter(Place),
     Refused(usize),
 }
 
-// The first found site; if there is none, a number past the table, whose REF is empty.
-fn first_site(rows: &[usize], found: &[usize]) -> usize
-    ensures { λ r. ⌜ ((s : List ℕ) → partAt 9 10 s (now (rows .entry)) r ≡ firstRef (sitesAt s (now (rows .entry)) (now (found .entry)))) ⌝ }
-{
-    if found.len() == 0 {
-        return rows.len();
-    }
-    found[0]
-}
-
-// The reference letter, or without a reference the first letter of the first found site's REF. Row 11: the reference lacks the letter.
+// The reference letter, or without a reference that of the first found site whose REF reaches the position. Row 11: the reference lacks
+// the letter.
 fn ref_letter(
+    s: &[u8],
     rows: &[usize],
     found: &[usize],
     referenced: bool,
@@ -279,12 +312,16 @@ fn ref_letter(
     contig: &[u8],
     position: GenomePosition,
 ) -> RefAt
-    ensures { λ r. ⌜ ((s : List ℕ) → refAnswer s (now (rows .entry)) (now (reference .entry)) r
+    ensures { λ r. ⌜ refAnswer (now (s .entry)) (now (reference .entry)) r
         ≡ refLetter (onlyIf referenced (referenceSegments (now (reference .entry)) (now (rows .entry))))
-        (now (contig .entry)) (position .0) (sitesAt s (now (rows .entry)) (now (found .entry)))) ⌝ }
+        (now (contig .entry)) (position .0) (sitesAt (now (s .entry)) (now (rows .entry)) (now (found .entry))) ⌝ }
 {
     if !referenced {
-        return RefAt::Letter(Place::Cohort(first_site(rows, found)));
+        let reached = reached_letter(s, rows, found, position);
+        let LetterAt::At(i) = reached else {
+            return RefAt::Letter(Place::Nowhere);
+        };
+        return RefAt::Letter(Place::Cohort(i));
     }
     let letter = find_letter(reference, rows, contig, position);
     match letter {
@@ -303,17 +340,19 @@ pub fn determine_reference_allele(
     contig: &[u8],
     position: GenomePosition,
 ) -> RefAt
-    ensures { λ r. ⌜ refAnswer (now (s .entry)) (now (rows .entry)) (now (reference .entry)) r
+    ensures { λ r. ⌜ refAnswer (now (s .entry)) (now (reference .entry)) r
         ≡ mergedRef (onlyIf referenced (referenceSegments (now (reference .entry)) (now (rows .entry))))
         (now (contig .entry)) (position .0) (sitesAt (now (s .entry)) (now (rows .entry)) (now (found .entry))) ⌝ }
 {
     let longest = longest_ref(s, rows, found, position);
     let LongestAt::Site(site) = longest else {
-        return ref_letter(rows, found, referenced, reference, contig, position);
+        return ref_letter(s, rows, found, referenced, reference, contig, position);
     };
-    let bytes = tables::reference_allele(s, rows, site);
+    let from = tables::reference_allele_from(rows, site);
+    let to = tables::reference_allele_to(rows, site);
+    let bytes = tables::part(s, from, to);
     if refs_agree(s, rows, found, position, bytes) {
-        return RefAt::Site(site);
+        return RefAt::Allele(from, to);
     }
     RefAt::Refused(12)
 }
@@ -328,23 +367,34 @@ fn one_at<'a>(text: &'a [u8], i: usize) -> &'a [u8]
     &text[..0]
 }
 
-// A letter, as the part of the text that holds it.
-pub fn letter<'a>(reference: &'a [u8], cohort: &'a [u8], rows: &[usize], place: Place) -> &'a [u8]
-    ensures { λ r. ⌜ now r ≡ letterBytes (now (reference .entry)) (now (cohort .entry)) (now (rows .entry)) place ⌝ }
+// A letter, as the part of the text that holds it: one byte, or none.
+pub fn letter<'a>(reference: &'a [u8], cohort: &'a [u8], place: Place) -> &'a [u8]
+    ensures { λ r. ⌜ now r ≡ letterBytes (now (reference .entry)) (now (cohort .entry)) place ⌝ }
 {
     match place {
         Place::Reference(i) => one_at(reference, i),
-        Place::Cohort(site) => one_at(tables::reference_allele(cohort, rows, site), 0),
+        Place::Cohort(i) => one_at(cohort, i),
+        Place::Nowhere => &cohort[..0],
     }
 }
 
-// REF, as the part of the text that holds it; none if it is refused.
-pub fn ref_bytes<'a>(s: &'a [u8], rows: &[usize], reference: &'a [u8], at: RefAt) -> &'a [u8]
-    ensures { λ r. ⌜ now r ≡ refBytes (now (s .entry)) (now (rows .entry)) (now (reference .entry)) at ⌝ }
+// A part, or another if it is empty.
+fn part_or<'a>(part: &'a [u8], other: &'a [u8]) -> &'a [u8]
+    ensures { λ r. ⌜ now r ≡ partOr (now (other .entry)) (now (part .entry)) ⌝ }
+{
+    if part.len() == 0 {
+        return other;
+    }
+    part
+}
+
+// REF, as the part of the text that holds it; `unknown`, which callers lend as `N`, for a letter that stands nowhere; none if it is refused.
+pub fn ref_bytes<'a>(s: &'a [u8], reference: &'a [u8], unknown: &'a [u8], at: RefAt) -> &'a [u8]
+    ensures { λ r. ⌜ now r ≡ refOr (now (unknown .entry)) (now (s .entry)) (now (reference .entry)) at ⌝ }
 {
     match at {
-        RefAt::Site(site) => tables::reference_allele(s, rows, site),
-        RefAt::Letter(place) => letter(reference, s, rows, place),
+        RefAt::Allele(from, to) => tables::part(s, from, to),
+        RefAt::Letter(place) => part_or(letter(reference, s, place), unknown),
         RefAt::Refused(_) => &s[..0],
     }
 }

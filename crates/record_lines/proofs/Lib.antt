@@ -2,3 +2,4 @@ pub mod Head
 pub mod Alleles
 pub mod SiteValues
 pub mod OwnSamples
+pub mod WholeRecords

@@ -1,6 +1,6 @@
 // The lines of a record of the combined list, laid over a lent buffer as `kv_write` lays lines.
 // Sites stand in a table, `rows`, over the cohort's text, `s`; `own` has for each sample the row of its site that covers the record's
-// position, or a number past the table. `reference` is REF of the record, and `alts` are its ALTs, with commas; `fields` says where each
+// position, or a number past the table. `reference` or `allele` is REF of the record, and `alts` are its ALTs, with commas; `fields` says where each
 // of the `alt_count` ALTs stands there (`sample_alleles::split_alts`).
 ghost use mathlib.Core.Path.{_≡_};
 ghost use Prim.Native.Nat.{_≤_};
@@ -10,6 +10,7 @@ ghost use Rattle.kv_write.specs.Laid.{Laid};
 ghost use Rattle.kv_write.specs.Optional.{optionOf};
 ghost use Rattle.sample_alleles.specs.Fields.{AltsAt};
 ghost use Rattle.record_lines.specs.Head.{HeadFits, endFrom, headOf};
+ghost use Rattle.record_lines.specs.Records.{RecordFits, recordBytes};
 ghost use Rattle.record_lines.specs.Samples.{OwnPrintable, SamplePrintable, SamplesPrintable, SitePrintable, dataOwn, printedOwn, printedSamples, printedSite};
 use bio_ids::GenomeLoc;
 use bio_ids::GenomePosition;
@@ -201,4 +202,27 @@ pub fn merge_genotypes(
         out,
         at,
     )
+}
+
+// Lays a record that is no block: contig, POS, REF, ALTs and the lines of its samples.
+pub fn merge_result_to_record(
+    s: &[u8],
+    rows: &[usize],
+    samples: usize,
+    contig: &[u8],
+    position: GenomePosition,
+    allele: &[u8],
+    own: &[usize],
+    alts: &[u8],
+    out: &mut [u8],
+    at: usize,
+) -> usize
+    requires { ⌜ RecordFits (now s) (now rows) samples (now contig) (position .0) (now allele) (now own) (now alts) at ⌝ }
+    ensures { λ r. ⌜ Laid (now (out .entry)) at
+        (recordBytes (now (s .entry)) (now (rows .entry)) samples (now (contig .entry)) (position .0) (now (allele .entry)) (now (own .entry)) (now (alts .entry)))
+        (now (out .exit)) r ⌝ }
+{
+    let loc = GenomeLoc::new(position, position);
+    let next = put_record_head(out, at, contig, loc, allele, alts);
+    merge_genotypes(s, rows, samples, own, position, allele, alts, out, next)
 }

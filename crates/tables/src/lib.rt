@@ -177,6 +177,20 @@ pub fn reference_allele<'a>(s: &'a [u8], rows: &[usize], site: usize) -> &'a [u8
     part_at(s, rows, site, 9, 10)
 }
 
+// The offset at which the text has the site's REF.
+pub fn reference_allele_from(rows: &[usize], site: usize) -> usize
+    ensures { λ r. ⌜ r ≡ column 9 (now (rows .entry)) site ⌝ }
+{
+    column(rows, site, 9)
+}
+
+// The offset just behind it.
+pub fn reference_allele_to(rows: &[usize], site: usize) -> usize
+    ensures { λ r. ⌜ r ≡ column 10 (now (rows .entry)) site ⌝ }
+{
+    column(rows, site, 10)
+}
+
 // The site's ALTs, with commas.
 pub fn alternate_alleles<'a>(s: &'a [u8], rows: &[usize], site: usize) -> &'a [u8]
     ensures { λ r. ⌜ now r ≡ partAt 11 12 (now (s .entry)) (now (rows .entry)) site ⌝ }

@@ -79,7 +79,7 @@ module _ {s rows : List ℕ} {samples : ℕ} {clipped : Bool} {clip : List ℕ} 
           ∙ past-start x contig b l e
 
   pub carried-start : {held out : List ℕ} {at count : ℕ} (begun : Begun out at count)
-      → Carried x s rows samples reference contig (begun .d₀) (begun .bytes) (begun .records) held out
+      → Carried x samples contig (begun .d₀) (begun .bytes) (begun .records) held out
       (record { past = 0; depth = 0; state = record { pending = Nothing; at = at; count = count } })
   unfolding Holds flatMap
   carried-start begun = record {
@@ -104,16 +104,16 @@ module _ {s rows : List ℕ} {samples : ℕ} {clipped : Bool} {clip : List ℕ} 
   -- ---- the end
 
   module _ {d₀ bytes : List ℕ} {records : ℕ} {held out : List ℕ} {along : Along}
-      (w : Carried x s rows samples reference contig d₀ bytes records held out along) where
+      (w : Carried x samples contig d₀ bytes records held out along) where
     pub carried-end : filterBy (ltb (along .past)) read ≡ [] → (out′ : List ℕ) (next : ℕ)
-        → Laid out (along .state .at) (pendingBytes s rows reference contig held (along .state .pending)) out′ next
+        → Laid out (along .state .at) (pendingBytes contig held (along .state .pending)) out′ next
         → RecordsWalked (mergedContig x contig) d₀ bytes records out′ (walked.To (min limit next) (pendingCount (along .state .pending) (along .state .count)))
     unfolding RecordsWalked finish ofOption
     carried-end none-past out′ next l = record {
       list = w .done ++ ofOption (w .waiting);
       merged = sym (w .whole) ∙ ended (w .done) (w .waiting);
       progress = rw (bytes-are bytes records (w .done) (ofOption (w .waiting)), count-is bytes records (w .done) (ofOption (w .waiting)))
-          (laid-pending s rows samples reference contig held d₀ (bytes ++ flatMap printedRecord (w .done)) (records + length (w .done))
+          (laid-pending samples contig held d₀ (bytes ++ flatMap printedRecord (w .done)) (records + length (w .done))
           (along .state .pending) (w .waiting) (w .holds) (w .progress) l);
     }
       where

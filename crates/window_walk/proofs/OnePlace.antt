@@ -68,10 +68,10 @@ nothing-at-0 x contig sound last later = rw (none-covers (x .cohort) contig soun
 -- what is held back can be laid
 pub pending-fits : {s rows : List ℕ} {samples : ℕ} {referenced : Bool} {reference contig : List ℕ} (on : OnContig s rows samples referenced reference contig)
     {d₀ bytes : List ℕ} {records : ℕ} {held out : List ℕ} {along : Along}
-    → Carried (on .loaded .input) s rows samples reference contig d₀ bytes records held out along
-    → PendingFits s rows reference contig held (along .state .pending) (along .state .at)
+    → Carried (on .loaded .input) samples contig d₀ bytes records held out along
+    → PendingFits contig held (along .state .pending) (along .state .at)
 pending-fits {s} {rows} {samples} {reference = reference} {contig} on {held = held} {along = along} w =
-    holds-fits s rows samples reference contig held (along .state .pending) (w .waiting) (along .state .at) (w .holds) (on .loaded .few)
+    holds-fits samples contig held (along .state .pending) (w .waiting) (along .state .at) (w .holds) (on .loaded .few)
     (contig-named on .not-too-long) (omega (arith, w .progress .measured .at-is))
 
 -- ---- a place
@@ -79,11 +79,11 @@ pending-fits {s} {rows} {samples} {reference = reference} {contig} on {held = he
 module _ {s rows : List ℕ} {samples : ℕ} {clipped referenced : Bool} {reference contig chosen from bounds : List ℕ} {place : ℕ} {rest : List ℕ}
     {along : Along} {held fresh found owners alts out : List ℕ}
     (ready : WindowReady s rows samples clipped referenced reference contig chosen from bounds (place ∷ rest) (along .past) held fresh found owners alts)
-    (way : Carrying (ready .runs .on .loaded .input) s rows samples reference contig held out along) where
+    (way : Carrying (ready .runs .on .loaded .input) samples contig held out along) where
   abbrev x : Input
   x = ready .runs .on .loaded .input
 
-  abbrev w : Carried x s rows samples reference contig (way .d₀) (way .bytes) (way .records) held out along
+  abbrev w : Carried x samples contig (way .d₀) (way .bytes) (way .records) held out along
   w = way .carried
 
   -- what is laid
@@ -122,7 +122,7 @@ module _ {s rows : List ℕ} {samples : ℕ} {clipped referenced : Bool} {refere
           (nothing-at-0 x contig (ready .runs .on .loaded .sound .cohort .sites) (place / 4294967296 - 1) later)
 
   pub walked-past : walked ≡ false
-      → WalkedTo x s rows samples reference contig chosen bounds from (way .d₀) (way .bytes) (way .records) held out (place / 4294967296)
+      → WalkedTo x rows samples contig chosen bounds from (way .d₀) (way .bytes) (way .records) held out (place / 4294967296)
       (reached.To (record { past = place / 4294967296; depth = along .depth + place % 4294967296 - 2147483648; state = along .state }))
   unfolding WalkedTo
   walked-past test = record {
@@ -140,7 +140,7 @@ module _ {s rows : List ℕ} {samples : ℕ} {clipped referenced : Bool} {refere
 
   -- ---- walking the interval
 
-  unfoldable pub underway : Underway s rows samples reference contig held (along .state .pending) out (along .state .at) (along .state .count)
+  unfoldable pub underway : Underway samples contig held (along .state .pending) out (along .state .at) (along .state .count)
   underway = record {
     begun = record {
       d₀ = way .d₀;
@@ -186,8 +186,8 @@ module _ {s rows : List ℕ} {samples : ℕ} {clipped referenced : Bool} {refere
 
     module _ (held′ out′ : List ℕ) where
       pub walked-refused : (row : ℕ)
-          → Turns x s rows samples reference contig held′ out′ first last (w .waiting) (way .d₀) bytes records (turned.Refused row)
-          → WalkedTo x s rows samples reference contig chosen bounds from′ (way .d₀) (way .bytes) (way .records) held′ out′ (place / 4294967296)
+          → Turns x samples contig held′ out′ first last (w .waiting) (way .d₀) bytes records (turned.Refused row)
+          → WalkedTo x rows samples contig chosen bounds from′ (way .d₀) (way .bytes) (way .records) held′ out′ (place / 4294967296)
           (reached.Refused row)
       unfolding WalkedTo Turns
       walked-refused row t = record {
@@ -197,8 +197,8 @@ module _ {s rows : List ℕ} {samples : ℕ} {clipped referenced : Bool} {refere
       }
 
       pub walked-on : (stepped : Stepped)
-          → Turns x s rows samples reference contig held′ out′ first last (w .waiting) (way .d₀) bytes records (turned.To stepped)
-          → WalkedTo x s rows samples reference contig chosen bounds from′ (way .d₀) (way .bytes) (way .records) held′ out′ (place / 4294967296)
+          → Turns x samples contig held′ out′ first last (w .waiting) (way .d₀) bytes records (turned.To stepped)
+          → WalkedTo x rows samples contig chosen bounds from′ (way .d₀) (way .bytes) (way .records) held′ out′ (place / 4294967296)
           (reached.To (record { past = place / 4294967296; depth = along .depth + place % 4294967296 - 2147483648; state = stepped }))
       unfolding WalkedTo Turns
       walked-on stepped t = record {

@@ -36,7 +36,7 @@ same-room r a b c d e = record {
 module _ {s rows : List ℕ} {samples : ℕ} {clipped referenced : Bool} {reference contig chosen from₀ bounds places : List ℕ} {start : Along}
     {held₀ fresh₀ found₀ owners₀ alts₀ out₀ : List ℕ}
     (ready : WindowReady s rows samples clipped referenced reference contig chosen from₀ bounds places (start .past) held₀ fresh₀ found₀ owners₀ alts₀)
-    (way : Carrying (ready .runs .on .loaded .input) s rows samples reference contig held₀ out₀ start) where
+    (way : Carrying (ready .runs .on .loaded .input) samples contig held₀ out₀ start) where
   abbrev x : Input
   x = ready .runs .on .loaded .input
 
@@ -45,7 +45,7 @@ module _ {s rows : List ℕ} {samples : ℕ} {clipped referenced : Bool} {refere
 
   -- the places from k on are the window past the breakpoint that the walk has come to
   pub record Through (from held out : List ℕ) (along : Along) (k : ℕ) : Type 0 where
-    pub carried : Carried x s rows samples reference contig (way .d₀) (way .bytes) (way .records) held out along
+    pub carried : Carried x samples contig (way .d₀) (way .bytes) (way .records) held out along
     pub ended : Ended rows chosen bounds from samples (along .past)
     pub window : ContigWindow x clipped contig (drop k places) (along .past)
     pub end : contigWindowEnd x contig (along .past) (window .limit) ≡ windowEnds
@@ -55,10 +55,10 @@ module _ {s rows : List ℕ} {samples : ℕ} {clipped referenced : Bool} {refere
 
   module _ {from held out : List ℕ} {along : Along} {k : ℕ} (t : Through from held out along k) where
     pub through-end : length places ≤ k
-        → CarriedTo x s rows samples reference contig chosen bounds from (way .d₀) (way .bytes) (way .records) held out windowEnds along
+        → CarriedTo x rows samples contig chosen bounds from (way .d₀) (way .bytes) (way .records) held out windowEnds along
     through-end h = record { there = empty-end (t .window) (drop-of-length-le places h) ∙ t .end; carried = t .carried; ended = t .ended }
 
-    unfoldable pub carrying : Carrying x s rows samples reference contig held out along
+    unfoldable pub carrying : Carrying x samples contig held out along
     carrying = record { d₀ = way .d₀; bytes = way .bytes; records = way .records; carried = t .carried }
 
     module _ (more : k < length places) where
@@ -71,7 +71,7 @@ module _ {s rows : List ℕ} {samples : ℕ} {clipped referenced : Bool} {refere
       place-ready room = record { runs = ready .runs; window = place-window; ended = t .ended; room = room }
 
       pub through-next : {from′ held′ out′ : List ℕ} {along′ : Along}
-          → CarriedTo x s rows samples reference contig chosen bounds from′ (way .d₀) (way .bytes) (way .records) held′ out′
+          → CarriedTo x rows samples contig chosen bounds from′ (way .d₀) (way .bytes) (way .records) held′ out′
           (getD places k 0 / 4294967296) along′
           → Through from′ held′ out′ along′ (k + 1)
       unfolding place-window same-window rest-window

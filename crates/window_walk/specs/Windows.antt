@@ -25,35 +25,33 @@ use Rattle.window_walk.specs.declared.Reached.the-variants as reached
 
 -- The walk has come to a breakpoint: these records are laid behind the bytes, this one is held back, and what is left from there on gives
 -- the rest of the contig's records. The depth is how many clip spans cover it.
-pub record Carried (x : Input) (s rows : List ℕ) (samples : ℕ) (reference contig d₀ bytes : List ℕ) (records : ℕ) (held out : List ℕ)
-    (along : Along) : Type 0 where
+pub record Carried (x : Input) (samples : ℕ) (contig d₀ bytes : List ℕ) (records : ℕ) (held out : List ℕ) (along : Along) : Type 0 where
   pub done : List Record
   pub waiting : Option Record
   pub whole : finish done waiting (recordsPast x contig (along .past)) ≡ mergedContig x contig
   pub deep : along .depth ≡ depth (spansOn contig (x .clip)) (along .past)
-  pub holds : Holds s rows samples reference contig held (along .state .pending) waiting
+  pub holds : Holds samples contig held (along .state .pending) waiting
   pub progress : Progress d₀ (bytes ++ flatMap printedRecord done) (records + length done) out (along .state .at) (along .state .count)
 
 -- the same, of a list that was begun
-pub record Carrying (x : Input) (s rows : List ℕ) (samples : ℕ) (reference contig held out : List ℕ) (along : Along) : Type 0 where
+pub record Carrying (x : Input) (samples : ℕ) (contig held out : List ℕ) (along : Along) : Type 0 where
   pub d₀ : List ℕ
   pub bytes : List ℕ
   pub records : ℕ
-  pub carried : Carried x s rows samples reference contig d₀ bytes records held out along
+  pub carried : Carried x samples contig d₀ bytes records held out along
 
 -- it has come to this breakpoint, and the searches begin behind sites that ended before it
-pub record CarriedTo (x : Input) (s rows : List ℕ) (samples : ℕ) (reference contig chosen bounds from d₀ bytes : List ℕ) (records : ℕ) (held out : List ℕ)
+pub record CarriedTo (x : Input) (rows : List ℕ) (samples : ℕ) (contig chosen bounds from d₀ bytes : List ℕ) (records : ℕ) (held out : List ℕ)
     (to : ℕ) (along : Along) : Type 0 where
   pub there : along .past ≡ to
-  pub carried : Carried x s rows samples reference contig d₀ bytes records held out along
+  pub carried : Carried x samples contig d₀ bytes records held out along
   pub ended : Ended rows chosen bounds from samples (along .past)
 
 -- so it has; or a row refuses the contig's records
-unfoldable pub WalkedTo : Input → List ℕ → List ℕ → ℕ → List ℕ → List ℕ → List ℕ → List ℕ → List ℕ → List ℕ → List ℕ → ℕ → List ℕ → List ℕ → ℕ
-    → Reached → Type 0
-WalkedTo x s rows samples reference contig chosen bounds from d₀ bytes records held out to (reached.To along) =
-    CarriedTo x s rows samples reference contig chosen bounds from d₀ bytes records held out to along
-WalkedTo x s rows samples reference contig chosen bounds from d₀ bytes records held out to (reached.Refused row) =
+unfoldable pub WalkedTo : Input → List ℕ → ℕ → List ℕ → List ℕ → List ℕ → List ℕ → List ℕ → List ℕ → ℕ → List ℕ → List ℕ → ℕ → Reached → Type 0
+WalkedTo x rows samples contig chosen bounds from d₀ bytes records held out to (reached.To along) =
+    CarriedTo x rows samples contig chosen bounds from d₀ bytes records held out to along
+WalkedTo x rows samples contig chosen bounds from d₀ bytes records held out to (reached.Refused row) =
     RecordsRefused (mergedContig x contig) d₀ bytes out row
 
 -- what going through a window past a position is lent: its places, where the searches begin, and room

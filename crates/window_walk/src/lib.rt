@@ -49,10 +49,10 @@ fn walk_place<'a>(
     out: &mut [u8],
 ) -> Reached
     requires { ⌜ ((rest : List ℕ) × (ready : WindowReady (now s) (now rows) samples clipped referenced (now reference) (now contig) (now chosen) (now from) (now bounds) (place ∷ rest) (along .past) (now held) (now fresh) (now found) (now owners) (now alts))
-        × Carrying (ready .runs .on .loaded .input) (now s) (now rows) samples (now reference) (now contig) (now held) (now out) along) ⌝ }
+        × Carrying (ready .runs .on .loaded .input) samples (now contig) (now held) (now out) along) ⌝ }
     ensures { λ r. ⌜ ((rest : List ℕ) (ready : WindowReady (now (s .entry)) (now (rows .entry)) samples clipped referenced (now (reference .entry)) (now (contig .entry)) (now (chosen .entry)) (now (from .entry)) (now (bounds .entry)) (place ∷ rest) (along .past) (now (held .entry)) (now (fresh .entry)) (now (found .entry)) (now (owners .entry)) (now (alts .entry)))
-        (way : Carrying (ready .runs .on .loaded .input) (now (s .entry)) (now (rows .entry)) samples (now (reference .entry)) (now (contig .entry)) (now (held .entry)) (now (out .entry)) along)
-        → WalkedTo (ready .runs .on .loaded .input) (now (s .entry)) (now (rows .entry)) samples (now (reference .entry)) (now (contig .entry)) (now (chosen .entry)) (now (bounds .entry)) (now (from .exit)) (way .d₀) (way .bytes) (way .records) (now (held .exit)) (now (out .exit)) (place / 4294967296) r) ⌝ }
+        (way : Carrying (ready .runs .on .loaded .input) samples (now (contig .entry)) (now (held .entry)) (now (out .entry)) along)
+        → WalkedTo (ready .runs .on .loaded .input) (now (rows .entry)) samples (now (contig .entry)) (now (chosen .entry)) (now (bounds .entry)) (now (from .exit)) (way .d₀) (way .bytes) (way .records) (now (held .exit)) (now (out .exit)) (place / 4294967296) r) ⌝ }
 {
     let position = place / 4294967296;
     let past = along.past;
@@ -123,10 +123,10 @@ fn walk_window<'a>(
     out: &mut [u8],
 ) -> Reached
     requires { ⌜ ((ready : WindowReady (now s) (now rows) samples clipped referenced (now reference) (now contig) (now chosen) (now from) (now bounds) (now places) (start .past) (now held) (now fresh) (now found) (now owners) (now alts))
-        × Carrying (ready .runs .on .loaded .input) (now s) (now rows) samples (now reference) (now contig) (now held) (now out) start) ⌝ }
+        × Carrying (ready .runs .on .loaded .input) samples (now contig) (now held) (now out) start) ⌝ }
     ensures { λ r. ⌜ ((ready : WindowReady (now (s .entry)) (now (rows .entry)) samples clipped referenced (now (reference .entry)) (now (contig .entry)) (now (chosen .entry)) (now (from .entry)) (now (bounds .entry)) (now (places .entry)) (start .past) (now (held .entry)) (now (fresh .entry)) (now (found .entry)) (now (owners .entry)) (now (alts .entry)))
-        (way : Carrying (ready .runs .on .loaded .input) (now (s .entry)) (now (rows .entry)) samples (now (reference .entry)) (now (contig .entry)) (now (held .entry)) (now (out .entry)) start)
-        → WalkedTo (ready .runs .on .loaded .input) (now (s .entry)) (now (rows .entry)) samples (now (reference .entry)) (now (contig .entry)) (now (chosen .entry)) (now (bounds .entry)) (now (from .exit)) (way .d₀) (way .bytes) (way .records) (now (held .exit)) (now (out .exit))
+        (way : Carrying (ready .runs .on .loaded .input) samples (now (contig .entry)) (now (held .entry)) (now (out .entry)) start)
+        → WalkedTo (ready .runs .on .loaded .input) (now (rows .entry)) samples (now (contig .entry)) (now (chosen .entry)) (now (bounds .entry)) (now (from .exit)) (way .d₀) (way .bytes) (way .records) (now (held .exit)) (now (out .exit))
         (contigWindowEnd (ready .runs .on .loaded .input) (now (contig .entry)) (start .past) (ready .window .limit)) r) ⌝ }
 {
     let mut along = start;
@@ -249,7 +249,7 @@ pub fn walk_windows<'a>(
     }
     let last = along.state;
     let pending = last.pending;
-    let next = coalescing::put_pending(s, rows, reference, contig, held, pending, out, last.at);
+    let next = coalescing::put_pending(contig, held, pending, out, last.at);
     let total = coalescing::count_pending(last.count, pending);
     Walked::To(list_header::cap(next), total)
 }

@@ -98,15 +98,21 @@ pub fn hold(library: &mut Library, lent: &Lent, seed: u64) -> Result<(usize, usi
     Ok((list.records.len(), n))
 }
 
-/// Writes so many cohorts whose samples' sites overlap into a folder, each with the list that the library gives, for model.py. No list
-/// comes from the Rust.
+/// The scope and the Rust part: sites of a sample overlap, or a letter is needed and no reference is lent.
+fn by_model(lent: &Lent) -> bool {
+    let fed = domain::fed(lent);
+    lent.cohort.overlaps_itself() || fed.reference != lent.reference
+}
+
+/// Writes so many cohorts on which the Rust is met only as it is fed into a folder, each with the list that the library gives, for model.py.
+/// No list comes from the Rust.
 pub fn lists(seed: u64, count: u64, folder: &Path) -> Result<String, String> {
     let mut library = Library::new();
     let (mut written, mut i) = (0, 0);
     while written < count {
         let lent = lent_of(i, mix(seed ^ mix(i)));
         i += 1;
-        if !lent.cohort.overlaps_itself() || lent.cohort.sites.len() > 200 {
+        if lent.cohort.sites.len() > 200 || !by_model(&lent) {
             continue;
         }
         let mut rng = Rng::new(mix(seed.wrapping_add(i)));
@@ -145,11 +151,13 @@ pub fn recorded(folder: &Path) -> Result<String, String> {
 
 pub fn compare(seed: u64, count: u64) -> Result<String, String> {
     let mut library = Library::new();
-    let (mut records, mut bytes, mut windows, mut overlaps) = (0, 0, 0, 0);
+    let (mut records, mut bytes, mut windows, mut overlaps, mut referenced, mut letters) = (0, 0, 0, 0, 0, 0);
     for i in 0..count {
         let lent = lent_of(i, mix(seed ^ mix(i)));
         windows += u64::from(breakpoints(&lent) > 1024);
         overlaps += u64::from(lent.cohort.overlaps_itself());
+        referenced += u64::from(lent.reference.is_some());
+        letters += u64::from(lent.reference.is_none() && domain::fed(&lent).reference.is_some());
         let (r, n) = hold(&mut library, &lent, mix(seed.wrapping_add(i)))
             .map_err(|what| format!("seed {seed}, cohort {i}, sort {}: {what}", sort_of(i).name))?;
         records += r;
@@ -157,6 +165,6 @@ pub fn compare(seed: u64, count: u64) -> Result<String, String> {
     }
     Ok(format!(
         "{count} cohorts, {windows} with over 1,024 breakpoints on a contig, {overlaps} with overlapping sites of a sample, \
-         {records} records, {bytes} bytes of lists: no difference\n"
+         {referenced} with a reference, {letters} without one where a letter is needed, {records} records, {bytes} bytes of lists: no difference\n"
     ))
 }

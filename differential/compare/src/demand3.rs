@@ -1,4 +1,5 @@
-//! Demand 3 on the bytes that the compiled library writes: samples put into a cohort change nothing that its list said.
+//! Demand 3 on the bytes that the compiled library writes: samples put into a cohort change nothing that its list said. It says nothing of the
+//! letters of REF: without a reference a sample put in may bring another one, and then blocks join otherwise. Such records are counted.
 
 use crate::combine::{breakpoints, lent_of, places_for, Texts};
 use crate::ours::Library;
@@ -62,6 +63,13 @@ fn same_call(map: &[usize], v: &ListSample, w: &ListSample) -> bool {
     v.gq == w.gq && v.dp == w.dp && ad && pl
 }
 
+/// How many records of the first list begin where the second's record has another first letter.
+fn other_letters(first: &List, second: &List) -> usize {
+    let over = |old: &ListRecord| second.records.iter().find(|r| r.contig == old.contig && r.pos <= old.pos && old.pos <= r.last()).cloned();
+    let same = |old: &ListRecord| over(old).is_some_and(|new| new.ref_allele.as_bytes()[0] == old.ref_allele.as_bytes()[0]);
+    first.records.iter().filter(|old| !same(old)).count()
+}
+
 /// What the first list says that the second does not say again, if anything.
 fn lost(first: &List, second: &List) -> Option<String> {
     for old in &first.records {
@@ -94,7 +102,7 @@ fn written(library: &mut Library, lent: &Lent, places: usize) -> Result<Option<L
 
 pub fn check(seed: u64, count: u64) -> Result<String, String> {
     let mut library = Library::new();
-    let (mut pairs, mut records, mut overlaps, mut i) = (0, 0, 0, 0);
+    let (mut pairs, mut records, mut overlaps, mut unreferenced, mut letters, mut i) = (0, 0, 0, 0, 0, 0);
     while pairs < count {
         let mut rng = Rng::new(mix(seed ^ mix(i)));
         let second = lent_of(i, rng.any());
@@ -120,8 +128,13 @@ pub fn check(seed: u64, count: u64) -> Result<String, String> {
         pairs += 1;
         records += one.records.len();
         overlaps += u64::from(first.cohort.overlaps_itself());
+        if first.reference.is_none() {
+            unreferenced += 1;
+            letters += other_letters(&one, &two);
+        }
     }
     Ok(format!(
-        "{pairs} pairs of cohorts, {overlaps} with overlapping sites of an old sample, {records} records of the first lists: all said again\n"
+        "{pairs} pairs of cohorts, {overlaps} with overlapping sites of an old sample, {unreferenced} without a reference, {records} records of the first \
+         lists: all said again; without a reference {letters} of them begin with another letter in the second\n"
     ))
 }

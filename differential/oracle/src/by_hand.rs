@@ -3,13 +3,15 @@
 /// Site values in the order of a site group, separated by spaces.
 type SiteRow = &'static str;
 
-/// What it shows, number of samples, sites, clip groups, reference groups.
+/// What it shows, number of samples, sites, clip groups, reference groups; and, where it is not empty, `pos`, `end`, `ref` and `alt` of each
+/// record, from reading the documents.
 pub struct HandCohort {
     pub shows: &'static str,
     pub samples: usize,
     pub sites: &'static [SiteRow],
     pub clip: Option<&'static [&'static str]>,
     pub reference: Option<&'static [&'static str]>,
+    pub heads: &'static [&'static str],
 }
 
 const NONE: HandCohort = HandCohort {
@@ -18,7 +20,155 @@ const NONE: HandCohort = HandCohort {
     sites: &[],
     clip: None,
     reference: None,
+    heads: &[],
 };
+
+/// Letters without a reference: of the lowest-numbered sample whose taken site's REF reaches the position, else N.
+pub const LETTERS: &[HandCohort] = &[
+    HandCohort {
+        shows: "document 01's case at 21, ACG to A at 20: C,*,<NON_REF>, PL unchanged",
+        samples: 1,
+        sites: &["0 c 20 22 ACG A,<NON_REF> 12 6 1,2,3 11,12,13,14,15,16"],
+        heads: &["20 . ACG A,<NON_REF>", "21 . C *,<NON_REF>", "22 . G *,<NON_REF>"],
+        ..NONE
+    },
+    HandCohort {
+        shows: "the same with a reference, whose letters they are though a REF reaches",
+        samples: 1,
+        sites: &["0 c 20 22 ACG A,<NON_REF> 12 6 1,2,3 11,12,13,14,15,16"],
+        reference: Some(&["c 21 TN"]),
+        heads: &["20 . ACG A,<NON_REF>", "21 . T *,<NON_REF>", "22 . N *,<NON_REF>"],
+        ..NONE
+    },
+    HandCohort {
+        shows: "a lower-numbered block does not reach, the deletion does; behind it none does",
+        sites: &[
+            "0 c 8 14 T <NON_REF> 9 5 5,0 0,9,90",
+            "1 c 10 12 ACG A,<NON_REF> 12 6 1,2,3 11,12,13,14,15,16",
+        ],
+        heads: &[
+            "8 9 T <NON_REF>",
+            "10 . ACG A,<NON_REF>",
+            "11 . C *,<NON_REF>",
+            "12 . G *,<NON_REF>",
+            "13 14 N <NON_REF>",
+        ],
+        ..NONE
+    },
+    HandCohort {
+        shows: "two deletions reach and differ: the lower-numbered sample's letter",
+        sites: &[
+            "0 c 5 8 ACGT A,<NON_REF> 12 6 1,2,3 11,12,13,14,15,16",
+            "1 c 6 8 GAA G,<NON_REF> 13 7 4,5,6 1,2,3,4,5,6",
+        ],
+        heads: &["5 . ACGT A,<NON_REF>", "6 . GAA G,*,<NON_REF>", "7 . G *,<NON_REF>", "8 . T *,<NON_REF>"],
+        ..NONE
+    },
+    HandCohort {
+        shows: "the same with the samples changed about",
+        sites: &[
+            "1 c 5 8 ACGT A,<NON_REF> 12 6 1,2,3 11,12,13,14,15,16",
+            "0 c 6 8 GAA G,<NON_REF> 13 7 4,5,6 1,2,3,4,5,6",
+        ],
+        heads: &["5 . ACGT A,<NON_REF>", "6 . GAA G,*,<NON_REF>", "7 . A *,<NON_REF>", "8 . A *,<NON_REF>"],
+        ..NONE
+    },
+    HandCohort {
+        shows: "the lower-numbered deletion ends first, and the other gives the letter behind it",
+        sites: &[
+            "1 c 4 7 TAGT T,<NON_REF> 12 6 1,2,3 11,12,13,14,15,16",
+            "0 c 5 6 AC A,<NON_REF> 13 7 4,5,6 1,2,3,4,5,6",
+        ],
+        heads: &["4 . TAGT T,<NON_REF>", "5 . AC A,*,<NON_REF>", "6 . C *,<NON_REF>", "7 . T *,<NON_REF>"],
+        ..NONE
+    },
+    HandCohort {
+        shows: "an N of a REF that reaches is the letter, whatever a higher-numbered sample has there",
+        sites: &[
+            "1 c 4 6 TAC T,<NON_REF> 12 6 1,2,3 11,12,13,14,15,16",
+            "0 c 5 7 ANG A,<NON_REF> 13 7 4,5,6 1,2,3,4,5,6",
+        ],
+        heads: &["4 . TAC T,<NON_REF>", "5 . ANG A,*,<NON_REF>", "6 . N *,<NON_REF>", "7 . G *,<NON_REF>"],
+        ..NONE
+    },
+    HandCohort {
+        shows: "a block cut by clip spans that touch: A, then N; the parts of unknown letter join",
+        samples: 1,
+        sites: &["0 c 5 19 A <NON_REF> 1 2 3,4 0,20,30"],
+        clip: Some(&["c 5 8", "c 9 10", "c 11 14"]),
+        heads: &["5 8 A <NON_REF>", "9 14 N <NON_REF>"],
+        ..NONE
+    },
+    HandCohort {
+        shows: "an unknown letter joins a block behind it whose own REF is N",
+        samples: 1,
+        sites: &[
+            "0 c 1 4 A <NON_REF> 1 2 3,4 0,20,30",
+            "0 c 5 6 N <NON_REF> 1 2 3,4 0,20,30",
+        ],
+        clip: Some(&["c 3 6"]),
+        heads: &["3 6 N <NON_REF>"],
+        ..NONE
+    },
+    HandCohort {
+        shows: "an unknown letter joins a block before it whose own REF is N",
+        samples: 1,
+        sites: &["0 c 1 6 N <NON_REF> 1 2 3,4 0,20,30"],
+        clip: Some(&["c 1 3", "c 4 6"]),
+        heads: &["1 6 N <NON_REF>"],
+        ..NONE
+    },
+    HandCohort {
+        shows: "the deletion behind a SNP of its own sample gives its last letter",
+        samples: 1,
+        sites: &[
+            "0 c 10 13 ACGT A,<NON_REF> 12 6 1,2,3 11,12,13,14,15,16",
+            "0 c 12 12 G T,<NON_REF> 13 7 4,5,6 1,2,3,4,5,6",
+        ],
+        heads: &["10 . ACGT A,<NON_REF>", "11 . C *,<NON_REF>", "12 . G T,<NON_REF>", "13 . T *,<NON_REF>"],
+        ..NONE
+    },
+    HandCohort {
+        shows: "a superseded deletion gives no letter, a higher-numbered sample's does",
+        sites: &[
+            "0 c 5 10 ACGTAC A,<NON_REF> 12 6 1,2,3 11,12,13,14,15,16",
+            "0 c 6 12 C <NON_REF> 2 3 4,0 0,20,30",
+            "1 c 7 8 GA G,<NON_REF> 13 7 4,5,6 1,2,3,4,5,6",
+        ],
+        heads: &[
+            "5 . ACGTAC A,<NON_REF>",
+            "6 . C <NON_REF>",
+            "7 . GA G,<NON_REF>",
+            "8 . A *,<NON_REF>",
+            "9 12 N <NON_REF>",
+        ],
+        ..NONE
+    },
+    HandCohort {
+        shows: "a deletion up to 2147483647 gives its last letter, and a block from 1 on does not reach",
+        sites: &[
+            "0 c 1 2147483647 G <NON_REF> 1 2 3,4 0,20,30",
+            "1 c 2147483645 2147483647 ACT A,<NON_REF> 12 6 1,2,3 11,12,13,14,15,16",
+        ],
+        heads: &[
+            "1 2147483644 G <NON_REF>",
+            "2147483645 . ACT A,<NON_REF>",
+            "2147483646 . C *,<NON_REF>",
+            "2147483647 . T *,<NON_REF>",
+        ],
+        ..NONE
+    },
+    HandCohort {
+        shows: "blocks between another sample's SNPs: N and N do not touch, and do not join",
+        sites: &[
+            "0 c 5 9 A <NON_REF> 1 2 3,4 0,20,30",
+            "1 c 6 6 C T,<NON_REF> 12 6 1,2,3 11,12,13,14,15,16",
+            "1 c 8 8 C T,<NON_REF> 12 6 1,2,3 11,12,13,14,15,16",
+        ],
+        heads: &["5 . A <NON_REF>", "6 . C T,<NON_REF>", "7 . N <NON_REF>", "8 . C T,<NON_REF>", "9 . N <NON_REF>"],
+        ..NONE
+    },
+];
 
 /// Sites of one sample over each other: the one that starts last is taken, of equal starts the first in the file.
 pub const NESTED: &[HandCohort] = &[
@@ -61,7 +211,7 @@ pub const NESTED: &[HandCohort] = &[
         ..NONE
     },
     HandCohort {
-        shows: "a superseded deletion shows no * and gives no letter; its breakpoints part no block",
+        shows: "a superseded deletion shows no * and gives no letter: C, then N; behind that its breakpoints part no block",
         samples: 1,
         sites: &[
             "0 c 5 10 ACGTAC A,<NON_REF> 1 2 3,4,5 9,8,7,6,5,4",
@@ -104,7 +254,7 @@ pub const NESTED: &[HandCohort] = &[
 
 pub const COHORTS: &[HandCohort] = &[
     HandCohort {
-        shows: "document 01's printed example",
+        shows: "document 01's printed example, with Note 2's N",
         sites: &[
             "0 c 10 11 A <NON_REF> 30 9 9,0 0,30,300",
             "1 c 10 10 A G,<NON_REF> 40 8 4,4,0 40,0,50,60,70,80",
@@ -146,7 +296,7 @@ pub const COHORTS: &[HandCohort] = &[
         ..NONE
     },
     HandCohort {
-        shows: "ACG to A at 20, seen at 21: A,*,<NON_REF>, PL unchanged",
+        shows: "ACG to A at 20, seen at 21 with a reference: C,*,<NON_REF>, PL unchanged",
         sites: &[
             "0 c 20 22 ACG A,<NON_REF> 12 6 1,2,3 11,12,13,14,15,16",
             "1 c 18 25 A <NON_REF> 9 5 5,0 0,9,90",
@@ -353,9 +503,10 @@ pub const COHORTS: &[HandCohort] = &[
         sites: &["0 c 5 19 A <NON_REF> 1 2 3,4 0,20,30"],
         clip: Some(&["c 7 9", "c 15 30"]),
         reference: Some(&["c 7 G", "c 10 C", "c 15 T"]),
+        ..NONE
     },
     HandCohort {
-        shows: "clip spans that touch: the parts of the block join; the reference is not lent",
+        shows: "clip spans that touch: the parts of the block join, all of unknown letter; the reference is not lent",
         samples: 1,
         sites: &["0 c 5 19 A <NON_REF> 1 2 3,4 0,20,30"],
         clip: Some(&["c 7 9", "c 10 12", "c 11 15"]),
@@ -376,7 +527,7 @@ pub const COHORTS: &[HandCohort] = &[
         ..NONE
     },
     HandCohort {
-        shows: "without a reference: the first letter of the lowest-numbered taken sample's REF",
+        shows: "without a reference: N behind the last start, where no block's REF reaches",
         samples: 3,
         sites: &[
             "2 c 5 20 G <NON_REF> 1 2 3,4 0,20,30",

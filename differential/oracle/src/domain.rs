@@ -14,10 +14,41 @@ pub struct Interval<'a> {
 }
 
 impl Interval<'_> {
-    /// No taken site starts here, so REF is a reference letter.
+    /// No taken site starts here, so REF is a single letter: the reference's, or that of a sample.
     pub fn needs_letter(&self) -> bool {
         self.taken.iter().all(|s| s.start != self.start)
     }
+
+    /// The letter where no reference is lent (Note 2): that at the interval's start of the first taken site whose REF reaches it, else `N`.
+    fn reached_letter(&self) -> char {
+        let letter = |s: &&Site| s.ref_allele.chars().nth((self.start - s.start) as usize);
+        self.taken.iter().find_map(letter).unwrap_or('N')
+    }
+}
+
+/// A reference for a call that is lent none, with the letters of Note 2 where one is needed and nothing else; neighbours stand in one group.
+pub fn reached_letters(lent: &Lent) -> Vec<Stretch> {
+    let mut found: Vec<Stretch> = Vec::new();
+    for contig in contigs(lent) {
+        for interval in intervals(lent, contig).iter().filter(|i| i.needs_letter()) {
+            let (first, letter) = (interval.start, interval.reached_letter());
+            match found.last_mut() {
+                Some(s) if s.contig == contig && s.first + s.bases.len() as u64 == first => s.bases.push(letter),
+                _ => found.push(Stretch { contig: contig.to_string(), first, bases: letter.to_string() }),
+            }
+        }
+    }
+    found
+}
+
+/// The call as the Rust is fed it. Where a sample's sites overlap, those that start later come first; where no reference is lent and a letter
+/// is needed, the reference has the letters of Note 2.
+pub fn fed(lent: &Lent) -> Lent {
+    let mut call = Lent { cohort: lent.cohort.for_the_rust(), ..lent.clone() };
+    if lent.reference.is_none() {
+        call.reference = Some(reached_letters(lent)).filter(|letters| !letters.is_empty());
+    }
+    call
 }
 
 pub fn contigs(lent: &Lent) -> BTreeSet<&str> {

@@ -54,7 +54,7 @@ const PLAIN: Profile = Profile {
     palette: 0,
     clip: 30,
     short_spans: 0,
-    reference: 40,
+    reference: 60,
     patched: false,
 };
 
@@ -219,7 +219,6 @@ pub const PROFILES: [Profile; 20] = [
         palette: 3,
         clip: 40,
         short_spans: 700,
-        reference: 20,
         ..PLAIN
     },
     Profile {

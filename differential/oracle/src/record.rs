@@ -1,14 +1,14 @@
 //! The recorded answers: made from a seed, and held against the Rust again.
 
 use crate::alleles::{answer_group, answer_text, KINDS};
-use crate::by_hand::{HandCohort, COHORTS, COMBINED_LISTS, GROUPS, NESTED};
+use crate::by_hand::{HandCohort, COHORTS, COMBINED_LISTS, GROUPS, LETTERS, NESTED};
 use crate::call::{call, call_by_the_whole, sums_fit, without_depths};
 use crate::cohort::{read_cohort, Lent};
 use crate::combine::combine;
 use crate::generate;
-use crate::list::{read_combined, write_called, write_combined, List};
+use crate::list::{read_combined, write_called, write_combined, List, ListRecord};
 use crate::rng::mix;
-use crate::text::{line, Rules};
+use crate::text::{comma, line, or_dot, Rules};
 use crate::{cohort, domain};
 use std::fs;
 use std::path::{Path, PathBuf};
@@ -47,11 +47,10 @@ const READABLE: usize = 24_000;
 
 type Files = Vec<(String, String)>;
 
-/// The list of a call that the scope accepts, checked for what a list must be. Where a sample's sites overlap the Rust is fed those that
-/// start later first.
+/// The list of a call that the scope accepts, checked for what a list must be, by the Rust fed as `domain::fed` says.
 pub fn combined(lent: &Lent) -> Result<(List, String), String> {
     domain::check(lent).map_err(|r| r.to_string())?;
-    let list = combine(&Lent { cohort: lent.cohort.for_the_rust(), ..lent.clone() })?;
+    let list = combine(&domain::fed(lent))?;
     let text = write_combined(&list);
     let back =
         read_combined(&text, Rules::On).map_err(|r| format!("the Rust's list read back: {r}"))?;
@@ -95,18 +94,17 @@ fn record_combine(folder: &Path, seed: u64) -> Result<Vec<(usize, String)>, Stri
         }
         files.push(("combined.kv".to_string(), text.clone()));
         write_folder(&folder.join(format!("combine/{number:03}")), &files)?;
-        let by_model = if lent.cohort.overlaps_itself() { " (sites of a sample overlap: model.py)" } else { "" };
-        index.push_str(&format!("{number:03} {from}{by_model}\n"));
+        index.push_str(&format!("{number:03} {from}{}\n", by_model(lent)));
         // combined lists for `call` come from the other sorts
-        if !from.starts_with("nested") && !NESTED.iter().any(|hand| from.ends_with(hand.shows)) {
+        let others = ["nested", "letters"];
+        if !others.iter().any(|sort| from.starts_with(sort)) && !NESTED.iter().any(|hand| from.ends_with(hand.shows)) {
             lists.push((number, text));
         }
         number += 1;
         Ok(())
     };
     for hand in COHORTS {
-        let lent = hand_cohort(hand)?;
-        let (_, text) = combined(&lent).map_err(|e| format!("{}: {e}", hand.shows))?;
+        let (lent, text) = hand_list(hand)?;
         keep(&lent, text, format!("by hand: {}", hand.shows))?;
     }
     for (name, count) in COHORT_COUNTS {
@@ -129,12 +127,30 @@ fn record_combine(folder: &Path, seed: u64) -> Result<Vec<(usize, String)>, Stri
         }
     }
     for hand in NESTED {
-        let lent = hand_cohort(hand)?;
-        let (_, text) = combined(&lent).map_err(|e| format!("{}: {e}", hand.shows))?;
+        let (lent, text) = hand_list(hand)?;
         keep(&lent, text, format!("by hand: {}", hand.shows))?;
+    }
+    for hand in LETTERS {
+        let (lent, text) = hand_list(hand)?;
+        keep(&lent, text, format!("letters by hand: {}", hand.shows))?;
     }
     write_file(&folder.join("combine/INDEX.txt"), &index)?;
     Ok(lists)
+}
+
+/// Why a list is the model's, and the Rust's only as it is fed, if it is.
+fn by_model(lent: &Lent) -> String {
+    let mut why = Vec::new();
+    if lent.cohort.overlaps_itself() {
+        why.push("sites of a sample overlap");
+    }
+    if domain::fed(lent).reference != lent.reference {
+        why.push("letters without a reference");
+    }
+    match why.is_empty() {
+        true => String::new(),
+        false => format!(" ({}: model.py)", why.join(", ")),
+    }
 }
 
 fn most_alleles(list: &List) -> usize {
@@ -156,6 +172,18 @@ fn fits(lent: &Lent, list: &str, large: bool) -> bool {
 fn case_seed(seed: u64, sort: &str, case: u64) -> u64 {
     let named = sort.bytes().fold(mix(seed), |h, b| mix(h ^ u64::from(b)));
     mix(named.wrapping_add(case)) >> 24
+}
+
+/// A call by hand and its list, whose records begin as the answer by hand says.
+fn hand_list(hand: &HandCohort) -> Result<(Lent, String), String> {
+    let lent = hand_cohort(hand)?;
+    let (list, text) = combined(&lent).map_err(|e| format!("{}: {e}", hand.shows))?;
+    let head = |r: &ListRecord| format!("{} {} {} {}", r.pos, or_dot(r.end), r.ref_allele, comma(&r.alts));
+    let heads: Vec<String> = list.records.iter().map(head).collect();
+    if !hand.heads.is_empty() && heads != hand.heads {
+        return Err(format!("{}: {heads:?} is not what was expected", hand.shows));
+    }
+    Ok((lent, text))
 }
 
 fn hand_cohort(hand: &HandCohort) -> Result<Lent, String> {
@@ -334,15 +362,15 @@ fn same(path: &Path, text: &str) -> Result<(), String> {
 
 /// Draws calls and lists that are not kept, and holds each answer to what a list must be.
 pub fn sweep(seed: u64, count: u64) -> Result<String, String> {
-    let mut records = 0;
-    let mut kept = 0;
+    let (mut records, mut kept, mut referenced) = (0, 0, 0);
     for case in 0..count {
         let profile = &generate::PROFILES[(case % generate::PROFILES.len() as u64) as usize];
         let case_seed = case_seed(seed, profile.name, case);
         let drawn = format!("{} {case_seed}", profile.name);
-        let (list, _) =
-            combined(&generate::lent(profile, case_seed)).map_err(|e| format!("{drawn}: {e}"))?;
+        let lent = generate::lent(profile, case_seed);
+        let (list, _) = combined(&lent).map_err(|e| format!("{drawn}: {e}"))?;
         records += list.records.len();
+        referenced += u64::from(lent.reference.is_some());
         called(&list).map_err(|e| format!("{drawn}: {e}"))?;
         let list = generate::combined_list(case_seed);
         kept += call(&list).records.len();
@@ -354,6 +382,6 @@ pub fn sweep(seed: u64, count: u64) -> Result<String, String> {
         }
     }
     Ok(format!(
-        "{count} calls gave {records} records; {count} combined lists gave {kept} called records\n"
+        "{count} calls, {referenced} with a reference, gave {records} records; {count} combined lists gave {kept} called records\n"
     ))
 }

@@ -1,4 +1,4 @@
-//! The recorded answers are the Rust's, and the first is the scope's printed example.
+//! The recorded answers are the Rust's as it is fed, and the first is the scope's printed example with Note 2's letter.
 
 use oracle::record::check;
 use std::fs;
@@ -38,7 +38,7 @@ pl=40,0,50,60,70,80
 contig=c
 pos=11
 end=.
-ref=A
+ref=N
 alt=<NON_REF>
 gt=0/0
 gq=30

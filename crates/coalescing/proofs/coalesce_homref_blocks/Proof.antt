@@ -1,8 +1,8 @@
 -- By whether it joins the one that is held back.
 use borrow.Author.Needs.{needs}
 use mathlib.Core.Path.{_∙_, sym}
-use native.Mathlib.Nat.{zero-add}
-use Rattle.coalescing.specs.Held.{behindPending, heldAfter}
+use Rattle.coalescing.proofs.StepLaws.{held-instead}
+use Rattle.coalescing.specs.Held.{heldAfter}
 use Rattle.coalescing.specs.Steps.{blockLays, blockStepped}
 use Rattle.coalescing.proofs.coalesce_homref_blocks.Statement.{statement}
 use Rattle.coalescing.proofs.coalesce_homref_blocks.Tie as tie
@@ -22,17 +22,11 @@ returns c =
     let joins = sym (c .before .before .joins .ensures) ∙ c .before .if1 .taken in
     (rw joins (cc (c .set-end .ensures)), (rw joins, rw joins))
 
-put-pending-requires : tie.Need-put-pending-requires
-put-pending-requires c κs = (c .before .before .before .before .before .before .before .before .before .before .before .before .pre .fits)
+lay-pending-requires : tie.Need-lay-pending-requires
+lay-pending-requires c κs = search needs
 
 put-bytes-requires : tie.Need-put-bytes-requires
 put-bytes-requires c κs = search needs
-
-cap-requires : tie.Need-cap-requires
-cap-requires c κs = search needs
-
-count-pending-requires : tie.Need-count-pending-requires
-count-pending-requires c κs = search needs
 
 same-length-2 : tie.Need-same-length-2
 same-length-2 c = search needs
@@ -41,14 +35,12 @@ same-length-3 : tie.Need-same-length-3
 same-length-3 c = search needs
 
 returns-2 : tie.Need-returns-2
-unfolding blockStepped blockLays heldAfter behindPending
+unfolding blockLays heldAfter
 returns-2 c =
-    let apart = sym (c .before .before .before .before .before .before .before .before .before .before .before .before .joins .ensures) ∙ c .before .before .before .before .before .before .before .before .before .before .before .if1 .left in
-    let laid = c .before .before .before .before .before .before .before .before .put-pending .ensures in
-    let held = c .before .before .before .before .put-bytes .ensures in (
-      rw apart (cc (c .before .cap .ensures, c .count-pending .ensures, laid .next, held .next ∙ zero-add _)),
-      (rw apart (laid .laid), rw apart (held .laid)),
-    )
+    let apart = sym (c .before .before .before .before .before .before .before .before .before .before .joins .ensures) ∙ c .before .before .before .before .before .before .before .before .before .if1 .left in
+    let laid = c .before .before .before .before .before .before .lay-pending .ensures in
+    let held = c .before .before .put-bytes .ensures in
+    (held-instead _ _ _ _ _ _ _ _ apart (laid .0) (held .next), (rw apart (laid .1), rw apart (held .laid)))
 
 pub coalesce-homref-blocks-spec : {M : Type 1} → statement M
 coalesce-homref-blocks-spec =
@@ -58,10 +50,8 @@ coalesce-homref-blocks-spec =
     set-end-requires
     same-length
     returns
-    put-pending-requires
+    lay-pending-requires
     put-bytes-requires
-    cap-requires
-    count-pending-requires
     same-length-2
     same-length-3
     returns-2)

@@ -1,7 +1,7 @@
 -- Test by test.
 use borrow.Author.Needs.{needs}
-use borrow.Author.Tests.{not-false, not-true}
 use mathlib.Core.Path.{_∙_, sym}
+use native.Mathlib.Omega.{arith}
 use Rattle.coalescing.proofs.Touching.{at-zero, not-touching, other-ref, same-ref}
 use Rattle.coalescing.specs.Held.{joinsPending}
 use Rattle.coalescing.proofs.joins.Statement.{statement}
@@ -21,7 +21,7 @@ get-requires : tie.Need-get-requires
 get-requires c κs = search needs
 
 returns-2 : tie.Need-returns-2
-returns-2 c = rw (c .before .before .before .pending .given .1) (at-zero _ _ _ _ _ _ _ _ _ _ (sym (c .before .get .ensures) ∙ (c .if1 .taken)))
+returns-2 c = rw (c .before .before .before .pending .given .1) (at-zero _ _ _ _ _ _ _ (sym (c .before .get .ensures) ∙ c .if1 .taken))
 
 sub-if2 : tie.Need-sub-if2
 sub-if2 c = search needs
@@ -30,29 +30,22 @@ get-requires-2 : tie.Need-get-requires-2
 get-requires-2 c κs = search needs
 
 returns-3 : tie.Need-returns-3
-returns-3 c = rw (c .before .before .before .before .before .pending .given .1) (not-touching _ _ _ _ _ _ _ _ _ _ (rw ((c .before .before .before .get .ensures), (c .before .get2 .ensures)) at (c .if2 .taken)))
-
-ref-bytes-requires : tie.Need-ref-bytes-requires
-ref-bytes-requires c κs = search needs
-
-ref-bytes-requires-2 : tie.Need-ref-bytes-requires-2
-ref-bytes-requires-2 c κs = search needs
-
-same-bytes-requires : tie.Need-same-bytes-requires
-same-bytes-requires c κs = search needs
+returns-3 c =
+    rw (c .before .before .before .before .before .pending .given .1)
+    (not-touching _ _ _ _ _ _ _ (rw (c .before .before .before .get .ensures, c .before .get2 .ensures) at (c .if2 .taken)))
 
 returns-4 : tie.Need-returns-4
-returns-4 c = rw (c .before .before .before .before .before .before .before .before .before .pending .given .1) (other-ref _ _ _ _ _ _ _ _ _ _
-    (rw ((c .before .before .before .ref-bytes .ensures), (c .before .before .ref-bytes2 .ensures)) at (c .before .same-bytes .ensures)) (not-true _ (c .if3 .taken)))
+returns-4 c = rw (c .before .before .before .before .before .before .pending .given .1) (other-ref _ _ _ _ _ _ _ (λ e. omega (arith, c .if3 .taken, e)))
 
 samples-pl-ad-eq-requires : tie.Need-samples-pl-ad-eq-requires
 samples-pl-ad-eq-requires c κs = search needs
 
 returns-5 : tie.Need-returns-5
-returns-5 c = c .samples-pl-ad-eq .ensures
-    ∙ rw (c .before .before .before .before .before .before .before .before .before .before .pending .given .1) (same-ref _ _ _ _ _ _ _ _ _ _ (rw (c .before .before .before .before .before .before .before .before .get .ensures) at (c .before .before .before .before .before .before .before .if1 .left))
-    (rw ((c .before .before .before .before .before .before .before .before .get .ensures), (c .before .before .before .before .before .before .get2 .ensures)) at (c .before .before .before .before .before .if2 .left))
-    (rw ((c .before .before .before .before .ref-bytes .ensures), (c .before .before .before .ref-bytes2 .ensures)) at (c .before .before .same-bytes .ensures)) (not-false _ (c .before .if3 .left)))
+returns-5 c =
+    let position = c .before .before .before .before .before .get .ensures in
+    c .samples-pl-ad-eq .ensures
+    ∙ rw (c .before .before .before .before .before .before .before .pending .given .1)
+    (same-ref _ _ _ _ _ _ _ (rw position at (c .before .before .before .before .if1 .left)) (rw (position, c .before .before .before .get2 .ensures) at (c .before .before .if2 .left)) (omega (arith, c .before .if3 .left)))
 
 pub joins-spec : {M : Type 1} → statement M
 joins-spec =
@@ -66,9 +59,6 @@ joins-spec =
     sub-if2
     get-requires-2
     returns-3
-    ref-bytes-requires
-    ref-bytes-requires-2
-    same-bytes-requires
     returns-4
     samples-pl-ad-eq-requires
     returns-5)

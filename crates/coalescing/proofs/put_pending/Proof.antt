@@ -13,23 +13,24 @@ enum-told c = search needs
 enum-known-pending : tie.Need-enum-known-pending
 enum-known-pending c = search needs
 
-ref-bytes-requires : tie.Need-ref-bytes-requires
-ref-bytes-requires c κs = search needs
-
 slice-aggregate-put-record-head : tie.Need-slice-aggregate-put-record-head
 slice-aggregate-put-record-head c = search needs
 
+slice-aggregate-put-record-head-2 : tie.Need-slice-aggregate-put-record-head-2
+slice-aggregate-put-record-head-2 c = search needs
+
 put-record-head-requires : tie.Need-put-record-head-requires
-put-record-head-requires c κs = let b = (c .before .before .before .before .pending .given) in
-    rw (c .before .before .ref-bytes .ensures) (block-head-fits _ _ _ _ _ _ _ _ _ (rw (b .1) at (c .before .before .before .before .before .before .before .before .before .before .before .before .pre)))
+put-record-head-requires c κs =
+    let b = c .before .before .before .before .pending .given in
+    block-head-fits _ _ _ _ _ _ (rw (b .1) at (c .before .before .before .before .before .before .before .before .before .pre))
 
 part-requires : tie.Need-part-requires
 part-requires c κs = search needs
 
 put-bytes-requires : tie.Need-put-bytes-requires
-put-bytes-requires c κs = let b = (c .before .before .before .before .before .before .before .before .before .pending .given) in
-    let head = rw (c .before .before .before .before .before .before .before .ref-bytes .ensures) at (c .before .before .before .before .put-record-head .ensures) in
-    rw ((c .before .part .ensures), sub-zero) (block-lines-fit _ _ _ _ _ _ _ _ _ (rw (b .1) at (c .before .before .before .before .before .before .before .before .before .before .before .before .before .before .before .before .before .pre)) head)
+put-bytes-requires c κs =
+    let b = c .before .before .before .before .before .before .before .before .before .pending .given in
+    rw (c .before .part .ensures, sub-zero) (block-lines-fit _ _ _ _ _ _ (rw (b .1) at (c .before .before .before .before .before .before .before .before .before .before .before .before .before .before .pre)) (c .before .before .before .before .put-record-head .ensures))
 
 returns : tie.Need-returns
 unfolding pendingBytes
@@ -39,9 +40,10 @@ same-length : tie.Need-same-length
 same-length c = search needs
 
 returns-2 : tie.Need-returns-2
-returns-2 c = let b = (c .before .before .before .before .before .before .before .before .before .before .before .before .pending .given) in
-    let head = rw (c .before .before .before .before .before .before .before .before .before .before .ref-bytes .ensures) at (c .before .before .before .before .before .before .before .put-record-head .ensures) in
-    rw (b .1) (block-laid _ _ _ _ _ _ _ _ _ (rw (b .1) at (c .before .before .before .before .before .before .before .before .before .before .before .before .before .before .before .before .before .before .before .before .pre)) head (rw ((c .before .before .before .before .part .ensures), sub-zero) at (c .before .before .put-bytes .ensures)))
+returns-2 c =
+    let b = c .before .before .before .before .before .before .before .before .before .before .before .before .pending .given in
+    rw (b .1) (block-laid _ _ _ _ _ _ (rw (b .1) at (c .before .before .before .before .before .before .before .before .before .before .before .before .before .before .before .before .before .pre)) (c .before .before .before .before .before .before .before .put-record-head .ensures)
+    (rw (c .before .before .before .before .part .ensures, sub-zero) at (c .before .before .put-bytes .ensures)))
 
 pub put-pending-spec : {M : Type 1} → statement M
 put-pending-spec =
@@ -49,8 +51,8 @@ put-pending-spec =
     (tie.spec
     enum-told
     enum-known-pending
-    ref-bytes-requires
     slice-aggregate-put-record-head
+    slice-aggregate-put-record-head-2
     put-record-head-requires
     part-requires
     put-bytes-requires

@@ -4,26 +4,37 @@ use lib.ListN.{length}
 use mathlib.Core.Path.{ap}
 use native.Mathlib.Omega.{arith}
 use Rattle.coalescing.proofs.StepLaws.{block-step}
-use Rattle.contig_walk.proofs.LaidRecords.{fresh-lines, lines-few, new-block, printable}
+use Rattle.contig_walk.proofs.LaidRecords.{fresh-lines, lines-few, new-block, one-letter, printable}
 use Rattle.contig_walk.specs.Laying.{laidRecord}
 use Rattle.contig_walk.proofs.lay_block.Statement.{statement}
 use Rattle.contig_walk.proofs.lay_block.Tie as tie
 
-ref-bytes-requires : tie.Need-ref-bytes-requires
-ref-bytes-requires c κs = search needs
-
 merge-genotypes-requires : tie.Need-merge-genotypes-requires
-merge-genotypes-requires c κs = printable (c .before .before .before .before .before .before .before .before .before .before .before .pre .0) 0 (omega arith)
+merge-genotypes-requires c κs = printable (c .before .before .before .before .before .before .before .before .before .before .pre .0) 0 (omega arith)
+
+shared-slice-read-base : tie.Need-shared-slice-read-base
+shared-slice-read-base c =
+    let start = c .before .before .before .before .before .before .before .before .before .before .before .before .before .before in
+    omega (arith, one-letter (start .pre .0) (start .pre .1))
 
 slice-reshare-prefix-coalesce-homref-blocks : tie.Need-slice-reshare-prefix-coalesce-homref-blocks
-slice-reshare-prefix-coalesce-homref-blocks c = fresh-lines (c .before .before .before .before .before .before .before .before .before .before .before .before .before .before .pre .0) (c .before .before .before .before .before .before .before .before .before .before .before .before .before .before .pre .1) _ _ (rw (c .before .before .before .before .ref-bytes .ensures) at (c .before .before .merge-genotypes .ensures)) .within
+slice-reshare-prefix-coalesce-homref-blocks c =
+    let start = c .before .before .before .before .before .before .before .before .before .before .before .before .before .before in
+    fresh-lines (start .pre .0) (start .pre .1) _ _ (c .before .before .before .merge-genotypes .ensures) .within
 
 slice-aggregate-coalesce-homref-blocks : tie.Need-slice-aggregate-coalesce-homref-blocks
-slice-aggregate-coalesce-homref-blocks c = fresh-lines (c .before .before .before .before .before .before .before .before .before .before .before .before .before .before .before .pre .0) (c .before .before .before .before .before .before .before .before .before .before .before .before .before .before .before .pre .1) _ _ (rw (c .before .before .before .before .before .ref-bytes .ensures) at (c .before .before .before .merge-genotypes .ensures)) .exact
+slice-aggregate-coalesce-homref-blocks c =
+    let start = c .before .before .before .before .before .before .before .before .before .before .before .before .before .before .before in
+    fresh-lines (start .pre .0) (start .pre .1) _ _ (c .before .before .before .before .merge-genotypes .ensures) .exact
 
 coalesce-homref-blocks-requires : tie.Need-coalesce-homref-blocks-requires
-coalesce-homref-blocks-requires c κs = let f = fresh-lines (c .before .before .before .before .before .before .before .before .before .before .before .before .before .before .before .before .before .pre .0) (c .before .before .before .before .before .before .before .before .before .before .before .before .before .before .before .before .before .pre .1) _ _ (rw (c .before .before .before .before .before .before .before .ref-bytes .ensures) at (c .before .before .before .before .before .merge-genotypes .ensures)) in
-    record { fits = (c .before .before .before .before .before .before .before .before .before .before .before .before .before .before .before .before .before .pre .0 .fits); room = omega (arith, ap length (f .lines), (c .before .before .before .before .before .before .before .before .before .before .before .before .before .before .before .before .before .pre .0 .room), lines-few (c .before .before .before .before .before .before .before .before .before .before .before .before .before .before .before .before .before .pre .0) (c .before .before .before .before .before .before .before .before .before .before .before .before .before .before .before .before .before .pre .1)) }
+coalesce-homref-blocks-requires c κs =
+    let start = c .before .before .before .before .before .before .before .before .before .before .before .before .before .before .before .before .before in
+    let f = fresh-lines (start .pre .0) (start .pre .1) _ _ (c .before .before .before .before .before .before .merge-genotypes .ensures) in
+    record {
+      fits = start .pre .0 .fits;
+      room = omega (arith, ap length (f .lines), start .pre .0 .room, lines-few (start .pre .0) (start .pre .1));
+    }
 
 same-length : tie.Need-same-length
 same-length c = search needs
@@ -36,9 +47,9 @@ same-length-3 c = search needs
 
 returns : tie.Need-returns
 returns c = λ ready block way.
-    let f = fresh-lines ready block _ _ (rw (c .before .before .before .before .before .before .before .before .before .before .before .before .ref-bytes .ensures) at (c .before .before .before .before .before .before .before .before .before .before .merge-genotypes .ensures)) in
+    let f = fresh-lines ready block _ _ (c .before .before .before .before .before .before .before .before .before .before .before .merge-genotypes .ensures) in
     let step = c .before .before .before .before .coalesce-homref-blocks .ensures in
-    block-step _ _ _ _ _ _ (way .begun .d₀) (way .begun .bytes) (way .begun .records) _ _ _
+    block-step _ _ _ (way .begun .d₀) (way .begun .bytes) (way .begun .records) _ _ _
     (laidRecord ready) (new-block ready block _ (f .lines)) _ (way .waiting) (way .holds)
     (omega (arith, ap length (f .lines), ready .room, lines-few ready block)) _ _ _ (way .begun .progress) _ _ _ (step .0) (step .1 .0) (step .1 .1)
 
@@ -46,8 +57,8 @@ pub lay-block-spec : {M : Type 1} → statement M
 lay-block-spec =
     tie.close
     (tie.spec
-    ref-bytes-requires
     merge-genotypes-requires
+    shared-slice-read-base
     slice-reshare-prefix-coalesce-homref-blocks
     slice-aggregate-coalesce-homref-blocks
     coalesce-homref-blocks-requires

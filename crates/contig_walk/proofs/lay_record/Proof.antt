@@ -1,7 +1,7 @@
 -- A block by the number of ALTs and the length of REF.
 use borrow.Author.Needs.{needs}
 use mathlib.Core.Path.{_∙_, sym}
-use Rattle.coalescing.proofs.StepLaws.{record-step}
+use Rattle.coalescing.proofs.StepLaws.{record-step, within-limit}
 use Rattle.contig_walk.proofs.LaidRecords.{by-numbers, other-record, record-fits}
 use Rattle.contig_walk.specs.Laying.{laidRecord}
 use Rattle.contig_walk.proofs.lay_record.Statement.{statement}
@@ -30,10 +30,11 @@ returns c = λ ready way.
     let block = by-numbers ready ∙ sym (c .before .before .before .before .before .before .before .before .before .before .before .is-homref-nonref-only .ensures) ∙ c .before .before .before .before .before .before .before .before .before .before .if1 .taken in
     c .before .before .before .before .before .before .lay-block .ensures ready block way
 
-step-record-requires : tie.Need-step-record-requires
-step-record-requires c κs =
-    let ready = c .before .before .before .before .before .before .before .before .before .before .before .before .before .pre .0 in
-    (ready .fits, record-fits ready)
+lay-pending-requires : tie.Need-lay-pending-requires
+lay-pending-requires c κs = search needs
+
+lay-behind-requires : tie.Need-lay-behind-requires
+lay-behind-requires c κs = record-fits (c .before .before .before .before .before .before .before .before .before .before .before .before .before .before .before .before .before .pre .0) _ (within-limit _ _ _ _ _ (c .before .before .before .lay-pending .ensures .0))
 
 same-length-4 : tie.Need-same-length-4
 same-length-4 c = search needs
@@ -43,11 +44,12 @@ same-length-5 c = search needs
 
 returns-2 : tie.Need-returns-2
 returns-2 c = λ ready way.
-    let other = by-numbers ready ∙ sym (c .before .before .before .before .before .before .is-homref-nonref-only .ensures) ∙ c .before .before .before .before .before .if1 .left in
-    let step = c .before .before .step-record .ensures in
-    record-step _ _ _ _ _ _ (way .begun .d₀) (way .begun .bytes) (way .begun .records) _ _ _ _
+    let other = by-numbers ready ∙ sym (c .before .before .before .before .before .before .before .before .before .before .is-homref-nonref-only .ensures) ∙ c .before .before .before .before .before .before .before .before .before .if1 .left in
+    let before = c .before .before .before .before .before .before .lay-pending .ensures in
+    let step = c .before .before .lay-behind .ensures in
+    record-step _ _ _ (way .begun .d₀) (way .begun .bytes) (way .begun .records) _
     (laidRecord ready) (other-record ready other) _ (way .waiting) (way .holds)
-    _ _ _ (way .begun .progress) _ _ (step .0) (step .1)
+    _ _ _ (way .begun .progress) _ _ (before .0) (step .0) _ _ (before .1) (step .1)
 
 pub lay-record-spec : {M : Type 1} → statement M
 lay-record-spec =
@@ -59,7 +61,8 @@ lay-record-spec =
     same-length-2
     same-length-3
     returns
-    step-record-requires
+    lay-pending-requires
+    lay-behind-requires
     same-length-4
     same-length-5
     returns-2)

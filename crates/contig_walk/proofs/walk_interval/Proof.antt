@@ -1,7 +1,9 @@
 -- By what is found at the interval's first position.
 use borrow.Author.Needs.{needs}
 use Rattle.contig_walk.proofs.Turns.{front-within, lay-ready, own-asked, own-known, owners-exact, owners-front, turn-bare, turn-laid, turn-none}
+use Rattle.definitions.specs.MergedRef.{unknownBase}
 use Rattle.merged_records.specs.Found.{RecordFound}
+use Rattle.merged_ref.specs.Answers.{refBytes}
 use Rattle.contig_walk.proofs.walk_interval.Statement.{statement}
 use Rattle.contig_walk.proofs.walk_interval.Tie as tie
 
@@ -70,18 +72,24 @@ own-sites-requires c κs =
 part-requires : tie.Need-part-requires
 part-requires c κs = search needs
 
+slice-aggregate-ref-bytes : tie.Need-slice-aggregate-ref-bytes
+slice-aggregate-ref-bytes c = search needs
+
+ref-bytes-requires : tie.Need-ref-bytes-requires
+ref-bytes-requires c κs = search needs
+
 slice-aggregate-lay-record : tie.Need-slice-aggregate-lay-record
 slice-aggregate-lay-record c = search needs
 
 lay-record-requires : tie.Need-lay-record-requires
-unfolding RecordFound
+unfolding RecordFound refBytes unknownBase
 lay-record-requires c κs =
-    let at-merge = c .before .before .before .before .before .before .before .before .before .before .before .before .before .before .before .before .before .before .before .before in
+    let at-merge = c .before .before .before .before .before .before .before .before .before .before .before .before .before .before .before .before .before .before .before .before .before .before in
     let start = at-merge .before .before .before .before .before .before .before .before .before .before .before .before .before .before .before .before .before in
     let answer = at-merge .merge-reference-confidence .ensures in
-    let f = rw (c .before .before .before .before .before .before .before .before .before .before .before .before .here2 .given .1) at (answer .0 (start .pre .0 .runs)) in
-    let own = own-known (start .pre .0) _ _ _ _ _ _ f _ (answer .1 .0 (start .pre .0 .runs)) (answer .1 .1 (start .pre .0 .runs)) (c .before .before .before .before .before .before .before .own-sites .ensures) in
-    (lay-ready (start .pre .0) _ _ _ _ _ _ f _ (c .before .before .before .before .part .ensures) _ own, start .pre .1)
+    let f = rw (c .before .before .before .before .before .before .before .before .before .before .before .before .before .before .here2 .given .1) at (answer .0 (start .pre .0 .runs)) in
+    let own = own-known (start .pre .0) _ _ _ _ _ _ f _ (answer .1 .0 (start .pre .0 .runs)) (answer .1 .1 (start .pre .0 .runs)) (c .before .before .before .before .before .before .before .before .before .own-sites .ensures) in
+    (lay-ready (start .pre .0) _ _ _ _ _ _ f _ (c .before .before .before .before .before .before .part .ensures) _ own _ (c .before .before .before .before .ref-bytes .ensures), start .pre .1)
 
 same-length : tie.Need-same-length
 same-length c = c .before .before .before .before .before .before .before .before .merge-reference-confidence .kept .1 .1 .1 .1 .1 .1 .1 .1 .1 .1 .0
@@ -117,34 +125,35 @@ returns-2 c = λ ready way.
     _ (f .0) (f .1) _ (way .begun .progress .measured .laid)
 
 same-length-7 : tie.Need-same-length-7
-same-length-7 c = c .before .before .before .before .before .before .lay-record .kept .1 .1 .1 .1 .1 .1 .1 .1 .1 .1 .1 .0
+same-length-7 c = c .before .before .before .before .before .before .lay-record .kept .1 .1 .1 .1 .1 .1 .1 .1 .1 .1 .0
 
 same-length-8 : tie.Need-same-length-8
-same-length-8 c = c .before .before .before .before .before .before .lay-record .kept .1 .1 .1 .1 .1 .1 .1 .1 .1 .1 .1 .1 .0
+same-length-8 c = c .before .before .before .before .before .before .lay-record .kept .1 .1 .1 .1 .1 .1 .1 .1 .1 .1 .1 .0
 
 same-length-9 : tie.Need-same-length-9
-same-length-9 c = c .before .before .before .before .before .before .before .before .before .before .before .before .before .before .before .before .before .before .before .before .before .before .before .before .before .before .before .merge-reference-confidence .kept .1 .1 .1 .1 .1 .1 .1 .1 .1 .1 .0
+same-length-9 c = c .before .before .before .before .before .before .before .before .before .before .before .before .before .before .before .before .before .before .before .before .before .before .before .before .before .before .before .before .before .merge-reference-confidence .kept .1 .1 .1 .1 .1 .1 .1 .1 .1 .1 .0
 
 same-length-10 : tie.Need-same-length-10
-same-length-10 c = c .before .before .before .before .before .before .before .before .before .before .before .before .before .before .before .before .before .before .before .before .before .before .before .before .before .before .before .merge-reference-confidence .kept .1 .1 .1 .1 .1 .1 .1 .1 .1 .1 .1 .0
+same-length-10 c = c .before .before .before .before .before .before .before .before .before .before .before .before .before .before .before .before .before .before .before .before .before .before .before .before .before .before .before .before .before .merge-reference-confidence .kept .1 .1 .1 .1 .1 .1 .1 .1 .1 .1 .1 .0
 
 same-length-11 : tie.Need-same-length-11
-same-length-11 c = c .before .before .before .before .before .before .before .before .before .before .before .before .before .before .before .before .before .before .before .before .before .before .before .before .before .before .before .merge-reference-confidence .kept .1 .1 .1 .1 .1 .1 .1 .1 .1 .1 .1 .1 .0
+same-length-11 c = c .before .before .before .before .before .before .before .before .before .before .before .before .before .before .before .before .before .before .before .before .before .before .before .before .before .before .before .before .before .merge-reference-confidence .kept .1 .1 .1 .1 .1 .1 .1 .1 .1 .1 .1 .1 .0
 
 same-length-12 : tie.Need-same-length-12
-same-length-12 c = c .before .before .before .before .before .before .lay-record .kept .1 .1 .1 .1 .1 .1 .1 .1 .1 .1 .1 .1 .1 .0
+same-length-12 c = c .before .before .before .before .before .before .lay-record .kept .1 .1 .1 .1 .1 .1 .1 .1 .1 .1 .1 .1 .0
 
 returns-3 : tie.Need-returns-3
-unfolding RecordFound
+unfolding RecordFound refBytes unknownBase
 returns-3 c = λ ready way.
-    let at-merge = c .before .before .before .before .before .before .before .before .before .before .before .before .before .before .before .before .before .before .before .before .before .before .before .before .before .before .before in
+    let at-merge = c .before .before .before .before .before .before .before .before .before .before .before .before .before .before .before .before .before .before .before .before .before .before .before .before .before .before .before .before .before in
     let answer = at-merge .merge-reference-confidence .ensures in
-    let f = rw (c .before .before .before .before .before .before .before .before .before .before .before .before .before .before .before .before .before .before .before .here2 .given .1) at (answer .0 (ready .runs)) in
-    let at-part = c .before .before .before .before .before .before .before .before .before .before .before in
+    let f = rw (c .before .before .before .before .before .before .before .before .before .before .before .before .before .before .before .before .before .before .before .before .before .here2 .given .1) at (answer .0 (ready .runs)) in
+    let at-allele = c .before .before .before .before .before .before .before .before .before .before .before in
+    let at-part = at-allele .before .before in
     let own = own-known ready _ _ _ _ _ _ f _ (answer .1 .0 (ready .runs)) (answer .1 .1 (ready .runs)) (at-part .before .before .before .own-sites .ensures) in
     turn-laid ready (way .waiting) (way .begun .d₀) (way .begun .bytes) (way .begun .records) (way .holds)
-    _ _ _ _ _ _ f _ (at-part .part .ensures) _ own _ _ _
-    (c .before .before .before .before .before .before .lay-record .ensures (lay-ready ready _ _ _ _ _ _ f _ (at-part .part .ensures) _ own) way)
+    _ _ _ _ _ _ f _ (at-part .part .ensures) _ own _ (at-allele .ref-bytes .ensures) _ _ _
+    (c .before .before .before .before .before .before .lay-record .ensures (lay-ready ready _ _ _ _ _ _ f _ (at-part .part .ensures) _ own _ (at-allele .ref-bytes .ensures)) way)
 
 pub walk-interval-spec : {M : Type 1} → statement M
 walk-interval-spec =
@@ -161,6 +170,8 @@ walk-interval-spec =
     slice-aggregate-own-sites-3
     own-sites-requires
     part-requires
+    slice-aggregate-ref-bytes
+    ref-bytes-requires
     slice-aggregate-lay-record
     lay-record-requires
     same-length

@@ -1,7 +1,7 @@
 -- REF, then the ALTs.
 use borrow.Author.Needs.{needs}
 use mathlib.Core.Path.{_∙_}
-use Rattle.merged_records.proofs.Records.{as-merged, covering-some, found-sites-sound, letter-answered, record-found, ref-refused, site-answered}
+use Rattle.merged_records.proofs.Records.{allele-answered, as-merged, covering-some, found-sites-sound, letter-answered, record-found, ref-refused}
 use Rattle.merged_records.specs.Found.{RecordFound}
 use Rattle.merged_ref.specs.Answers.{refAnswer}
 use Rattle.merged_records.proofs.record_over.Statement.{statement}
@@ -19,7 +19,7 @@ enum-told c = search needs
 alts-at-requires : tie.Need-alts-at-requires
 alts-at-requires c κs = let over = (c .before .before .before .before .before .before .before .before .before .before .pre .1) in
     let m = as-merged (over .on) _ _ (over .numbers) (c .before .before .before .determine-reference-allele .ensures) in
-    ((c .before .before .before .before .before .before .before .before .before .before .pre .0), found-sites-sound (over .on) _ _ (over .numbers) _ (over .some-site) (m ∙ site-answered _ _ _ _ _ ((c .before .enum-told .given .1))))
+    ((c .before .before .before .before .before .before .before .before .before .before .pre .0), found-sites-sound (over .on) _ _ (over .numbers) _ (m ∙ allele-answered _ _ _ _ _ ((c .before .enum-told .given .1))))
 
 enum-told-2 : tie.Need-enum-told-2
 enum-told-2 c = search needs
@@ -27,7 +27,7 @@ enum-told-2 c = search needs
 alts-at-requires-2 : tie.Need-alts-at-requires-2
 alts-at-requires-2 c κs = let over = (c .before .before .before .before .before .before .before .before .before .before .pre .1) in
     let m = as-merged (over .on) _ _ (over .numbers) (c .before .before .before .determine-reference-allele .ensures) in
-    ((c .before .before .before .before .before .before .before .before .before .before .pre .0), found-sites-sound (over .on) _ _ (over .numbers) _ (over .some-site) (m ∙ letter-answered _ _ _ _ _ ((c .before .enum-told2 .given .1))))
+    ((c .before .before .before .before .before .before .before .before .before .before .pre .0), found-sites-sound (over .on) _ _ (over .numbers) _ (m ∙ letter-answered _ _ _ _ ((c .before .enum-told2 .given .1))))
 
 returns : tie.Need-returns
 unfolding RecordFound refAnswer
@@ -39,14 +39,14 @@ same-length c = search needs
 
 returns-2 : tie.Need-returns-2
 returns-2 c = λ over. let m = as-merged (over .on) _ _ (over .numbers) (c .before .before .before .before .before .before .determine-reference-allele .ensures) in
-    record-found (over .on) _ _ (over .numbers) _ (over .some-site) (m ∙ site-answered _ _ _ _ _ ((c .before .before .before .before .enum-told .given .1))) _ _ ((c .before .before .alts-at .ensures))
+    record-found (over .on) _ _ (over .numbers) _ (m ∙ allele-answered _ _ _ _ _ ((c .before .before .before .before .enum-told .given .1))) (over .some-site) _ _ ((c .before .before .alts-at .ensures))
 
 same-length-2 : tie.Need-same-length-2
 same-length-2 c = search needs
 
 returns-3 : tie.Need-returns-3
 returns-3 c = λ over. let m = as-merged (over .on) _ _ (over .numbers) (c .before .before .before .before .before .before .determine-reference-allele .ensures) in
-    record-found (over .on) _ _ (over .numbers) _ (over .some-site) (m ∙ letter-answered _ _ _ _ _ ((c .before .before .before .before .enum-told2 .given .1))) _ _ ((c .before .before .alts-at2 .ensures))
+    record-found (over .on) _ _ (over .numbers) _ (m ∙ letter-answered _ _ _ _ ((c .before .before .before .before .enum-told2 .given .1))) (over .some-site) _ _ ((c .before .before .alts-at2 .ensures))
 
 pub record-over-spec : {M : Type 1} → statement M
 record-over-spec =

@@ -13,11 +13,14 @@ one-at-requires c κs = search needs
 enum-known-place-2 : tie.Need-enum-known-place-2
 enum-known-place-2 c = search needs
 
-reference-allele-requires : tie.Need-reference-allele-requires
-reference-allele-requires c κs = search needs
-
 one-at-requires-2 : tie.Need-one-at-requires-2
 one-at-requires-2 c κs = search needs
+
+enum-told : tie.Need-enum-told
+enum-told c = search needs
+
+slice-aggregate-result : tie.Need-slice-aggregate-result
+slice-aggregate-result c = search needs
 
 returns : tie.Need-returns
 unfolding letterBytes
@@ -25,7 +28,11 @@ returns c = rw ((c .before .before .place .given .1)) ((c .one-at .ensures))
 
 returns-2 : tie.Need-returns-2
 unfolding letterBytes
-returns-2 c = rw ((c .before .before .before .place2 .given .1), ← (c .before .reference-allele .ensures)) ((c .one-at2 .ensures))
+returns-2 c = rw ((c .before .before .place2 .given .1)) ((c .one-at2 .ensures))
+
+returns-3 : tie.Need-returns-3
+unfolding letterBytes
+returns-3 c = rw ((c .before .enum-told .given .1))
 
 pub letter-spec : {M : Type 1} → statement M
 letter-spec =
@@ -34,7 +41,9 @@ letter-spec =
     enum-known-place
     one-at-requires
     enum-known-place-2
-    reference-allele-requires
     one-at-requires-2
+    enum-told
+    slice-aggregate-result
     returns
-    returns-2)
+    returns-2
+    returns-3)

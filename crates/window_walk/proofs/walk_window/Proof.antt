@@ -24,7 +24,7 @@ record Inv (s rows : List ℕ) (samples : ℕ) (clipped referenced : Bool)
   alts-long : length alts ≡ length alts₀
   out-long : length out ≡ length out₀
   way : (ready : WindowReady s rows samples clipped referenced reference contig chosen from₀ bounds places (along₀ .past) held₀ fresh₀ found₀ owners₀ alts₀)
-      (way : Carrying (ready .runs .on .loaded .input) s rows samples reference contig held₀ out₀ along₀)
+      (way : Carrying (ready .runs .on .loaded .input) samples contig held₀ out₀ along₀)
       → Through ready way from held out along k
 
 module _ {s rows : List ℕ} {samples : ℕ} {clipped referenced : Bool}

@@ -35,7 +35,7 @@ record Inv (s rows : List ℕ) (samples : ℕ) (clipped : Bool) (clip : List ℕ
   ended : Ended rows chosen bounds from samples (along .past)
   none-past : more ≡ false → filterBy (ltb (along .past)) (allBreakpoints rows (numbersIn samples chosen bounds) (spansOf clip contig)) ≡ []
   way : (ready : WindowsReady s rows samples clipped clip referenced reference contig chosen bounds) (begun : Begun out₀ at count)
-      → Carried (ready .runs .on .loaded .input) s rows samples reference contig (begun .d₀) (begun .bytes) (begun .records) held out along
+      → Carried (ready .runs .on .loaded .input) samples contig (begun .d₀) (begun .bytes) (begun .records) held out along
 
 module _ {s rows : List ℕ} {samples : ℕ} {clipped : Bool} {clip : List ℕ} {referenced : Bool}
     {reference contig chosen bounds scratch₀ held₀ fresh₀ alts₀ out₀ : List ℕ}
@@ -54,7 +54,7 @@ module _ {s rows : List ℕ} {samples : ℕ} {clipped : Bool} {clip : List ℕ} 
   }
 
   abbrev carrying : (ready : WindowsReady s rows samples clipped clip referenced reference contig chosen bounds) → Begun out₀ at count
-      → Carrying (ready .runs .on .loaded .input) s rows samples reference contig held out along
+      → Carrying (ready .runs .on .loaded .input) samples contig held out along
   carrying ready begun = record { d₀ = begun .d₀; bytes = begun .bytes; records = begun .records; carried = inv .way ready begun }
 
 abbrev Inv-loop : tie.InvT-loop
@@ -291,7 +291,7 @@ same-length-10 : tie.Need-same-length-10 Inv-loop μ-loop
 same-length-10 c =
     let at-put-pending = c .before .before .before .before in
     let at-loop = at-put-pending .before .before .before .before .before in
-    at-put-pending .put-pending .kept .1 .1 .1 .1 .1 .1 .0 ∙ at-loop .loop .inv .out-long
+    at-put-pending .put-pending .kept .1 .1 .1 .0 ∙ at-loop .loop .inv .out-long
 
 returns-2 : tie.Need-returns-2 Inv-loop μ-loop
 returns-2 c =
