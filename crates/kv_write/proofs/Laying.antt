@@ -68,6 +68,10 @@ laid-start {d} {bytes} {part} {at} l h p =
           ∙ ap (sets d at) all;
     }
 
+-- the offset behind the bytes said another way
+pub laid-recast : {d d′ bytes : List ℕ} {at r r′ : ℕ} → r ≡ r′ → Laid d at bytes d′ r → Laid d at bytes d′ r′
+laid-recast e p = record { next = sym e ∙ p .next; laid = p .laid }
+
 -- bytes are laid, and then bytes behind them
 pub laid-append : {d d′ d″ xs ys : List ℕ} {at at′ at″ : ℕ}
     → Laid d at xs d′ at′ → Laid d′ at′ ys d″ at″ → Laid d at (xs ++ ys) d″ at″
