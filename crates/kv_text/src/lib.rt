@@ -315,7 +315,8 @@ fn same_letter(a: u8, b: u8) -> bool
     if a == b {
         return true;
     }
-    capital(a) == capital(b)
+    let raised = capital(a);
+    raised == capital(b)
 }
 
 // The same letters in either case: as many, and each with the same capital.
