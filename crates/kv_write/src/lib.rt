@@ -71,7 +71,7 @@ fn copy_letters(to: &mut [u8], bytes: &[u8])
 
 // Lays the bytes of alleles, their letters as capitals.
 pub fn put_letters(out: &mut [u8], at: usize, bytes: &[u8]) -> usize
-    requires { ⌜ at + length (now bytes) < 2 ^ 64 ⌝ }
+    requires { ⌜ at + length (map capital (now bytes)) < 2 ^ 64 ⌝ }
     ensures { λ r. ⌜ Laid (now (out .entry)) at (map capital (now (bytes .entry))) (now (out .exit)) r ⌝ }
 {
     let end = at + bytes.len();

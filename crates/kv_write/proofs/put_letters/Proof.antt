@@ -2,13 +2,13 @@
 use borrow.Author.Needs.{needs}
 use lib.ListN.{length-drop, length-map, length-take}
 use native.Mathlib.Omega.{arith}
-use Rattle.laws.proofs.Members.{take-map}
-use Rattle.kv_write.proofs.Laying.{laid-past, laid-recast, laid-start, laid-whole}
+use Rattle.definitions.specs.Alleles.{capital}
+use Rattle.kv_write.proofs.Laying.{laid-past, laid-start-map, laid-whole}
 use Rattle.kv_write.proofs.put_letters.Statement.{statement}
 use Rattle.kv_write.proofs.put_letters.Tie as tie
 
 add-end : tie.Need-add-end
-add-end c = search needs
+add-end c = let h = simp length-map at (c .before .before .pre) in omega (arith, h)
 
 returns : tie.Need-returns
 returns c = laid-past (simp length-map) (c .if1 .taken)
@@ -53,7 +53,7 @@ same-length-2 : tie.Need-same-length-2
 same-length-2 c = search needs
 
 returns-3 : tie.Need-returns-3
-returns-3 c = laid-recast (simp length-map) (laid-start (omega arith) (simp length-map (omega arith)) (simp take-map (c .before .before .copy-letters2 .ensures)))
+returns-3 c = laid-start-map capital (c .before .before .before .before .before .before .before .before .before .args .bytes .now) (omega arith) (omega arith) (c .before .before .copy-letters2 .ensures)
 
 pub put-letters-spec : {M : Type 1} → statement M
 put-letters-spec =
