@@ -42,7 +42,7 @@ no-small b n =
     )
 
 sub-result : tie.Need-sub-result
-sub-result c = high _ (c .match .keys1)
+sub-result c = omega (arith, high _ (c .match .keys1))
 
 returns : tie.Need-returns
 returns c = raised _ (c .match .keys1)
