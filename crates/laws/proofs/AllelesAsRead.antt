@@ -21,12 +21,12 @@ use Rattle.laws.proofs.ValuesReadBack.{allele-read}
 -- ---- a field
 
 -- the allele that a field reads as, if it is one
-abbrev pub alleleAsRead : List ℕ → Allele
+unfoldable pub alleleAsRead : List ℕ → Allele
 alleleAsRead f = cond (sameBytes f (spelled spanDel)) spanDel (cond (sameBytes f (spelled nonRef)) nonRef (letters (map capital f)))
 
 -- it is spelled in capitals; `*` and `<NON_REF>` have no small letters
 pub as-read-spelled : (f : List ℕ) → spelled (alleleAsRead f) ≡ map capital f
-unfolding spelled text capital anyOf
+unfolding alleleAsRead spelled text capital anyOf
 as-read-spelled f = go (sameBytes f (spelled spanDel)) refl (sameBytes f (spelled nonRef)) refl
   where
     go : (a : Bool) → sameBytes f (spelled spanDel) ≡ a → (b : Bool) → sameBytes f (spelled nonRef) ≡ b
@@ -37,7 +37,7 @@ as-read-spelled f = go (sameBytes f (spelled spanDel)) refl (sameBytes f (spelle
 
 -- beside `*` and `<NON_REF>`, each of which has one spelling
 pub span-del-as-read : (f : List ℕ) → sameAllele spanDel (alleleAsRead f) ≡ sameBytes f (spelled spanDel)
-unfolding sameAllele
+unfolding alleleAsRead sameAllele
 span-del-as-read f = go (sameBytes f (spelled spanDel)) (sameBytes f (spelled nonRef))
   where
     go : (a b : Bool) → sameAllele spanDel (cond a spanDel (cond b nonRef (letters (map capital f)))) ≡ a
@@ -46,7 +46,7 @@ span-del-as-read f = go (sameBytes f (spelled spanDel)) (sameBytes f (spelled no
     go false false = refl
 
 pub non-ref-as-read : (f : List ℕ) → sameAllele nonRef (alleleAsRead f) ≡ sameBytes f (spelled nonRef)
-unfolding sameAllele spelled text sameBytes compareBytes andThen
+unfolding alleleAsRead sameAllele spelled text sameBytes compareBytes andThen
 non-ref-as-read f = go (sameBytes f (spelled spanDel)) refl (sameBytes f (spelled nonRef)) refl
   where
     go : (a : Bool) → sameBytes f (spelled spanDel) ≡ a → (b : Bool) → sameBytes f (spelled nonRef) ≡ b
@@ -58,7 +58,7 @@ non-ref-as-read f = go (sameBytes f (spelled spanDel)) refl (sameBytes f (spelle
 module _ (most : ℕ) where
   -- a field that is an ALT
   pub allele-as-read : (f : List ℕ) → isThere (alleleOf most f) ≡ true → alleleOf most f ≡ some (alleleAsRead f)
-  unfolding alleleOf lettersOf onlyIf isThere
+  unfolding alleleAsRead alleleOf lettersOf onlyIf isThere
   allele-as-read f h =
       go (sameBytes f (spelled spanDel)) (sameBytes f (spelled nonRef))
       (leb 1 (length (map capital f)) && leb (length (map capital f)) most && allOf isLetter (map capital f)) h
@@ -77,7 +77,7 @@ module _ (most : ℕ) where
 
   -- letters read as their capitals: they are no `*` and no `<NON_REF>`
   pub letters-as-read : (f : List ℕ) → isThere (lettersOf most f) ≡ true → alleleAsRead f ≡ letters (map capital f)
-  unfolding spelled text capital isLetter anyOf allOf
+  unfolding alleleAsRead spelled text capital isLetter anyOf allOf
   letters-as-read f h =
       let all = letters-sound most f (map capital f) (letters-raised most f h) .all-letters in
       rw (
@@ -165,7 +165,7 @@ written-as-read s =
 -- ---- REF and the ALTs
 
 -- REF and the ALTs that these fields read as
-abbrev pub refAltsAsRead : List ℕ → List (List ℕ) → RefAlts
+unfoldable pub refAltsAsRead : List ℕ → List (List ℕ) → RefAlts
 refAltsAsRead ref alts = record { ref = map capital ref; alts = map alleleAsRead alts }
 
 -- no two of REF and the ALTs have the same letters
@@ -190,7 +190,7 @@ module _ (most count : ℕ) (ref : List ℕ) (alts : List (List ℕ)) where
       (leb (suc (length alts)) count
       && (isThere (lettersOf most ref) && (allOf (λ f. isThere (alleleOf most f)) alts && noneTwice ref alts)))
       (refAltsAsRead ref alts)
-  unfolding refAltsFrom bind checkedAlleles allelesOf onlyIf
+  unfolding refAltsAsRead refAltsFrom bind checkedAlleles allelesOf onlyIf
   ref-alts-as-read = go (isThere (lettersOf most ref)) refl (allOf (λ f. isThere (alleleOf most f)) alts) refl
     where
       go : (a : Bool) → isThere (lettersOf most ref) ≡ a → (b : Bool) → allOf (λ f. isThere (alleleOf most f)) alts ≡ b
