@@ -15,7 +15,7 @@ import model
 MOST, MISSING = 2147483647, 4294967295
 INPUT_ROOM, TEXT_ROOM = 131072, 300000  # what the program has room for
 KEYS = ("site", "contig", "start", "end", "ref", "alt", "gq", "dp", "ad", "pl")
-LETTERS = re.compile(rb"[ACGTN]{1,128}")
+LETTERS = re.compile(rb"[ACGTNacgtn]{1,128}")
 
 
 # ---- the rules
@@ -57,9 +57,14 @@ class Lines:
         return self.text[begin:end], begin
 
 
+def as_read(allele):
+    """Letters of either case have one meaning (document 02, Note 6); `<NON_REF>` has one spelling."""
+    return allele.upper() if LETTERS.fullmatch(allele) else allele
+
+
 def alleles_fault(ref, alts):
     spelled = all(a in (b"*", b"<NON_REF>") or LETTERS.fullmatch(a) for a in alts)
-    alike = len(set(alts + [ref])) <= len(alts)
+    alike = len(set(map(as_read, alts + [ref]))) <= len(alts)
     return not LETTERS.fullmatch(ref) or not spelled or len(alts) > 7 or alike
 
 
@@ -301,18 +306,24 @@ def allele_cases():
     sites("alt-128-letters", None, SNP, alt=long + ",<NON_REF>")
     sites("alt-129-letters", 5, SNP, alt=long + "T,<NON_REF>")
     for title, value in (
-        ("empty", ""), ("missing", "."), ("small-letter", "a"), ("other-letter", "R"), ("star", "*"), ("non-ref", "<NON_REF>"),
+        ("empty", ""), ("missing", "."), ("small-other-letter", "r"), ("other-letter", "R"), ("star", "*"), ("non-ref", "<NON_REF>"),
         ("two-equals", "A=C"), ("comma", "A,C"), ("cr", "A\r"), ("space", " A"),
     ):
         sites(f"ref-{title}", 5, ref=value)
     for title, value in (
-        ("empty", ""), ("missing", "."), ("cr", "<NON_REF>\r"), ("small-letter", "g,<NON_REF>"), ("other-symbol", "<DEL>,<NON_REF>"),
-        ("small-non-ref", "<non_ref>"), ("nothing-between-commas", "G,,<NON_REF>"), ("comma-behind", "G,<NON_REF>,"),
+        ("empty", ""), ("missing", "."), ("cr", "<NON_REF>\r"), ("small-other-letter", "r,<NON_REF>"), ("other-symbol", "<DEL>,<NON_REF>"),
+        ("small-non-ref", "<non_ref>"), ("non-ref-with-a-small-letter", "<nON_REF>"),
+        ("nothing-between-commas", "G,,<NON_REF>"), ("comma-behind", "G,<NON_REF>,"),
         ("comma-before", ",<NON_REF>"), ("space", "G, <NON_REF>"), ("equals", "G=T,<NON_REF>"), ("letter-and-star", "G*,<NON_REF>"),
         ("twice", "G,G,<NON_REF>"), ("twice-apart", "G,<NON_REF>,G"), ("star-twice", "*,*,<NON_REF>"), ("non-ref-twice", "<NON_REF>,<NON_REF>"),
-        ("is-ref", "A,<NON_REF>"), ("twice-without-non-ref", "G,G"),
+        ("is-ref", "A,<NON_REF>"), ("is-ref-in-lower-case", "a,<NON_REF>"), ("twice-in-either-case", "G,g,<NON_REF>"),
+        ("twice-without-non-ref", "G,G"),
     ):
         sites(f"alt-{title}", 5, SNP, alt=value, pl=".", ad=".")
+    sites("ref-small-letter", None, ref="a")
+    sites("ref-of-either-case", None, SNP, ref="aC", end=11)
+    sites("alt-small-letter", None, SNP, alt="g,<NON_REF>", pl=".", ad=".")
+    sites("alt-small-letters", None, SNP, alt=long.lower() + ",<NON_REF>")
     sites("alt-star", None, SNP, alt="*,<NON_REF>")
     sites("alt-non-ref-first", None, SNP, alt="<NON_REF>,G")
     sites("alt-non-ref-between", None, SNP, alt="G,<NON_REF>,T", pl=pl(10))
@@ -356,9 +367,9 @@ def order_cases():
     sites("in-group-1-and-4-to-8", 1, start=0, ref="r", alt="G", dp="09", pl="0")
     sites("in-group-3-and-4", 3, site=2, start=0)
     sites("in-group-3-and-8", 3, site=2, pl="0")
-    sites("in-group-4-and-5", 4, end=9, ref="a")
+    sites("in-group-4-and-5", 4, end=9, ref="R")
     sites("in-group-4-and-7", 4, SNP, end=9)
-    sites("in-group-5-and-6", 5, alt="g")
+    sites("in-group-5-and-6", 5, alt="R")
     sites("in-group-5-and-7", 5, SNP, ref="AR")
     sites("in-group-5-and-8", 5, alt="A,<NON_REF>")
     sites("in-group-6-and-7", 6, SNP, alt="G", end=12)
@@ -367,7 +378,7 @@ def order_cases():
     sites("in-group-8-twice", 8, pl="0", ad="1,2,3")
     case("groups-8-then-1", 8, TWO + site(pl="0") + site(gq=""))
     case("groups-7-then-3", 7, TWO + site(SNP, end=12) + site(site=2))
-    case("groups-5-then-5-then-2-lines", 5, TWO + site(ref="a") + site(alt="g") + "site=0\nstart=1\n")
+    case("groups-5-then-5-then-2-lines", 5, TWO + site(ref="R") + site(alt="R") + "site=0\nstart=1\n")
     case("groups-right-then-3-then-1", 3, TWO + site() + site(site=2) + site(gq=""))
     case("groups-right-right-then-4", 4, TWO + site() + site(SNP) + site(end=9))
     case("header-3-then-site-1", 3, header("S0", "S0") + site(gq=""))

@@ -11,19 +11,23 @@ use Rattle.definitions.specs.Lists.{numbersFrom, onlyIf}
 use Rattle.definitions.specs.MergedAlleles.{extendedAllele, isAllele, spanningReading}
 use Rattle.laws.proofs.AllelesAsRead.{alleleAsRead}
 
+-- letters in either case as capitals
+abbrev pub capitals : List ℕ → List ℕ
+capitals = map capital
+
 -- the alleles that a text with commas spells
 abbrev pub allelesIn : List ℕ → List Allele
 allelesIn alts = map alleleAsRead (fieldsOf comma alts)
 
 -- REF of a site that starts at the position, or that starts earlier
 unfoldable pub refReading : Bool → List ℕ → List ℕ → Option Allele
-refReading starts ref ownRef = onlyIf starts (extendedAllele (map capital ref) (map capital ownRef) (letters (map capital ownRef)))
+refReading starts ref ownRef = onlyIf starts (extendedAllele (capitals ref) (capitals ownRef) (letters (capitals ownRef)))
 
 -- an ALT of such a site
 unfoldable pub altReading : Bool → List ℕ → List ℕ → List ℕ → Option Allele
 altReading starts ref ownRef alt =
-    cond starts (some (extendedAllele (map capital ref) (map capital ownRef) (alleleAsRead alt)))
-    (spanningReading (map capital ownRef) (alleleAsRead alt))
+    cond starts (some (extendedAllele (capitals ref) (capitals ownRef) (alleleAsRead alt)))
+    (spanningReading (capitals ownRef) (alleleAsRead alt))
 
 -- its alleles by their numbers: `remappedAlleles` of the site (`site-readings` of proofs/Readings.antt)
 unfoldable pub readings : Bool → List ℕ → List ℕ → List ℕ → List (Option Allele)

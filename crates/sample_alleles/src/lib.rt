@@ -5,18 +5,18 @@
 // The site's own alleles are gone through once: what each reads as gets its number, the last of them first, so that the first stays.
 // Numbers are bytes: alleles past number 255 are not looked at. A site with at most 255 ALTs has none (`few-alleles`, proofs/Readings.antt).
 ghost use mathlib.Core.Bool.{_&&_, cond};
-ghost use mathlib.Core.List.{_++_, map};
+ghost use mathlib.Core.List.{_++_};
 ghost use mathlib.Core.Path.{_≡_};
 ghost use Prim.Native.Nat.{_*_, _+_, _<_, _≤_};
 ghost use lib.Dec.{eqb, ltb};
 ghost use lib.ListN.{drop, length, set, take};
 ghost use lib.Seq.{sets};
-ghost use Rattle.definitions.specs.Alleles.{capital, letters, sameAllele};
+ghost use Rattle.definitions.specs.Alleles.{letters, sameAllele};
 ghost use Rattle.definitions.specs.Bytes.{comma, fieldsOf, sameBytes, text};
 ghost use Rattle.definitions.specs.MergedAlleles.{isAllele, perSampleMap, remappedAlleles};
 ghost use Rattle.laws.proofs.AllelesAsRead.{alleleAsRead};
 ghost use Rattle.tables.specs.Tables.{nameAt, siteAt};
-ghost use Rattle.sample_alleles.specs.Readings.{allelesIn, altNumber, eachOf, putWhere, readings, readsAs, refReading};
+ghost use Rattle.sample_alleles.specs.Readings.{allelesIn, altNumber, capitals, eachOf, putWhere, readings, readsAs, refReading};
 ghost use Rattle.sample_alleles.specs.Fields.{AltsAt, AltsSplit};
 use bio_ids::AlleleIndex;
 use bio_ids::GenomePosition;
@@ -54,7 +54,7 @@ fn alt_at<'a>(alts: &'a [u8], fields: &[usize], i: usize) -> &'a [u8]
 
 // Whether an allele is these letters, extended by a tail, in either case. Most are of another length.
 fn is_extended(allele: &[u8], bases: &[u8], tail: &[u8]) -> bool
-    ensures { λ r. ⌜ r ≡ sameAllele (alleleAsRead (now (allele .entry))) (letters (map capital (now (bases .entry) ++ now (tail .entry)))) ⌝ }
+    ensures { λ r. ⌜ r ≡ sameAllele (alleleAsRead (now (allele .entry))) (letters (capitals (now (bases .entry) ++ now (tail .entry)))) ⌝ }
 {
     let n = bases.len();
     if allele.len() < n {
@@ -130,7 +130,7 @@ fn put_extended(
 )
     requires { ⌜ 2 * count ≤ length (now fields) ⌝ }
     ensures { λ _. ⌜ now (map .exit) ≡ putWhere
-        (λ i. sameAllele (alleleAsRead (nameAt (now (alts .entry)) (now (fields .entry)) i)) (letters (map capital (now (bases .entry) ++ now (tail .entry)))))
+        (λ i. sameAllele (alleleAsRead (nameAt (now (alts .entry)) (now (fields .entry)) i)) (letters (capitals (now (bases .entry) ++ now (tail .entry)))))
         (index .0) 0 count (now (map .entry)) ⌝ }
 {
     for i in 0..count {
@@ -343,7 +343,7 @@ pub fn indexes_of_relevant_alleles_for_gvcf(
     requires { ⌜ AltsAt (now alts) (now fields) count ⌝ }
     ensures count { λ r. ⌜ r ≡ 1 + length (fieldsOf comma (now (alts .entry))) ⌝ }
     ensures values { λ r. ⌜ now (map .exit) ≡ sets (now (map .entry)) 0 (perSampleMap
-        (take 256 (remappedAlleles (map capital (now (reference .entry))) (position .0) (siteAt (now (s .entry)) (now (rows .entry)) site)))
+        (take 256 (remappedAlleles (capitals (now (reference .entry))) (position .0) (siteAt (now (s .entry)) (now (rows .entry)) site)))
         (allelesIn (now (alts .entry)))) ⌝ }
 {
     let own = tables::reference_allele(s, rows, site);
