@@ -182,7 +182,8 @@ pub fn check_others() -> Result<String, String> {
             looks_of(&mut library, case, &lent).map_err(|e| format!("{}: {e}", case.shows))?;
         }
     }
-    Ok(format!("{} calls and {} lists, each in three spellings, and alleles: no difference\n", CASES.len(), lists(&mut library)? + trimmed()?))
+    let (lists, alleles) = (lists(&mut library)?, trimmed()?);
+    Ok(format!("{} calls' looks, each in three spellings, {lists} combined lists, {alleles} lists of alleles: no difference\n", CASES.len()))
 }
 
 fn looks_of(library: &mut Library, case: &Case, lent: &Lent) -> Result<(), String> {
