@@ -57,9 +57,14 @@ class Lines:
         return self.text[begin:end], begin
 
 
+def as_read(allele):
+    """Letters of either case have one meaning (document 02, Note 6); `<NON_REF>` has one spelling."""
+    return allele.upper() if re.fullmatch(rb"[ACGTNacgtn]+", allele) else allele
+
+
 def alike(ref, alts):
-    """Whether an allele stands twice, in whatever case: of spellings that are right only letters have small ones."""
-    return len({a.upper() for a in alts + [ref]}) <= len(alts)
+    """Whether an allele stands twice, in whatever case."""
+    return len(set(map(as_read, alts + [ref]))) <= len(alts)
 
 
 def alleles_fault(ref, alts):
@@ -305,18 +310,24 @@ def allele_cases():
     sites("alt-128-letters", None, SNP, alt=long + ",<NON_REF>")
     sites("alt-129-letters", 5, SNP, alt=long + "T,<NON_REF>")
     for title, value in (
-        ("empty", ""), ("missing", "."), ("other-letter", "R"), ("other-small-letter", "r"), ("star", "*"), ("non-ref", "<NON_REF>"),
-        ("two-equals", "A=C"), ("comma", "A,C"), ("cr", "A\r"), ("space", " A"), ("past-t", "u"), ("before-a", "`"), ("past-n", "o"),
+        ("empty", ""), ("missing", "."), ("small-other-letter", "r"), ("other-letter", "R"), ("star", "*"), ("non-ref", "<NON_REF>"),
+        ("two-equals", "A=C"), ("comma", "A,C"), ("cr", "A\r"), ("space", " A"),
     ):
         sites(f"ref-{title}", 5, ref=value)
     for title, value in (
-        ("empty", ""), ("missing", "."), ("cr", "<NON_REF>\r"), ("other-small-letter", "gx,<NON_REF>"), ("other-symbol", "<DEL>,<NON_REF>"),
-        ("small-non-ref", "<non_ref>"), ("nothing-between-commas", "G,,<NON_REF>"), ("comma-behind", "G,<NON_REF>,"),
+        ("empty", ""), ("missing", "."), ("cr", "<NON_REF>\r"), ("small-other-letter", "r,<NON_REF>"), ("other-symbol", "<DEL>,<NON_REF>"),
+        ("small-non-ref", "<non_ref>"), ("non-ref-with-a-small-letter", "<nON_REF>"),
+        ("nothing-between-commas", "G,,<NON_REF>"), ("comma-behind", "G,<NON_REF>,"),
         ("comma-before", ",<NON_REF>"), ("space", "G, <NON_REF>"), ("equals", "G=T,<NON_REF>"), ("letter-and-star", "G*,<NON_REF>"),
         ("twice", "G,G,<NON_REF>"), ("twice-apart", "G,<NON_REF>,G"), ("star-twice", "*,*,<NON_REF>"), ("non-ref-twice", "<NON_REF>,<NON_REF>"),
-        ("is-ref", "A,<NON_REF>"), ("twice-without-non-ref", "G,G"),
+        ("is-ref", "A,<NON_REF>"), ("is-ref-in-lower-case", "a,<NON_REF>"), ("twice-in-either-case", "G,g,<NON_REF>"),
+        ("twice-without-non-ref", "G,G"),
     ):
         sites(f"alt-{title}", 5, SNP, alt=value, pl=".", ad=".")
+    sites("ref-small-letter", None, ref="a")
+    sites("ref-of-either-case", None, SNP, ref="aC", end=11)
+    sites("alt-small-letter", None, SNP, alt="g,<NON_REF>", pl=".", ad=".")
+    sites("alt-small-letters", None, SNP, alt=long.lower() + ",<NON_REF>")
     sites("alt-star", None, SNP, alt="*,<NON_REF>")
     sites("alt-non-ref-first", None, SNP, alt="<NON_REF>,G")
     sites("alt-non-ref-between", None, SNP, alt="G,<NON_REF>,T", pl=pl(10))
@@ -330,17 +341,17 @@ def allele_cases():
 def spelling_cases():
     """Letters of either case are the same letters; `<NON_REF>` has one spelling, and so have names."""
     long = "acgtn" * 25 + "ACg"
-    for letter in "acgtn":
+    for letter in "cgtn":
         sites(f"small-ref-{letter}", None, ref=letter)
-    sites("small-alt", None, SNP, alt="g,<NON_REF>")
+    for title, letter in (("past-t", "u"), ("before-a", "`"), ("past-n", "o")):
+        sites(f"ref-{title}", 5, ref=letter)
     sites("small-ref-and-alts", None, SNP, ref="acGTn", end=14, alt="ACgt,*,aCgtnA,<NON_REF>", ad=pl(5), pl=pl(15))
     sites("small-128-letters", None, SNP, ref=long, end=137)
     sites("small-129-letters", 5, SNP, ref=long + "t", end=138)
     sites("small-alt-129-letters", 5, SNP, alt=long + "t,<NON_REF>")
     for title, value in (
-        ("twice", "G,g,<NON_REF>"), ("twice-apart", "g,T,<NON_REF>,G"), ("twice-in-a-long-one", "GattaCA,T,gAttaca,<NON_REF>"),
-        ("is-ref", "a,<NON_REF>"), ("non-ref-n", "<nON_REF>"), ("non-ref-second-n", "g,<NOn_REF>"), ("non-ref-beside", "<NOn_REF>,<NON_REF>"),
-        ("non-ref-in-small", "g,<non_ref>"), ("non-ref-and-repeat", "G,g"),
+        ("twice-apart", "g,T,<NON_REF>,G"), ("twice-in-a-long-one", "GattaCA,T,gAttaca,<NON_REF>"), ("non-ref-second-n", "g,<NOn_REF>"),
+        ("non-ref-beside", "<NOn_REF>,<NON_REF>"), ("non-ref-in-small", "g,<non_ref>"), ("twice-without-non-ref", "G,g"),
     ):
         sites(f"small-alt-{title}", 5, SNP, alt=value, pl=".", ad=".")
     sites("small-ref-is-alt", 5, SNP, ref="a", alt="A,<NON_REF>")
@@ -389,7 +400,7 @@ def order_cases():
     sites("in-group-3-and-8", 3, site=2, pl="0")
     sites("in-group-4-and-5", 4, end=9, ref="R")
     sites("in-group-4-and-7", 4, SNP, end=9)
-    sites("in-group-5-and-6", 5, alt="g,G")
+    sites("in-group-5-and-6", 5, alt="R")
     sites("in-group-5-and-7", 5, SNP, ref="AR")
     sites("in-group-5-and-8", 5, alt="A,<NON_REF>")
     sites("in-group-6-and-7", 6, SNP, alt="G", end=12)
@@ -398,7 +409,7 @@ def order_cases():
     sites("in-group-8-twice", 8, pl="0", ad="1,2,3")
     case("groups-8-then-1", 8, TWO + site(pl="0") + site(gq=""))
     case("groups-7-then-3", 7, TWO + site(SNP, end=12) + site(site=2))
-    case("groups-5-then-5-then-2-lines", 5, TWO + site(ref="R") + site(alt="a") + "site=0\nstart=1\n")
+    case("groups-5-then-5-then-2-lines", 5, TWO + site(ref="R") + site(alt="R") + "site=0\nstart=1\n")
     case("groups-right-then-3-then-1", 3, TWO + site() + site(site=2) + site(gq=""))
     case("groups-right-right-then-4", 4, TWO + site() + site(SNP) + site(end=9))
     case("header-3-then-site-1", 3, header("S0", "S0") + site(gq=""))
