@@ -14,6 +14,7 @@ from pathlib import Path
 
 NON_REF, SPAN_DEL = "<NON_REF>", "*"
 SITE_KEYS = 10
+CAPITALS = str.maketrans("acgtn", "ACGTN")
 SAMPLE_KEYS = ("gt", "gq", "dp", "ad", "pl")
 
 
@@ -42,6 +43,15 @@ def place(j, k):
     return k * (k + 1) // 2 + j
 
 
+def read_allele(spelling):
+    """An allele as read: letters as capitals; `<NON_REF>` and `*` have one spelling."""
+    return spelling if spelling in (NON_REF, SPAN_DEL) else spelling.translate(CAPITALS)
+
+
+def read_alleles(spellings):
+    return [read_allele(a) for a in spellings.split(",")]
+
+
 # The combined list.
 
 
@@ -49,7 +59,7 @@ class Site:
     def __init__(self, group):
         self.sample, self.contig = int(group["site"]), group["contig"]
         self.start, self.end = int(group["start"]), int(group["end"])
-        self.alleles = [group["ref"]] + group["alt"].split(",")
+        self.alleles = [read_allele(group["ref"])] + read_alleles(group["alt"])
         self.gq, self.dp = group["gq"], group["dp"]
         self.ad, self.pl = numbers(group["ad"]), numbers(group["pl"])
         self.block = self.alleles[1:] == [NON_REF]
@@ -107,7 +117,7 @@ def ref_of(taken, start, reference):
     for g in reference:  # the first group in the file that holds the position
         offset = start - int(g["first"])
         if 0 <= offset < len(g["bases"]):
-            return g["bases"][offset]
+            return g["bases"][offset].translate(CAPITALS)
     raise ValueError("refusal 11")
 
 
@@ -226,13 +236,13 @@ def gq_of(pl):
 
 def called_record(group, samples):
     contig, pos, _, ref, alt = [value for _, value in group[:5]]
-    alleles = [ref] + alt.split(",")
+    alleles = [read_allele(ref)] + read_alleles(alt)
     non_ref = alleles.index(NON_REF)
     keep = [a for a in range(len(alleles)) if a != non_ref]
     values = [dict(group[5 + 5 * i : 10 + 5 * i]) for i in range(samples)]
     if len(keep) < 2 or all(v["pl"] == "." for v in values):
         return None
-    out = f"contig={contig}\npos={pos}\nref={ref}\nalt={commas([alleles[a] for a in keep[1:]])}\n"
+    out = f"contig={contig}\npos={pos}\nref={alleles[0]}\nalt={commas([alleles[a] for a in keep[1:]])}\n"
     for v in values:
         pl, ad = numbers(v["pl"]), numbers(v["ad"])
         pl = None if pl is None else dropped_pl(pl, keep, non_ref)
@@ -259,7 +269,7 @@ def floats(value):
 
 
 def trim(g):
-    alleles = g["alleles"].split(",")
+    alleles = read_alleles(g["alleles"])
     letters = [a for a in alleles if a not in (NON_REF, SPAN_DEL)]
     shortest, cut = min(map(len, letters)), 0
     if len(letters) > 1:
@@ -288,7 +298,7 @@ def subset(g):
     return picked(floats(g["gl"]), numbers(g["keep"]) or []) == floats(g["subset"])
 
 
-def unused_alts(g):
+def unused_alts(g):  # reads no allele: the ALTs stay as they are given
     alts = [] if g["alt"] == "." else g["alt"].split(",")
     gt = numbers(g["gt"]) or []
     keep = [0] + [a for a in range(1, len(alts) + 1) if a in gt]

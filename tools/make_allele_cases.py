@@ -22,12 +22,12 @@ import model
 BYTES, PLACES, AD_PLACES, INPUT_ROOM = 4096, 256, 32, 524288  # what the program has room for
 NO_CALL = "2147483647"
 COVERED = {
-    "trim": {"written", "14", "5 no letters", "5 count", "5 repeat"},
+    "trim": {"written", "small letters", "14", "5 no letters", "5 count", "5 repeat"},
     "gq": {"written"},
     "drop": {"written"},
     "log10": {"written", "14"},
     "subset": {"written", "14", "15 allele count", "15 value count", "15 not finite", "15 size", "15 keep count", "15 no allele"},
-    "unused": {"copied", "written", "14", "15 allele count", "15 value count", "15 not finite", "15 size", "15 AD"},
+    "unused": {"copied", "written", "small letters", "14", "15 allele count", "15 value count", "15 not finite", "15 size", "15 AD"},
 }
 CASES = []  # name, function, arguments, answer: a number or the lists that are written
 
@@ -54,11 +54,11 @@ def value_faults(gl, alleles):
 
 def trim_faults(room, alleles):
     fields = alleles.split(",") if alleles != "." else [""]
-    letters = lambda a: re.fullmatch("[ACGTN]{1,255}", a)
+    letters = lambda a: re.fullmatch("[ACGTNacgtn]{1,255}", a)
     return {
         "5 no letters": not letters(fields[0]) or not all(letters(a) or a in ("*", "<NON_REF>") for a in fields[1:]),
         "5 count": len(fields) > 16,
-        "5 repeat": len(set(fields)) < len(fields),
+        "5 repeat": len({a.upper() if letters(a) else a for a in fields}) < len(fields),
     }
 
 
@@ -200,14 +200,21 @@ def trim_cases():
     with_rooms("trim-AAT-AT", "trim", ["AAT,AT"], ["AA,A"])
     with_rooms("trim-CAT-GAT", "trim", ["CAT,GAT"], ["C,G"])
     with_rooms("trim-AT-T", "trim", ["AT,T"], ["AT,T"])
+    with_rooms("trim-AAt-aT", "trim", ["AAt,aT"], ["AA,A"])
+    with_rooms("trim-cAT-Gat", "trim", ["cAT,*,Gat,<NON_REF>"], ["C,*,G,<NON_REF>"])
+    with_rooms("trim-at-T", "trim", ["at,T"], ["AT,T"])
+    with_rooms("trim-acgtn", "trim", ["acgtn"], ["ACGTN"])
+    with_rooms("trim-small-255-letters", "trim", ["a" + "cC" * 127 + ",g" + "C" * 254], ["A,G"])
+    tight("trim-AAt-GaT", "trim", ["AAt,GaT"], ["A,G"])
     with_rooms("trim-255-letters", "trim", ["A" + "C" * 254 + ",G" + "C" * 254], ["A,G"])
     sixteen = [letter * n for n in range(252, 256) for letter in "ACGT"]
     with_rooms("trim-16-alleles", "trim", [",".join(sixteen)], [",".join(sixteen)])
     for title, alleles in (
         ("repeated-ref", "AT,AT"), ("repeated-alt", "A,C,C"), ("repeated-star", "A,*,*"), ("repeated-non-ref", "A,<NON_REF>,<NON_REF>"),
-        ("ref-star", "*,A"), ("ref-non-ref", "<NON_REF>,A"), ("ref-small", "a,C"), ("empty-text", "."), ("empty-ref", ",A"), ("empty-alt", "A,"),
-        ("alt-small", "A,c"), ("alt-del", "AAT,AT,<DEL>"), ("17-alleles", ",".join(sixteen + ["N"])), ("ref-256-letters", "A" * 256),
-        ("alt-256-letters", "A," + "C" * 256),
+        ("ref-star", "*,A"), ("ref-non-ref", "<NON_REF>,A"), ("ref-other-small", "r,C"), ("empty-text", "."), ("empty-ref", ",A"), ("empty-alt", "A,"),
+        ("alt-other-small", "A,x"), ("alt-del", "AAT,AT,<DEL>"), ("17-alleles", ",".join(sixteen + ["N"])), ("ref-256-letters", "A" * 256),
+        ("alt-256-letters", "A," + "C" * 256), ("small-256-letters", "a" * 256), ("repeated-in-either-case", "A,G,g"),
+        ("repeated-ref-in-either-case", "aT,At"), ("small-non-ref", "A,<non_ref>"), ("non-ref-with-one-small-letter", "A,<NOn_REF>"),
     ):
         case(f"trim-5-{title}", "trim", [BYTES, alleles], 5)
     case("trim-5-before-14", "trim", [0, "AT,AT"], 5)
@@ -239,6 +246,10 @@ def subset_cases():
 
 def unused_cases():
     three, six, most = bits(-3, 0, -7.5), bits(-3, 0, -7.5, -8, -9, -10), 2.0**31
+    # no allele is read: ALTs stay as they are given
+    with_rooms("unused-small-letters", "unused", ["g,aC", "0,2", six, "1,2,3"], ["aC", bits(0, -5, -7), "1,3"])
+    with_rooms("unused-alts-alike-but-for-case", "unused", ["G,g", "2,1", six, "1,2,3"], ["G,g", six, "1,2,3"])
+    with_rooms("unused-other-letters", "unused", ["<non_ref>,x", "0,1", six, "1,2,3"], ["<non_ref>", bits(-3, 0, -7.5), "1,2"])
     call = lambda title, answer, *arguments, rooms=(PLACES, PLACES, AD_PLACES): case(f"unused-{title}", "unused", [*rooms, *arguments], answer)
     many = ",".join("A" * n for n in range(2, 18))
     call("15-17-alleles", 15, many, "0,1", bits(*range(-152, 1)), ",".join(map(str, range(17))))
@@ -275,6 +286,9 @@ def shown(name, function, arguments, answer, needed):
         return "several"
     if broken:
         return broken.pop()
+    alleles = {"trim": arguments[1:2], "unused": arguments[3:4]}.get(function, [""])[0]
+    if re.search("[acgtn]", alleles):
+        return "small letters"
     return "copied" if function == "unused" and answer == arguments[3:4] + [without_signs(arguments[5])] + arguments[6:] else "written"
 
 

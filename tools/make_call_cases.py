@@ -13,14 +13,15 @@ import sys
 from pathlib import Path
 
 sys.dont_write_bytecode = True
-from make_cohort_cases import Lines, Refused, check, header, model, name, number, numbers
+from make_cohort_cases import Lines, Refused, alike, check, header, model, name, number, numbers
 from make_replay_cases import printed
 
 ROOM, INPUT_ROOM = 65536, 524288  # what the program has room for
 COVERED = {f"refused {n}" for n in (*range(1, 9), 14)} | {"a record is dropped", "several records", "no records", "64 samples", "16 alleles", "*", "missing value"}
+COVERED |= {"small letters in a kept record", "small letters in a dropped record"}
 HEAD, SAMPLE = ("contig", "pos", "end", "ref", "alt"), ("gt", "gq", "dp", "ad", "pl")
-LETTERS = re.compile(rb"[ACGTN]{1,255}")
-CASES = []  # name, answer (a number, a list, or None for a list that the model makes), text, room
+LETTERS = re.compile(rb"[ACGTNacgtn]{1,255}")
+CASES = []  # name, answer (a number, a list, `ref alt` of each record of a list that the model makes, or None for any such list), text, room
 
 
 # ---- the rules
@@ -45,7 +46,7 @@ def read_sample(lines, n):
 
 def alleles_fault(ref, alts):
     spelled = all(a in (b"*", b"<NON_REF>") or LETTERS.fullmatch(a) for a in alts)
-    return not LETTERS.fullmatch(ref) or not spelled or len(alts) > 15 or len(set(alts + [ref])) <= len(alts)
+    return not LETTERS.fullmatch(ref) or not spelled or len(alts) > 15 or alike(ref, alts)
 
 
 def read_record(lines, samples, last):
@@ -59,8 +60,11 @@ def read_record(lines, samples, last):
     check(6, b"<NON_REF>" in alts)
     check(7, end is None or (n == 2 and len(ref) == 1))
     check(8, all((ad is None or len(ad) == n) and (pl is None or len(pl) == n * (n + 1) // 2) for ad, pl in values))
+    dropped, small = n == 2 or all(pl is None for _, pl in values), any(a != a.upper() for a in alts + [ref])
     shown = {
-        "a record is dropped": n == 2 or all(pl is None for _, pl in values),
+        "a record is dropped": dropped,
+        "small letters in a kept record": small and not dropped,
+        "small letters in a dropped record": small and dropped,
         "16 alleles": n == 16,
         "*": b"*" in alts,
         "missing value": any(ad is None or pl is None for ad, pl in values),
@@ -185,7 +189,7 @@ def record_cases():
     case("contigs-in-byte-order", None, listed(snp(contig="Z"), snp(contig="c"), snp(contig="c1", pos=1)))
     case("5-alt-twice", 5, listed(snp(alt="G,G")))
     case("5-alt-as-ref", 5, listed(snp(alt="A,<NON_REF>")))
-    case("5-small-letter", 5, listed(snp(ref="a")))
+    case("5-other-small-letter", 5, listed(snp(ref="r")))
     case("5-256-letters", 5, listed(snp(ref="A" * 256)))
     case("255-letters", None, listed(snp(ref="A" * 255)))
     alts = [letter + "T" * k for letter in "CG" for k in range(8)]
@@ -207,11 +211,30 @@ def record_cases():
     case("sixty-four-samples", None, listed(snp([THREE, NONE] * 32), names=range(64)))
 
 
+def spelling_cases():
+    """Letters of either case are read as capitals; `<NON_REF>` and `*` have one spelling; names and contigs keep their case."""
+    shown = lambda ref, alt: [f"{ref} {alt}"]
+    case("ref-a-alt-g", shown("A", "G"), listed(snp(ref="a", alt="g,<NON_REF>")))
+    case("small-letters-and-star", shown("ACGTN", "*,ACG"), listed(snp([{**NONE, "pl": "9,8,7,6,5,4,3,2,1,0"}], ref="acgTn", alt="*,<NON_REF>,aCg")))
+    case("small-255-letters", shown("ACGTN" * 51, "G"), listed(snp(ref="acgtN" * 51, alt="g,<NON_REF>")))
+    case("5-small-256-letters", 5, listed(snp(ref="acgtN" * 51 + "a")))
+    two = snp([THREE, NONE], contig="N", ref="n", alt="a,<NON_REF>"), snp([NONE, THREE], contig="n", alt="n,<NON_REF>")
+    case("names-and-contigs-in-either-case", shown("N", "A") + shown("A", "N"), listed(*two, names=("a", "A")))
+    case("a-block-of-a-small-letter", [], listed(block(ref="n", end=15)))
+    case("5-alt-twice-in-either-case", 5, listed(snp(alt="G,g")))
+    case("5-alt-twice-in-either-case-apart", 5, listed(group(SNP, [NONE], alt="gT,T,<NON_REF>,Gt")))
+    case("5-alt-as-ref-in-either-case", 5, listed(snp(ref="aC", alt="Ac,<NON_REF>")))
+    case("5-non-ref-in-small-letters", 5, listed(snp(alt="g,<non_ref>")))
+    case("5-non-ref-with-one-small-letter", 5, listed(snp(alt="g,<NOn_REF>")))
+    case("6-small-letters-alone", 6, listed(snp(ref="a", alt="g,t")))
+    case("7-end-of-two-small-letters", 7, listed(block(ref="ac", end=22)))
+
+
 def order_cases():
     case("4-and-1-in-one-group", 1, listed(snp([{**THREE, "pl": "01"}], pos=0)))
-    case("5-and-1-in-one-group", 1, listed(snp([{**THREE, "gt": "3/3"}], ref="a")))
+    case("5-and-1-in-one-group", 1, listed(snp([{**THREE, "gt": "3/3"}], ref="R")))
     case("4-and-5-in-one-group", 4, listed(snp(pos=0, alt="G,G")))
-    case("5-and-8-in-one-group", 5, listed(snp([{**THREE, "pl": "0"}], ref="a")))
+    case("5-and-8-in-one-group", 5, listed(snp([{**THREE, "pl": "0"}], ref="R")))
     case("6-and-8-in-one-group", 6, listed(snp(alt="G")))
     case("6-and-7-in-one-group", 6, listed(snp(alt="G,T", end=22)))
     case("7-and-8-in-one-group", 7, listed(snp([{**THREE, "pl": "0"}], end=22)))
@@ -233,16 +256,22 @@ def answer_of(text, room):
         return refusal.args[0], {f"refused {refusal.args[0]}"}
 
 
+def heads_of(called):
+    """The `ref` and `alt` of each record of a called list."""
+    return [" ".join(head) for head in re.findall(r"\nref=(.*)\nalt=(.*)\n", called.decode())]
+
+
 def checked(title, answer, text, room):
     """The answer of a case, and what it shows. The tool stops if it is not what was expected."""
     found, shown = answer_of(text, room)
-    if found != answer and not (answer is None and isinstance(found, bytes)):
+    right = isinstance(found, bytes) and (answer is None or answer == heads_of(found))
+    if found != answer and not right:
         sys.exit(f"{title}: {answer} was expected, the rules in code say {found}")
     return found, shown
 
 
 def main():
-    for part in (recorded_cases, line_cases, record_cases, order_cases):
+    for part in (recorded_cases, line_cases, record_cases, spelling_cases, order_cases):
         part()
     assert len({c[0] for c in CASES}) == len(CASES) and not any(" " in c[0] for c in CASES)
     stdin, stdout, covered = b"", b"", {}

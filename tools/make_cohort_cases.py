@@ -15,7 +15,7 @@ import model
 MOST, MISSING = 2147483647, 4294967295
 INPUT_ROOM, TEXT_ROOM = 131072, 300000  # what the program has room for
 KEYS = ("site", "contig", "start", "end", "ref", "alt", "gq", "dp", "ad", "pl")
-LETTERS = re.compile(rb"[ACGTN]{1,128}")
+LETTERS = re.compile(rb"[ACGTNacgtn]{1,128}")
 
 
 # ---- the rules
@@ -57,10 +57,19 @@ class Lines:
         return self.text[begin:end], begin
 
 
+def as_read(allele):
+    """Letters of either case have one meaning (document 02, Note 6); `<NON_REF>` has one spelling."""
+    return allele.upper() if re.fullmatch(rb"[ACGTNacgtn]+", allele) else allele
+
+
+def alike(ref, alts):
+    """Whether an allele stands twice, in whatever case."""
+    return len(set(map(as_read, alts + [ref]))) <= len(alts)
+
+
 def alleles_fault(ref, alts):
     spelled = all(a in (b"*", b"<NON_REF>") or LETTERS.fullmatch(a) for a in alts)
-    alike = len(set(alts + [ref])) <= len(alts)
-    return not LETTERS.fullmatch(ref) or not spelled or len(alts) > 7 or alike
+    return not LETTERS.fullmatch(ref) or not spelled or len(alts) > 7 or alike(ref, alts)
 
 
 def faults(g, before, samples):
@@ -124,14 +133,14 @@ def read(text):
 
 
 def same_sites(text, samples, rows):
-    """Whether the model reads the sites that the rows stand for."""
+    """Whether the model reads the sites that the rows stand for: the rows say where the text has the alleles, as spelled."""
     pairs = [line.split("=", 1) for line in text.decode().split("\n")[:-1]][1 + samples :]
     part = lambda row, k: text[row[k] : row[k + 1]].decode() or "."
     stored = lambda row, k: ",".join(str(row[k + 1 + i // 2] >> 32 * (i % 2) & 0xFFFFFFFF) for i in range(row[k]))
     values = lambda row, k: stored(row, k) or part(row, k + 1)
     coded = lambda v: MISSING if v == "." else int(v)
     for row, s in zip(rows, map(model.Site, model.groups(pairs, 10)), strict=True):
-        ours = row[:1] + row[2:7] + [part(row, 7), part(row, 9), part(row, 11), values(row, 13), values(row, 16)]
+        ours = row[:1] + row[2:7] + [part(row, 7), part(row, 9).upper(), part(row, 11).upper(), values(row, 13), values(row, 16)]
         place = [s.sample, s.start, s.end, int(s.block), coded(s.gq), coded(s.dp), s.contig]
         if ours != place + [s.alleles[0], model.commas(s.alleles[1:]), model.commas(s.ad), model.commas(s.pl)]:
             return False
@@ -301,18 +310,24 @@ def allele_cases():
     sites("alt-128-letters", None, SNP, alt=long + ",<NON_REF>")
     sites("alt-129-letters", 5, SNP, alt=long + "T,<NON_REF>")
     for title, value in (
-        ("empty", ""), ("missing", "."), ("small-letter", "a"), ("other-letter", "R"), ("star", "*"), ("non-ref", "<NON_REF>"),
+        ("empty", ""), ("missing", "."), ("small-other-letter", "r"), ("other-letter", "R"), ("star", "*"), ("non-ref", "<NON_REF>"),
         ("two-equals", "A=C"), ("comma", "A,C"), ("cr", "A\r"), ("space", " A"),
     ):
         sites(f"ref-{title}", 5, ref=value)
     for title, value in (
-        ("empty", ""), ("missing", "."), ("cr", "<NON_REF>\r"), ("small-letter", "g,<NON_REF>"), ("other-symbol", "<DEL>,<NON_REF>"),
-        ("small-non-ref", "<non_ref>"), ("nothing-between-commas", "G,,<NON_REF>"), ("comma-behind", "G,<NON_REF>,"),
+        ("empty", ""), ("missing", "."), ("cr", "<NON_REF>\r"), ("small-other-letter", "r,<NON_REF>"), ("other-symbol", "<DEL>,<NON_REF>"),
+        ("small-non-ref", "<non_ref>"), ("non-ref-with-a-small-letter", "<nON_REF>"),
+        ("nothing-between-commas", "G,,<NON_REF>"), ("comma-behind", "G,<NON_REF>,"),
         ("comma-before", ",<NON_REF>"), ("space", "G, <NON_REF>"), ("equals", "G=T,<NON_REF>"), ("letter-and-star", "G*,<NON_REF>"),
         ("twice", "G,G,<NON_REF>"), ("twice-apart", "G,<NON_REF>,G"), ("star-twice", "*,*,<NON_REF>"), ("non-ref-twice", "<NON_REF>,<NON_REF>"),
-        ("is-ref", "A,<NON_REF>"), ("twice-without-non-ref", "G,G"),
+        ("is-ref", "A,<NON_REF>"), ("is-ref-in-lower-case", "a,<NON_REF>"), ("twice-in-either-case", "G,g,<NON_REF>"),
+        ("twice-without-non-ref", "G,G"),
     ):
         sites(f"alt-{title}", 5, SNP, alt=value, pl=".", ad=".")
+    sites("ref-small-letter", None, ref="a")
+    sites("ref-of-either-case", None, SNP, ref="aC", end=11)
+    sites("alt-small-letter", None, SNP, alt="g,<NON_REF>", pl=".", ad=".")
+    sites("alt-small-letters", None, SNP, alt=long.lower() + ",<NON_REF>")
     sites("alt-star", None, SNP, alt="*,<NON_REF>")
     sites("alt-non-ref-first", None, SNP, alt="<NON_REF>,G")
     sites("alt-non-ref-between", None, SNP, alt="G,<NON_REF>,T", pl=pl(10))
@@ -321,6 +336,33 @@ def allele_cases():
     sites("alt-g", 6, SNP, alt="G", pl=pl(3))
     sites("alt-star-alone", 6, SNP, alt="*", pl=pl(3))
     sites("alleles-8-without-non-ref", 6, SNP, alt="C,G,T,N,AA,AC,*", pl=pl(36))
+
+
+def spelling_cases():
+    """Letters of either case are the same letters; `<NON_REF>` has one spelling, and so have names."""
+    long = "acgtn" * 25 + "ACg"
+    for letter in "cgtn":
+        sites(f"small-ref-{letter}", None, ref=letter)
+    for title, letter in (("past-t", "u"), ("before-a", "`"), ("past-n", "o")):
+        sites(f"ref-{title}", 5, ref=letter)
+    sites("small-ref-and-alts", None, SNP, ref="acGTn", end=14, alt="ACgt,*,aCgtnA,<NON_REF>", ad=pl(5), pl=pl(15))
+    sites("small-128-letters", None, SNP, ref=long, end=137)
+    sites("small-129-letters", 5, SNP, ref=long + "t", end=138)
+    sites("small-alt-129-letters", 5, SNP, alt=long + "t,<NON_REF>")
+    for title, value in (
+        ("twice-apart", "g,T,<NON_REF>,G"), ("twice-in-a-long-one", "GattaCA,T,gAttaca,<NON_REF>"), ("non-ref-second-n", "g,<NOn_REF>"),
+        ("non-ref-beside", "<NOn_REF>,<NON_REF>"), ("non-ref-in-small", "g,<non_ref>"), ("twice-without-non-ref", "G,g"),
+    ):
+        sites(f"small-alt-{title}", 5, SNP, alt=value, pl=".", ad=".")
+    sites("small-ref-is-alt", 5, SNP, ref="a", alt="A,<NON_REF>")
+    sites("small-ref-is-alt-of-three", 5, SNP, ref="aCg", end=12, alt="T,AcG,<NON_REF>", ad=".", pl=".")
+    sites("small-alleles-that-differ-at-the-end", None, SNP, ref="aCg", end=12, alt="AcT,<NON_REF>")
+    sites("small-alleles-8", None, SNP, ref="a", alt="c,g,t,n,aA,*,<NON_REF>", ad=pl(8), pl=pl(36))
+    sites("small-alleles-9", 5, SNP, ref="a", alt="c,g,t,n,aA,aC,*,<NON_REF>", ad=pl(8), pl=pl(45))
+    sites("small-alt-without-non-ref", 6, SNP, alt="g", pl=pl(3))
+    sites("small-block-of-two-letters", 7, ref="ac")
+    sites("small-letters-10-to-11", 7, SNP, ref="acg", end=11)
+    case("small-names-and-contigs-keep-their-case", (2, 2), header("n", "N") + site(contig="a", ref="a") + site(contig="A", ref="a"))
 
 
 def end_cases():
@@ -356,9 +398,9 @@ def order_cases():
     sites("in-group-1-and-4-to-8", 1, start=0, ref="r", alt="G", dp="09", pl="0")
     sites("in-group-3-and-4", 3, site=2, start=0)
     sites("in-group-3-and-8", 3, site=2, pl="0")
-    sites("in-group-4-and-5", 4, end=9, ref="a")
+    sites("in-group-4-and-5", 4, end=9, ref="R")
     sites("in-group-4-and-7", 4, SNP, end=9)
-    sites("in-group-5-and-6", 5, alt="g")
+    sites("in-group-5-and-6", 5, alt="R")
     sites("in-group-5-and-7", 5, SNP, ref="AR")
     sites("in-group-5-and-8", 5, alt="A,<NON_REF>")
     sites("in-group-6-and-7", 6, SNP, alt="G", end=12)
@@ -367,7 +409,7 @@ def order_cases():
     sites("in-group-8-twice", 8, pl="0", ad="1,2,3")
     case("groups-8-then-1", 8, TWO + site(pl="0") + site(gq=""))
     case("groups-7-then-3", 7, TWO + site(SNP, end=12) + site(site=2))
-    case("groups-5-then-5-then-2-lines", 5, TWO + site(ref="a") + site(alt="g") + "site=0\nstart=1\n")
+    case("groups-5-then-5-then-2-lines", 5, TWO + site(ref="R") + site(alt="R") + "site=0\nstart=1\n")
     case("groups-right-then-3-then-1", 3, TWO + site() + site(site=2) + site(gq=""))
     case("groups-right-right-then-4", 4, TWO + site() + site(SNP) + site(end=9))
     case("header-3-then-site-1", 3, header("S0", "S0") + site(gq=""))
@@ -399,7 +441,7 @@ def printed(title, answer, rows):
 def main():
     for part in (
         accepted_cases, header_cases, name_cases, line_cases, number_cases, limit_cases,
-        sample_and_place_cases, allele_cases, end_cases, count_cases, order_cases,
+        sample_and_place_cases, allele_cases, spelling_cases, end_cases, count_cases, order_cases,
     ):
         part()
     assert len({title for title, *_ in CASES}) == len(CASES)

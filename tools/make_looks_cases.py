@@ -25,7 +25,7 @@ NOWHERE = "nowhere"  # a contig that no site names
 COVERED = {f"refused {n}" for n in range(1, 14)} | {
     "no clip", "empty clip", "clip of other contigs", "interval without a record", "contig without sites", "several contigs", "one place", "no place",
     "sites of a sample overlap", "several samples", "a list that 14 refuses", "over 1,024 breakpoints", "refused 11 on another contig",
-    "refused 12 on another contig", "refused 13 on another contig", "clip cuts a block",
+    "refused 12 on another contig", "refused 13 on another contig", "clip cuts a block", "small letters",
 }
 Case = namedtuple("Case", "name cohort clip reference lent places contig")
 CASES = []  # each with its answer: ("refused", row), ("looks", figure), or None for a figure that is counted
@@ -68,6 +68,7 @@ def shown_of(case, sites, clip):
         "sites of a sample overlap": kept and any(overlap(a, b) for a in on for b in on),
         "several samples": kept and len({s.sample for s in on}) > 1,
         "over 1,024 breakpoints": len(kept) >= 1024,
+        "small letters": kept and any(s.alleles != s.spelled for s in on),
     }
     return {what for what, is_so in shown.items() if is_so}
 
@@ -123,7 +124,10 @@ def recorded_cases():
 
 def refused_cases():
     """The list's calls by hand. What 14 refuses there has a figure here."""
-    parts = (lists.cohort_cases, lists.clip_and_reference_cases, lists.place_cases, lists.letter_cases, lists.nested_cases, lists.merge_cases)
+    parts = (
+        lists.cohort_cases, lists.clip_and_reference_cases, lists.place_cases, lists.letter_cases, lists.spelling_cases, lists.nested_cases,
+        lists.merge_cases,
+    )
     for part in parts:
         part()
     for i, (c, answer) in enumerate(lists.CASES):

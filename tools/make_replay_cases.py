@@ -2,10 +2,10 @@
 
 Run it in the repository's folder. The calls are of three sorts:
 - recorded: all cases of recorded/combine that are by hand, and the first six of every other sort. The list is the Rust's, as recorded, and the model's
-  where sites of a sample overlap or a letter is needed and no reference is lent. With B
+  where sites of a sample overlap, a letter is needed and no reference is lent, or letters are small. With B
   breakpoints on the busiest contig, those of other sorts have 8,192 places, 1, 2, B - 1, B and B + 1 by turns.
-- tight: each recorded case by hand but those of letters again, with 0, 1, 2, B - 1, B and B + 1 places and just the output that it needs, and with a
-  byte less (14). With no place it is 10 if it has a site, and else the list.
+- tight: each recorded case by hand but those of letters and spelling again, with 0, 1, B - 1, B and B + 1 places and just the output that it needs, and
+  with a byte less (14). With no place it is 10 if it has a site, and else the list.
 - by hand, below: refusals, each with its number beside it from reading documents 01 and 02, and calls just inside the rules; among them contigs with
   more breakpoints than a call has places of its own.
 `judged` is a second reading of the rules, in code: the texts by make_cohort_cases.py, the list by differential/model.py. Every call goes through it,
@@ -29,6 +29,8 @@ COVERED = {f"refused {n}" for n in range(1, 15)} | {
     "a block's letter against an unknown one", "an unknown letter joins a REF N", "clip keeps nothing", "no records", "a site hides another",
     "reference groups disagree", "over 1,024 breakpoints", "more breakpoints than places", "one place", "joined over 1,024 breakpoints",
     "a later site supersedes an earlier one in the file", "the first in the file starts last", "equal starts", "three deep", "a superseded deletion",
+    "small letters", "REFs that are prefixes in either case alone", "an allele that samples spell in either case", "over 16 alleles as they are spelled",
+    "a small letter from the reference", "a small letter from a sample", "blocks that differ only in case join",
 }
 CLIP, REFERENCE = ("contig", "start", "end"), ("contig", "first", "bases")
 Case = namedtuple("Case", "name cohort clip reference lent places room")
@@ -44,7 +46,7 @@ def span_of(contig, start, end):
 
 
 def segment_of(contig, first, bases):
-    check(9, 1 <= rules.number(first) and re.fullmatch(rb"[ACGTN]+", bases) and int(first) + len(bases) - 1 <= rules.MOST)
+    check(9, 1 <= rules.number(first) and re.fullmatch(rb"[ACGTNacgtn]+", bases) and int(first) + len(bases) - 1 <= rules.MOST)
     return {"contig": rules.name(contig).decode(), "first": int(first), "bases": bases.decode()}
 
 
@@ -89,7 +91,9 @@ def shown_of_letters(taken, start):
     """What the REFs show at a position where no site starts and no reference is lent: `reaching` has the letters there, lowest-numbered sample first."""
     reaching = [(sample, s.alleles[0][start - s.start :][:1]) for sample, s in sorted(taken.items())]
     letters = [letter for _, letter in reaching if letter]
+    spelled = [letter for _, s in sorted(taken.items()) for letter in s.spelled[0][start - s.start :][:1]]
     return {
+        "a small letter from a sample": bool(spelled) and spelled[0].islower(),
         "letter from a sample": bool(letters),
         "no REF reaches": not letters,
         "a lower-numbered sample does not reach": bool(letters) and not reaching[0][1],
@@ -107,20 +111,37 @@ def shown_of_joins(sites, clip, reference, start, points):
     if not one or values(one) != values(two) or not all(s.block for s in one.values()):
         return set()
     starts = lambda taken, p: any(s.start == p for s in taken.values())
+    spelled = lambda taken, p: {s.spelled[0] for s in taken.values() if s.start == p}
     known = starts(one, before), starts(two, start)
     refs = model.ref_of(one, before, None), model.ref_of(two, start, None)
     shown = {
         "a block's letter against an unknown one": known == (True, False) and refs[0] != "N" and one == two,
         "an unknown letter joins a REF N": known[0] != known[1] and refs == ("N", "N"),
+        "blocks that differ only in case join": known == (True, True) and refs[0] == refs[1] and spelled(one, before) != spelled(two, start),
     }
     return {what for what, is_so in shown.items() if is_so}
+
+
+def shown_of_spellings(taken, start, alleles):
+    """What the spellings of the sites that start at a position show; `alleles` are the merged ones."""
+    starting = [s for s in taken.values() if s.start == start]
+    refs = [s.spelled[0] for s in starting]
+    longest = max(refs, key=len, default="")
+    grown = lambda s: [a for a in s.spelled[1:] if a not in ("*", "<NON_REF>")] if len(s.spelled[0]) == len(longest) else []
+    letters, spelled = {a for s in starting for a in s.alleles[1:]}, {a for s in starting for a in s.spelled[1:]}
+    return {
+        "REFs that are prefixes in either case alone": any(not longest.startswith(r) for r in refs),
+        "an allele that samples spell in either case": len(letters) < len(spelled),
+        "over 16 alleles as they are spelled": len(alleles) == 16 and len({a for s in starting for a in grown(s)}) > 14,
+    }
 
 
 def check_interval(sites, reference, start):
     """Rows 11 to 13 of an interval, and what it shows. Nothing if no site covers it."""
     covering = covering_at(sites, start)
     taken = {sample: nearest(own) for sample, own in covering.items()}
-    letters = {g["bases"][start - g["first"]] for g in reference or [] if 0 <= start - g["first"] < len(g["bases"])}
+    spelled = [g["bases"][start - g["first"]] for g in reference or [] if 0 <= start - g["first"] < len(g["bases"])]
+    letters = {letter.upper() for letter in spelled}
     refs = [s.alleles[0] for s in taken.values() if s.start == start]
     if taken and not refs and reference is not None:
         check(11, letters)
@@ -137,10 +158,11 @@ def check_interval(sites, reference, start):
         "REF grows": len(set(refs)) > 1,
         "deletion over a later position": any(s.start < start and min(map(len, s.alleles)) < len(s.alleles[0]) for s in taken.values()),
         "letter from the reference": not refs and reference is not None,
+        "a small letter from the reference": not refs and spelled and spelled[0].islower(),
         "reference groups disagree": not refs and len(letters) > 1,
         "a site hides another": any(len(own) > 1 for own in covering.values()),
         "taken": True,
-    }
+    } | shown_of_spellings(taken, start, alleles)
     if not refs and reference is None:
         shown |= shown_of_letters(taken, start)
     for own in covering.values():
@@ -174,7 +196,10 @@ def texts_of(case):
     clip = None if lent[0] is None else groups(lent[0], CLIP, span_of)
     reference = None if lent[1] is None else groups(lent[1], REFERENCE, segment_of)
     pairs = [line.split("=", 1) for line in case.cohort.decode().split("\n")[:-1]]
-    sites = [model.Site(g) for g in model.groups(pairs[1 + count :], 10)]
+    groups_of = model.groups(pairs[1 + count :], 10)
+    sites = [model.Site(g) for g in groups_of]
+    for s, g in zip(sites, groups_of):
+        s.spelled = [g["ref"]] + g["alt"].split(",")
     return [name for _, name in pairs[1 : 1 + count]], sites, clip, reference
 
 
@@ -195,6 +220,7 @@ def judged(case):
         "joined": len(found) < covered,
         "missing value": any(s.gq == "." or s.pl is None or s.ad is None for s in sites),
         "several contigs": len(contigs) > 1,
+        "small letters": any(s.alleles != s.spelled for s in sites),
         "64 samples": len(names) == 64 and sites,
         "no records": not found,
         "over 1,024 breakpoints": most > 1024,
@@ -221,8 +247,8 @@ def busiest(texts):
 
 
 def few_and_many(most):
-    """No place, one, two, and as many as there are breakpoints, one less and one more."""
-    return sorted({0, 1, 2, max(most - 1, 0), most, most + 1})
+    """No place, one, and as many as there are breakpoints, one less and one more."""
+    return sorted({0, 1, max(most - 1, 0), most, most + 1})
 
 
 def tight(number, texts, combined):
@@ -238,7 +264,7 @@ def recorded_cases():
         number, sort, *_ = line.split()
         chosen.setdefault(sort, []).append(number)
     for sort, numbers in chosen.items():
-        for i, number in enumerate(numbers if sort in ("by", "letters") else numbers[:6]):
+        for i, number in enumerate(numbers if sort in ("by", "letters", "spelling") else numbers[:6]):
             folder = Path("recorded/combine") / number
             texts, combined = texts_in(folder), (folder / "combined.kv").read_bytes()
             if len(texts[0]) > LONG:
@@ -296,7 +322,7 @@ def cohort_cases():
     case("4-end-before-start", 4, one(end=9))
     case("4-position-0", 4, one(start=0))
     case("5-alt-twice", 5, one(SNP, alt="G,G"))
-    case("5-small-letter", 5, one(ref="a"))
+    case("5-other-small-letter", 5, one(ref="r"))
     case("5-nine-alleles", 5, one(SNP, alt="C,G,T,N,AA,AC,*,<NON_REF>", ad=".", pl="."))
     case("5-129-letters", 5, one(SNP, ref="A" * 129, end=138))
     case("6-no-non-ref", 6, one(SNP, alt="G", pl=pl(3)))
@@ -320,7 +346,7 @@ def clip_and_reference_cases():
     ):
         case(f"9-clip-{title}", 9, good, clip)
     for title, reference in (
-        ("other-letter", segment("c", 1, "AX")), ("small-letter", segment("c", 1, "a")), ("no-letters", segment("c", 1, "")),
+        ("other-letter", segment("c", 1, "AX")), ("other-small-letter", segment("c", 1, "ax")), ("no-letters", segment("c", 1, "")),
         ("first-0", segment("c", 0, "A")), ("past-the-end", segment("c", rules.MOST, "AC")), ("no-lf", segment("c", 1, "A")[:-1]),
         ("key-misspelled", segment("c", 1, "A").replace("bases", "base")), ("second-group", segment("c", 1, "A") + segment("", 1, "A")),
         ("contig-of-no-site", segment("x", 1, "*")),
@@ -364,7 +390,7 @@ def window_cases():
     """More breakpoints on a contig than the 1,024 places that a call has of its own, so that it goes through several windows."""
     # ten deletions of 128 letters, one behind the other: 1,281 breakpoints, and some of the clip, which shows the front, the end and where
     # windows are likely to meet: halfway of 1,024 places and of as many as there are breakpoints
-    word = "ACGTTGCA" * 16
+    word = "ACgTtGcA" * 16
     deletions = [at(i % 2, word, "A", start=10 + 128 * i) for i in range(10)]
     shown = "".join(span("c", first, last) for first, last in ((1, 11), (514, 529), (648, 663), (1022, 1025), (1286, 1290)))
     ahead, back = TWO + "".join(deletions), TWO + "".join(deletions[::-1])
@@ -420,7 +446,7 @@ def sample_letter_cases():
 def patched_cases():
     """Groups that overlap and disagree: the first in the file that holds the position gives the letter. At 13, 14 and 15 stand three records."""
     cut = span("c", 13, 13) + span("c", 14, 14) + span("c", 15, 15)
-    whole, fix = segment("c", 1, "A" * 20), segment("c", 13, "GT")
+    whole, fix = segment("c", 1, "aA" * 10), segment("c", 13, "gT")
     # sites elsewhere, so many that each size of the tables is taken
     for size, more in ((64, 0), (256, 60), (4096, 240)):
         cohort = one(start=10, end=20) + "".join(site(BLOCK, contig="d", start=i, end=i) for i in range(1, more + 1))
@@ -435,6 +461,37 @@ def patched_cases():
     for number in (1023, 1024, 1025):
         case(f"groups-{number}-and-{number + 1}-disagree", None, block, cut, elsewhere * (number - 1) + fix + segment("c", 12, "CCCC"))
     case("a-correction-in-a-row-of-a-group-in-the-text", None, block, cut, fix + elsewhere * 1023 + whole)
+
+
+def spelling_cases():
+    """Letters of either case are read as capitals; `<NON_REF>` and `*` have one spelling; names and contigs keep their case."""
+    block, snp = one(start=10, end=20), lambda **alleles: one(SNP, ad=".", pl=".", **alleles)
+    case("5-alt-twice-in-either-case", 5, snp(alt="G,g,<NON_REF>"))
+    case("5-ref-as-alt-in-either-case", 5, snp(ref="a", alt="A,<NON_REF>"))
+    case("5-non-ref-in-small-letters", 5, snp(alt="g,<non_ref>"))
+    case("5-non-ref-with-one-small-letter", 5, snp(alt="g,<NOn_REF>"))
+    case("6-small-letters-alone", 6, snp(ref="a", alt="g"))
+    case("ref-a-alt-g", ["10 . A G,<NON_REF>"], one(SNP, ref="a", alt="g,<NON_REF>"))
+    names = header("a", "A") + at(0, "a", contig="n") + at(1, "n", contig="N", start=11)
+    case("names-and-contigs-in-either-case", ["11 . N <NON_REF>", "10 . A <NON_REF>"], names)
+    case("refs-a-and-At", ["10 . AT A,GT,<NON_REF>", "11 . T *,<NON_REF>"], TWO + at(0, "a", "g") + at(1, "At", "a"))
+    case("12-at-and-Ag", 12, TWO + at(0, "at", "A") + at(1, "Ag", "T"))
+    case("12-a-and-G", 12, TWO + at(0, "a", "T") + at(1, "G", "T"))
+    three, most = header("S0", "S1", "S2"), ["C", "G", "T", "AA", "AC", "AG", "AT", "CA", "CC", "CG", "CT", "GA", "GC", "GG"]
+    small = [a.lower() for a in most]
+    seen = [f"10 . A {','.join(most[8:] + most[2:8] + most[:2])},<NON_REF>"]
+    case("fourteen-alts-six-in-either-case", seen, three + at(0, "a", *most[:6]) + at(1, "A", *small[2:8]) + at(2, "a", *small[8:]))
+    case("13-fifteen-alts-in-either-case", 13, three + at(0, "a", *most[:6]) + at(1, "A", *small[6:12]) + at(2, "a", *most[12:], "tt"))
+    joined = site(SMALL, start=10, end=12, ref="a") + site(SMALL, start=13, end=13) + site(SMALL, start=14, end=15, ref="a")
+    case("blocks-a-and-A-join", ["10 15 A <NON_REF>", "16 . C <NON_REF>"], TWO + joined + site(SMALL, start=16, end=16, ref="c"))
+    case("small-letter-at-13", ["13 14 G <NON_REF>"], block, span("c", 13, 14), segment("c", 13, "g"))
+    parts = span("c", 10, 12) + span("c", 13, 13) + span("c", 14, 14) + span("c", 15, 15)
+    case("letters-of-a-small-reference-join-and-part", ["10 13 A <NON_REF>", "14 15 T <NON_REF>"], block, parts, segment("c", 13, "atTN"))
+    case("11-small-letters-elsewhere", 11, block, span("c", 13, 14), segment("c", 14, "acgtn"))
+    case("small-letter-of-a-deletion", ["11 . C *,<NON_REF>", "12 . N *,<NON_REF>"], TWO + at(1, "acn", "A") + site(SMALL, start=5, end=20), span("c", 11, 12))
+    word = "aCgtTGcA" * 16
+    grown = f"10 . {word.upper()} A,{(word[::-1] + word[1:]).upper()},<NON_REF>"
+    case("128-small-letters-lengthened-by-127", [grown], TWO + at(0, "a", word[::-1]) + at(1, word, "a"), span("c", 10, 10))
 
 
 def nested_cases():
@@ -518,8 +575,8 @@ def printed(name, answer):
 
 def main():
     for part in (
-        recorded_cases, cohort_cases, clip_and_reference_cases, place_cases, window_cases, letter_cases, sample_letter_cases, patched_cases,
-        nested_cases, merge_cases,
+        recorded_cases, cohort_cases, clip_and_reference_cases, place_cases, window_cases, letter_cases, sample_letter_cases, spelling_cases,
+        patched_cases, nested_cases, merge_cases,
     ):
         part()
     assert len({c.name for c, _ in CASES}) == len(CASES)

@@ -14,6 +14,8 @@ fn trims_what_alleles_share_at_the_end() {
     assert_eq!(trimmed(b"CAT,GAT"), Ok(b"C,G".to_vec()));
     assert_eq!(trimmed(b"AT,T"), Ok(b"AT,T".to_vec()));
     assert_eq!(trimmed(b"AT,AT"), Err(Refused(5)));
+    assert_eq!(trimmed(b"AAt,aT"), Ok(b"AA,A".to_vec()));
+    assert_eq!(trimmed(b"At,aT"), Err(Refused(5)));
     assert_eq!(reverse_trim_alleles(b"CAT,GAT", &mut [9; 2]), Err(Refused(14)));
 }
 

@@ -37,6 +37,20 @@ fn a_letter_that_no_ref_reaches_is_n() {
 }
 
 #[test]
+fn small_letters_are_read_as_capitals() {
+    let (mut scratch, mut out) = ([7u64; 8], vec![9u8; 4096]);
+    let cohort = String::from_utf8(COHORT.to_vec()).unwrap();
+    let small = cohort.replace("ref=A\n", "ref=a\n").replace("alt=G,", "alt=g,");
+    assert_ne!(small, cohort);
+    let n = combine(small.as_bytes(), None, None, &mut scratch, &mut out).unwrap();
+    assert_eq!(&out[..n], LIST);
+    let twice = cohort.replace("alt=G,", "alt=G,g,");
+    assert_eq!(combine(twice.as_bytes(), None, None, &mut scratch, &mut out), Err(Refused(5)));
+    let symbol = cohort.replace("alt=G,<NON_REF>", "alt=G,<non_ref>");
+    assert_eq!(combine(symbol.as_bytes(), None, None, &mut scratch, &mut out), Err(Refused(5)));
+}
+
+#[test]
 fn refuses_and_leaves_the_output() {
     let mut scratch = [7u64; 8];
     let mut out = [9u8; 16];

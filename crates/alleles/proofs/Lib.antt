@@ -1,2 +1,2 @@
 pub mod FieldLoop
-pub mod Spelled
+pub mod Checked

@@ -1,8 +1,10 @@
-// The alleles of a `ref` and an `alt` value: their spelling, length, number and repeats (row 5).
+// The alleles of a `ref` and an `alt` value: their spelling, length, number and repeats (row 5). Letters are of either case, `<NON_REF>` has
+// one spelling.
 ghost use mathlib.Core.Path.{_≡_};
 ghost use Rattle.definitions.specs.Alleles.{alleleOf};
 ghost use Rattle.definitions.specs.Bytes.{comma, fieldsOf, sameBytes, text};
 ghost use Rattle.definitions.specs.Lists.{allDistinct, allOf, anyOf, isThere};
+ghost use Rattle.laws.proofs.Capitals.{sameLetters};
 ghost use Rattle.alleles.specs.Alleles.{AllelesFound};
 use kv_text::AlleleRead;
 
@@ -37,14 +39,31 @@ pub fn among_fields(field: &[u8], list: &[u8]) -> bool
     }
 }
 
-// Whether no two fields of a list are the same. Each is compared with those behind it.
+// Whether a field of a list with commas has the letters of an allele, in either case.
+pub fn among_alleles(allele: &[u8], list: &[u8]) -> bool
+    ensures { λ r. ⌜ r ≡ anyOf (sameLetters (now (allele .entry))) (fieldsOf comma (now (list .entry))) ⌝ }
+{
+    let mut at = 0;
+    loop {
+        let end = kv_text::field_end(list, at, b',');
+        if kv_text::same_letters(allele, &list[at..end]) {
+            return true;
+        }
+        if list.len() <= end {
+            return false;
+        }
+        at = end + 1;
+    }
+}
+
+// Whether no two fields of a list have the same letters. Each is compared with those behind it.
 pub fn distinct_fields(list: &[u8]) -> bool
-    ensures { λ r. ⌜ r ≡ allDistinct sameBytes (fieldsOf comma (now (list .entry))) ⌝ }
+    ensures { λ r. ⌜ r ≡ allDistinct sameLetters (fieldsOf comma (now (list .entry))) ⌝ }
 {
     let mut at = 0;
     let mut end = kv_text::field_end(list, 0, b',');
     while end < list.len() {
-        if among_fields(&list[at..end], &list[end + 1..]) {
+        if among_alleles(&list[at..end], &list[end + 1..]) {
             return false;
         }
         at = end + 1;
@@ -103,7 +122,7 @@ pub fn check_alleles(reference: &[u8], alts: &[u8], most: usize, count: usize) -
     if !are_alleles(alts, most) {
         return AllelesRead::Fault;
     }
-    if among_fields(reference, alts) {
+    if among_alleles(reference, alts) {
         return AllelesRead::Fault;
     }
     if !distinct_fields(alts) {

@@ -7,8 +7,7 @@ use mathlib.Core.List.{List, [], _++_, _∷_, append-nil, flatMap, map}
 use mathlib.Core.Path.{_∙_, _≡_, ap, refl, sym}
 use native.Mathlib.Decide.{decLt}
 use native.Mathlib.Omega.{arith}
-use Rattle.alleles.proofs.Spelled.{same-by-bytes, spelled-so}
-use Rattle.definitions.specs.Alleles.{Allele, nonRef, sameAllele, spelled, writtenAlleles}
+use Rattle.definitions.specs.Alleles.{capital, nonRef, sameAllele, spelled, writtenAlleles}
 use Rattle.definitions.specs.Bytes.{comma, fieldsOf, joinedBy, lineFeed, sameBytes, text}
 use Rattle.definitions.specs.Lines.{keyOf, line}
 use Rattle.definitions.specs.Lists.{filterBy}
@@ -16,34 +15,34 @@ use Rattle.kv_text.proofs.Fields.{field-first, field-last}
 use Rattle.kv_text.specs.Fields.{between, fieldLength}
 use Rattle.kv_write.proofs.Laying.{Left, laid-append, last, recast, room, several, start}
 use Rattle.kv_write.specs.Laid.{Laid}
-use Rattle.laws.proofs.Bytes.{same-flip}
-use Rattle.sample_alleles.proofs.Readings.{non-ref-spelled}
-use Rattle.tables.specs.Tables.{alleleSpelled}
+use Rattle.laws.proofs.AllelesAsRead.{alleleAsRead, as-read-spelled, non-ref-as-read}
 use Rattle.called_lines.specs.Rows.{altBehind, altLine, calledAlts}
 
 -- ---- `<NON_REF>` by its bytes
 
-pub non-ref-by-bytes : (f : List ℕ) → sameAllele nonRef (alleleSpelled f) ≡ sameBytes f (text "<NON_REF>")
-non-ref-by-bytes f =
-    ap (λ (a : Allele). sameAllele a (alleleSpelled f)) (sym non-ref-spelled)
-    ∙ same-by-bytes (text "<NON_REF>") f
-    ∙ same-flip (text "<NON_REF>") f
+pub non-ref-by-bytes : (f : List ℕ) → sameAllele nonRef (alleleAsRead f) ≡ sameBytes f (text "<NON_REF>")
+unfolding spelled
+non-ref-by-bytes f = non-ref-as-read f
 
 -- ---- the other fields
 
-abbrev pub calledFields : List (List ℕ) → List (List ℕ)
-calledFields = filterBy (λ f. not (sameBytes f (text "<NON_REF>")))
+abbrev otherFields : List (List ℕ) → List (List ℕ)
+otherFields = filterBy (λ f. not (sameBytes f (text "<NON_REF>")))
 
-called-spelled : (fs : List (List ℕ)) → map spelled (filterBy (λ a. not (sameAllele nonRef a)) (map alleleSpelled fs)) ≡ calledFields fs
+-- as they are laid: letters as capitals
+abbrev pub calledFields : List (List ℕ) → List (List ℕ)
+calledFields fs = map (map capital) (otherFields fs)
+
+called-spelled : (fs : List (List ℕ)) → map spelled (filterBy (λ a. not (sameAllele nonRef a)) (map alleleAsRead fs)) ≡ calledFields fs
 unfolding filterBy
 called-spelled [] = refl
 called-spelled (f ∷ fs) = rw (non-ref-by-bytes f) (go (sameBytes f (text "<NON_REF>")) (called-spelled fs))
   where
-    go : (b : Bool) → map spelled (filterBy (λ a. not (sameAllele nonRef a)) (map alleleSpelled fs)) ≡ calledFields fs
-        → map spelled (cond (not b) (alleleSpelled f ∷ filterBy (λ a. not (sameAllele nonRef a)) (map alleleSpelled fs)) (filterBy (λ a. not (sameAllele nonRef a)) (map alleleSpelled fs)))
-        ≡ cond (not b) (f ∷ calledFields fs) (calledFields fs)
+    go : (b : Bool) → map spelled (filterBy (λ a. not (sameAllele nonRef a)) (map alleleAsRead fs)) ≡ calledFields fs
+        → map spelled (cond (not b) (alleleAsRead f ∷ filterBy (λ a. not (sameAllele nonRef a)) (map alleleAsRead fs)) (filterBy (λ a. not (sameAllele nonRef a)) (map alleleAsRead fs)))
+        ≡ map (map capital) (cond (not b) (f ∷ otherFields fs) (otherFields fs))
     go true e = e
-    go false e = rw (spelled-so f, e)
+    go false e = rw (as-read-spelled f, e)
 
 -- ---- their text
 
@@ -64,17 +63,17 @@ behind-none false = refl
 
 -- the first field, and the others behind it
 behind-next : (others dropped : Bool) (f : List ℕ) (fs : List (List ℕ)) → dropped ≡ sameBytes f (text "<NON_REF>")
-    → altsBehind others (calledFields (f ∷ fs)) ≡ altBehind others dropped f ++ altsBehind (others || not dropped) (calledFields fs)
+    → altsBehind others (calledFields (f ∷ fs)) ≡ altBehind others dropped (map capital f) ++ altsBehind (others || not dropped) (calledFields fs)
 unfolding altsBehind altBehind filterBy flatMap
 behind-next others dropped f fs e = rw (← e) (go others dropped)
   where
     go : (others dropped : Bool)
-        → altsBehind others (cond (not dropped) (f ∷ calledFields fs) (calledFields fs))
-        ≡ altBehind others dropped f ++ altsBehind (others || not dropped) (calledFields fs)
+        → altsBehind others (map (map capital) (cond (not dropped) (f ∷ otherFields fs) (otherFields fs)))
+        ≡ altBehind others dropped (map capital f) ++ altsBehind (others || not dropped) (calledFields fs)
     go true true = refl
     go false true = refl
     go true false = refl
-    go false false = behind-first f (calledFields fs)
+    go false false = behind-first (map capital f) (calledFields fs)
 
 -- ---- the text of a list
 
@@ -92,27 +91,27 @@ module _ (alts : List ℕ) where
 
   module _ {d₀ d : List ℕ} {at₀ at from end : ℕ} {others dropped : Bool} (l : AltsLeft d₀ at₀ d at others from)
       (ends : end ≡ from + fieldLength 44 (drop from alts)) (e : dropped ≡ sameBytes (between alts from end) (text "<NON_REF>")) where
-    field-more : end < length alts → Left d₀ at₀ (calledAlts alts) d at (altBehind others dropped (between alts from end)
+    field-more : end < length alts → Left d₀ at₀ (calledAlts alts) d at (altBehind others dropped (map capital (between alts from end))
         ++ altsBehind (others || not dropped) (calledFields (fieldsOf 44 (drop (end + 1) alts))))
     field-more h = recast (ap (λ (fs : List (List ℕ)). altsBehind others (calledFields fs)) (field-first 44 alts from end ends h)
         ∙ behind-next others dropped (between alts from end) (fieldsOf 44 (drop (end + 1) alts)) e) (l .left)
 
-    field-ends : length alts ≤ end → Left d₀ at₀ (calledAlts alts) d at (altBehind others dropped (between alts from end))
+    field-ends : length alts ≤ end → Left d₀ at₀ (calledAlts alts) d at (altBehind others dropped (map capital (between alts from end)))
     unfolding filterBy
     field-ends h = recast (ap (λ (fs : List (List ℕ)). altsBehind others (calledFields fs)) (field-last 44 alts from end ends (l .within) h)
         ∙ behind-next others dropped (between alts from end) [] e
-        ∙ ap (λ (t : List ℕ). altBehind others dropped (between alts from end) ++ t) (behind-none (others || not dropped))
-        ∙ append-nil (altBehind others dropped (between alts from end))) (l .left)
+        ∙ ap (λ (t : List ℕ). altBehind others dropped (map capital (between alts from end)) ++ t) (behind-none (others || not dropped))
+        ∙ append-nil (altBehind others dropped (map capital (between alts from end)))) (l .left)
 
     -- what the call that lays the field asks
-    pub field-fits : at + length (altBehind others dropped (between alts from end)) < 2 ^ 64
+    pub field-fits : at + length (altBehind others dropped (map capital (between alts from end))) < 2 ^ 64
     field-fits = go (decLt end (length alts))
       where
-        go : Dec (end < length alts) → at + length (altBehind others dropped (between alts from end)) < 2 ^ 64
-        go (yes h) = room (altBehind others dropped (between alts from end)) _ (field-more h)
+        go : Dec (end < length alts) → at + length (altBehind others dropped (map capital (between alts from end))) < 2 ^ 64
+        go (yes h) = room (altBehind others dropped (map capital (between alts from end))) _ (field-more h)
         go (no h) = field-ends (omega arith) .fits
 
-    module _ {d′ : List ℕ} {at′ : ℕ} (p : Laid d at (altBehind others dropped (between alts from end)) d′ at′) where
+    module _ {d′ : List ℕ} {at′ : ℕ} (p : Laid d at (altBehind others dropped (map capital (between alts from end))) d′ at′) where
       pub alts-next : {others′ : Bool} → end < length alts → others′ ≡ (others || not dropped) → AltsLeft d₀ at₀ d′ at′ others′ (end + 1)
       alts-next h o = record { within = omega arith; left = rw o (several p (field-more h)) }
 

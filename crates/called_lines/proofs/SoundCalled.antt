@@ -10,7 +10,7 @@ use mathlib.Core.Option.{Option, Option·map, none, some}
 use mathlib.Core.Path.{_∙_, _≡_, ap, refl}
 use native.Mathlib.Omega.{arith}
 use Rattle.definitions.specs.Alleles.{allelesOf, genotypeCount, nonRef, sameAllele, writtenAlleles}
-use Rattle.definitions.specs.Bytes.{lineFeed, text}
+use Rattle.definitions.specs.Bytes.{comma, fieldsOf, lineFeed, text}
 use Rattle.definitions.specs.CalledGenotypes.{gqFromPl, nonRefPls, normalizedPl, plWithoutAllele, plWithoutAlleleAt}
 use Rattle.definitions.specs.CalledList.{calledData, calledRecord, nonRefNumber, printedCalledRecord, withoutIndex}
 use Rattle.definitions.specs.Cohort.{plFits}
@@ -30,7 +30,7 @@ use Rattle.laws.proofs.SoundRecords.{SoundRecord, SoundSampleData}
 use Rattle.laws.proofs.SoundValues.{Counted}
 use Rattle.laws.proofs.Tests.{both}
 use Rattle.record_laws.proofs.Lengths.{alleles-few, data-few, decimal-few, mostData, mostRecord}
-use Rattle.tables.specs.Tables.{refAltsSpelled}
+use Rattle.laws.proofs.AllelesAsRead.{refAltsAsRead}
 use Rattle.called_lines.specs.Rows.{CalledRecordFits, RecordRows, rowData, rowRecord, withoutGt}
 use Rattle.called_genotypes.specs.Values.{foldedPl, retainedAllele, retainedPlAt}
 use Rattle.called_lines.proofs.Called.{alleles-count, non-ref-below}
@@ -156,7 +156,7 @@ module _ {s contig : List ℕ} {pos : ℕ} {ref alts rows : List ℕ} {samples :
       let positions = same .samePos in
       let alleles = same .sameAlleles in
       let said : map (calledData (length (allelesOf (r .alleles))) (nonRefNumber (r .alleles))) (r .sampleData)
-      ≡ map (calledData (length (allelesOf (refAltsSpelled ref alts))) (nonRefNumber (refAltsSpelled ref alts))) (map (rowData s rows) (numbersFrom 0 samples)) =
+      ≡ map (calledData (length (allelesOf (refAltsAsRead ref (fieldsOf comma alts)))) (nonRefNumber (refAltsAsRead ref (fieldsOf comma alts)))) (map (rowData s rows) (numbersFrom 0 samples)) =
       without-gt (length (allelesOf (r .alleles))) (nonRefNumber (r .alleles)) (r .sampleData)
       ∙ rw (same .sameData, alleles) in
       λ j. record {
@@ -168,7 +168,7 @@ module _ {s contig : List ℕ} {pos : ℕ} {ref alts rows : List ℕ} {samples :
       }
 
   -- PL and AD are as many as row 8 asks
-  counts : SoundRecord samples r → allOf (countsFit (refAltsSpelled ref alts)) (map (rowData s rows) (numbersFrom 0 samples)) ≡ true
+  counts : SoundRecord samples r → allOf (countsFit (refAltsAsRead ref (fieldsOf comma alts))) (map (rowData s rows) (numbersFrom 0 samples)) ≡ true
   counts sound =
       rw (← same .sameData, ← same .sameAlleles)
       (passes-every (countsFit (r .alleles)) (every-of-map withoutGt (every-map fit (sound .sampleData))))

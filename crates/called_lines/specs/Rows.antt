@@ -5,7 +5,7 @@ use mathlib.Core.Bool.{Bool, cond, not, true}
 use mathlib.Core.List.{List, [], _++_, _∷_, flatMap, map}
 use mathlib.Core.Option.{none}
 use mathlib.Core.Path.{_≡_}
-use Rattle.definitions.specs.Alleles.{nonRef, sameAllele, writtenAlleles}
+use Rattle.definitions.specs.Alleles.{capital, nonRef, sameAllele, writtenAlleles}
 use Rattle.definitions.specs.Bytes.{comma, fieldsOf}
 use Rattle.definitions.specs.CalledList.{calledData, calledRecord, printedCalledRecord}
 use Rattle.definitions.specs.Genotypes.{SampleData}
@@ -15,9 +15,10 @@ use Rattle.definitions.specs.Lists.{allOf, filterBy, numbersFrom}
 use Rattle.definitions.specs.Numbers.{decimal, maxNumber}
 use Rattle.definitions.specs.Printed.{printedValues}
 use Rattle.definitions.specs.Records.{Record}
+use Rattle.laws.proofs.AllelesAsRead.{refAltsAsRead}
 use Rattle.laws.proofs.Every.{Every, IfThere}
 use Rattle.sample_alleles.specs.Readings.{allelesIn}
-use Rattle.tables.specs.Tables.{adAt, codeOption, column, plAt, refAltsSpelled}
+use Rattle.tables.specs.Tables.{adAt, codeOption, column, plAt}
 
 -- ---- a record in a table
 
@@ -35,13 +36,13 @@ rowData s rows sample = record {
 unfoldable pub withoutGt : SampleData → SampleData
 withoutGt v = record { gt = none; gq = v .gq; dp = v .dp; ad = v .ad; pl = v .pl }
 
--- the record with these alleles, ALTs with commas, whose samples' data are in the first rows; a called record has neither END nor GT
+-- the record with these alleles, as a text spells them, ALTs with commas, whose samples' data are in the first rows; a called record has neither END nor GT
 unfoldable pub rowRecord : List ℕ → List ℕ → ℕ → List ℕ → List ℕ → List ℕ → ℕ → Record
 rowRecord s contig pos ref alts rows samples = record {
   contig = contig;
   pos = pos;
   end = none;
-  alleles = refAltsSpelled ref alts;
+  alleles = refAltsAsRead ref (fieldsOf comma alts);
   sampleData = map (rowData s rows) (numbersFrom 0 samples);
 }
 
@@ -49,7 +50,7 @@ rowRecord s contig pos ref alts rows samples = record {
 pub record RecordRows (s contig : List ℕ) (pos : ℕ) (ref alts rows : List ℕ) (samples : ℕ) (r : Record) : Type 0 where
   pub sameContig : r .contig ≡ contig
   pub samePos : r .pos ≡ pos
-  pub sameAlleles : r .alleles ≡ refAltsSpelled ref alts
+  pub sameAlleles : r .alleles ≡ refAltsAsRead ref (fieldsOf comma alts)
   pub sameData : map withoutGt (r .sampleData) ≡ map (rowData s rows) (numbersFrom 0 samples)
 
 -- ---- its lines
@@ -58,7 +59,7 @@ pub record RecordRows (s contig : List ℕ) (pos : ℕ) (ref alts rows : List �
 unfoldable pub altBehind : Bool → Bool → List ℕ → List ℕ
 altBehind others dropped alt = cond dropped [] (cond others (comma ∷ []) [] ++ alt)
 
--- ALTs with commas, without `<NON_REF>`
+-- ALTs with commas, as a text spells them, without `<NON_REF>`
 abbrev pub calledAlts : List ℕ → List ℕ
 calledAlts alts = writtenAlleles (filterBy (λ a. not (sameAllele nonRef a)) (allelesIn alts))
 
@@ -67,7 +68,7 @@ altLine alts = line "alt" (calledAlts alts)
 
 -- the lines before the samples'
 unfoldable pub calledHead : List ℕ → ℕ → List ℕ → List ℕ → List ℕ
-calledHead contig pos ref alts = line "contig" contig ++ line "pos" (decimal pos) ++ line "ref" ref ++ altLine alts
+calledHead contig pos ref alts = line "contig" contig ++ line "pos" (decimal pos) ++ line "ref" (map capital ref) ++ altLine alts
 
 -- the lines of a sample, and of so many samples
 abbrev pub calledSample : List ℕ → ℕ → ℕ → List ℕ → ℕ → List ℕ
@@ -109,5 +110,5 @@ pub record CalledRecordFits (s contig : List ℕ) (pos : ℕ) (ref alts : List �
   pub position : pos ≤ maxNumber
   pub count : alleles ≡ suc (length (fieldsOf comma alts))
   pub few : alleles ≤ 16
-  pub counts : allOf (countsFit (refAltsSpelled ref alts)) (map (rowData s rows) (numbersFrom 0 samples)) ≡ true
+  pub counts : allOf (countsFit (refAltsAsRead ref (fieldsOf comma alts))) (map (rowData s rows) (numbersFrom 0 samples)) ≡ true
   pub fits : at + length (printedCalledRecord (calledRecord (rowRecord s contig pos ref alts rows samples))) < 2 ^ 64

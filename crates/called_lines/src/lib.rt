@@ -1,20 +1,22 @@
 // The lines of a called record and its samples, laid over a buffer as `kv_write` lays lines: those of the record without `<NON_REF>`,
-// `dropped` by its number among the record's alleles. The samples' data stand in a table, `rows`, over the list's text, `s`.
+// `dropped` by its number among the record's alleles. The samples' data stand in a table, `rows`, over the list's text, `s`. REF and ALTs
+// are given as the list spells them, and laid as capitals.
 ghost use mathlib.Core.Bool.{_||_, not};
-ghost use mathlib.Core.List.{List};
+ghost use mathlib.Core.List.{List, map};
 ghost use mathlib.Core.Option.{Option·getD};
 ghost use mathlib.Core.Path.{_≡_};
 ghost use Prim.Native.Nat.{ℕ, _+_, _<_, _≤_, _^_};
 ghost use lib.ListN.{length, take};
-ghost use Rattle.definitions.specs.Alleles.{allelesOf, nonRef, sameAllele};
+ghost use Rattle.definitions.specs.Alleles.{allelesOf, capital, nonRef, sameAllele};
+ghost use Rattle.definitions.specs.Bytes.{comma, fieldsOf};
 ghost use Rattle.definitions.specs.CalledGenotypes.{plWithoutAllele};
 ghost use Rattle.definitions.specs.CalledList.{calledData, calledRecord, printedCalledRecord};
 ghost use Rattle.definitions.specs.Lists.{indexWhere};
 ghost use Rattle.definitions.specs.Printed.{printedValues};
 ghost use Rattle.genotype_values.specs.Remapped.{Filled, ofPresent};
 ghost use Rattle.kv_write.specs.Laid.{Laid};
+ghost use Rattle.laws.proofs.AllelesAsRead.{refAltsAsRead};
 ghost use Rattle.kv_write.specs.Optional.{optionOf};
-ghost use Rattle.tables.specs.Tables.{refAltsSpelled};
 ghost use Rattle.called_lines.specs.SampleValues.{CalledPrintable, calledValues, ownValues};
 ghost use Rattle.called_lines.specs.Rows.{CalledHeadFits, CalledRecordFits, SamplePrintable, SamplesPrintable, altBehind, altLine, calledAlts, calledHead, calledSample, calledSamples, rowRecord};
 use bio_ids::AlleleIndex;
@@ -79,7 +81,7 @@ pub fn put_called_data(
 // The number of `<NON_REF>` among REF and ALTs with commas; 0 if it is none of the first 255 ALTs.
 pub fn non_ref_number(alts: &[u8]) -> AlleleIndex
     ensures { λ r. ⌜ ((ref : List ℕ) → r .0 ≡ Option·getD
-        (indexWhere (sameAllele nonRef) (take 256 (allelesOf (refAltsSpelled ref (now (alts .entry))))))
+        (indexWhere (sameAllele nonRef) (take 256 (allelesOf (refAltsAsRead ref (fieldsOf comma (now (alts .entry)))))))
         0) ⌝ }
 {
     let mut at = 0;
@@ -100,19 +102,19 @@ pub fn non_ref_number(alts: &[u8]) -> AlleleIndex
     }
 }
 
-// Lays an ALT unless it is dropped, with a comma if others are laid.
+// Lays an ALT, its letters as capitals, unless it is dropped, with a comma if others are laid.
 fn put_alt(out: &mut [u8], at: usize, others: bool, dropped: bool, alt: &[u8]) -> usize
-    requires { ⌜ at + length (altBehind others dropped (now alt)) < 2 ^ 64 ⌝ }
-    ensures { λ r. ⌜ Laid (now (out .entry)) at (altBehind others dropped (now (alt .entry))) (now (out .exit)) r ⌝ }
+    requires { ⌜ at + length (altBehind others dropped (map capital (now alt))) < 2 ^ 64 ⌝ }
+    ensures { λ r. ⌜ Laid (now (out .entry)) at (altBehind others dropped (map capital (now (alt .entry)))) (now (out .exit)) r ⌝ }
 {
     if dropped {
         return at;
     }
     if !others {
-        return kv_write::put_bytes(out, at, alt);
+        return kv_write::put_letters(out, at, alt);
     }
     let behind_comma = kv_write::put_byte(out, at, b',');
-    kv_write::put_bytes(out, behind_comma, alt)
+    kv_write::put_letters(out, behind_comma, alt)
 }
 
 // Whether ALTs are laid, behind one that may be dropped.
@@ -175,7 +177,7 @@ pub fn put_called_head(
     let number = pos.get() as u32;
     let behind_contig = kv_write::put_line(out, at, b"contig=", contig);
     let behind_pos = kv_write::put_number_line(out, behind_contig, b"pos=", number);
-    let behind_ref = kv_write::put_line(out, behind_pos, b"ref=", reference);
+    let behind_ref = record_lines::put_ref_line(out, behind_pos, reference);
     put_called_alts(out, behind_ref, alts)
 }
 

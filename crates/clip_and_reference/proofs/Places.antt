@@ -3,10 +3,10 @@ use Prim.Native.Nat.{_*_, _<_, _≤_, suc, zero, ℕ}
 use lib.ListN.{drop, getD, length, length-map, take}
 use lib.Seq.{getD-take}
 use mathlib.Core.List.{List, [], _∷_, map}
-use mathlib.Core.Option.{none, some}
+use mathlib.Core.Option.{none}
 use mathlib.Core.Path.{_∙_, _≡_, ap, refl, sym}
 use native.Mathlib.Omega.{arith}
-use Rattle.definitions.specs.Alleles.{lettersOf}
+use Rattle.definitions.specs.Alleles.{capital, lettersOf}
 use Rattle.definitions.specs.Checked.{Checked, accepted, refused}
 use Rattle.definitions.specs.ClipAndReference.{ReferenceSegment, segmentOf}
 use Rattle.definitions.specs.Lines.{Line, keyOf, lineAt, linesOf, valueOf}
@@ -16,10 +16,11 @@ use Rattle.kv_text.proofs.Lines.{behind-key}
 use Rattle.kv_text.proofs.Places.{line-stands}
 use Rattle.kv_text.specs.Fields.{between}
 use Rattle.kv_text.specs.Lines.{lineEnd, lineStart}
+use Rattle.laws.proofs.Capitals.{letters-raised-back}
 use Rattle.laws.proofs.Checked.{accepted-same, after-required, after-then, or-refused-back}
 use Rattle.laws.proofs.Every.{Every, also, nothing}
 use Rattle.laws.proofs.Groups.{groups-cons}
-use Rattle.laws.proofs.Tests.{after-bind, after-only-if}
+use Rattle.laws.proofs.Tests.{after-bind}
 use Rattle.clip_and_reference.proofs.Groups.{read-end, read-faulty, read-group}
 use Rattle.clip_and_reference.specs.Groups.{GroupFaulty, GroupTo, PlacedSegment, ValuePart, basesStart, groupsRead, inFront, placedFrom, readBefore, segmentsPlaced, segmentsRead}
 
@@ -70,20 +71,15 @@ module _ (s : List ℕ) where
 
 -- ---- the bases stand there
 
--- the bases of a placed segment are a part of the text from that place on
+-- the bases of a placed segment are the capitals of a part of the text from that place on
 pub record BasesStand (s : List ℕ) (p : PlacedSegment) : Type 0 where
   pub basesEnd : ℕ
-  pub bases : p .segment .bases ≡ between s (p .basesAt) basesEnd
-
--- letters are read as they stand
-letters-themselves : (w v : List ℕ) → lettersOf maxNumber w ≡ some v → w ≡ v
-unfolding lettersOf
-letters-themselves w v e = after-only-if _ _ e λ t p. p
+  pub bases : p .segment .bases ≡ map capital (between s (p .basesAt) basesEnd)
 
 module _ (s : List ℕ) (at : ℕ) (g : ReferenceSegment) where
   -- a group that reads has its bases in the third line, and the lines behind it begin at the fourth
   record GroupStands : Type 0 where
-    bases : g .bases ≡ between s (basesStart s at) (lineEnd s (lineStart s at 2))
+    bases : g .bases ≡ map capital (between s (basesStart s at) (lineEnd s (lineStart s at 2)))
     rest : drop 3 (linesOf (drop at s)) ≡ linesOf (drop (lineStart s at 3) s)
 
   third-line : {l : List ℕ} → lineAt (take 3 (linesOf (drop at s))) 2 "bases" (lettersOf maxNumber) ≡ accepted l → l ≡ g .bases → GroupStands
@@ -92,7 +88,7 @@ module _ (s : List ℕ) (at : ℕ) (g : ReferenceSegment) where
       after-bind _ _ (or-refused-back 1 _ e) λ value v w. after-bind _ _ v λ line there key.
       let stands = line-stands s 2 at (sym (getD-take 3 (linesOf (drop at s)) 2 none (omega arith)) ∙ there) in
       let cut = behind-key s (keyOf "bases") (lineStart s at 2) (lineEnd s (lineStart s at 2)) (rw (stands .is) at key) in
-      record { bases = sym same ∙ sym (letters-themselves _ _ w) ∙ cut; rest = stands .rest }
+      record { bases = sym same ∙ sym (letters-raised-back _ _ w) ∙ ap (map capital) cut; rest = stands .rest }
 
   group-stands : segmentOf (take 3 (linesOf (drop at s))) ≡ accepted g → GroupStands
   unfolding segmentOf

@@ -1,14 +1,17 @@
 -- What reading the group of three lines at an offset of clip.kv or reference.kv finds.
 use Prim.Native.Nat.{_+_, _<_, _≤_, ℕ}
 use lib.ListN.{drop, length, take}
-use mathlib.Core.List.{List, [], _∷_}
+use mathlib.Core.List.{List, [], _∷_, map}
 use mathlib.Core.Path.{_≡_}
+use Rattle.definitions.specs.Alleles.{capital}
 use Rattle.definitions.specs.Checked.{Checked, accepted, readEach, refused}
 use Rattle.definitions.specs.ClipAndReference.{ReferenceSegment, Span, segmentOf, spanOf}
 use Rattle.definitions.specs.Lines.{Line, keyOf, linesOf}
 use Rattle.definitions.specs.Lists.{groupsOf}
 use Rattle.kv_text.specs.Fields.{between}
-use Rattle.kv_text.specs.Lines.{lineEnd, lineStart}
+use Rattle.kv_text.specs.Lines.{LineFound, lineEnd, lineStart, readTo, unread}
+use Rattle.kv_text.specs.declared.ValueAt.{ValueAt}
+use Rattle.kv_text.specs.declared.ValueAt.the-variants as value
 use Rattle.clip_and_reference.specs.declared.SegmentAt.{SegmentAt}
 use Rattle.clip_and_reference.specs.declared.SegmentAt.the-variants as segment
 use Rattle.clip_and_reference.specs.declared.SpanAt.{SpanAt}
@@ -91,6 +94,11 @@ pub record ValuePart (s : List ℕ) (at : ℕ) (key : List ℕ) (a e : ℕ) : Ty
   pub forward : a ≤ e
   pub within : e ≤ length s
 
+-- letters in either case, read as capitals
+abbrev pub lettersFound : List ℕ → ValueAt → LineFound (List ℕ)
+lettersFound s (value.At a e) = readTo (map capital (between s a e)) e
+lettersFound s value.Absent = unread
+
 -- the answers
 unfoldable pub SpanRead : List ℕ → ℕ → SpanAt → Type 0
 SpanRead s at span.Faulty = GroupFaulty s at spanOf
@@ -101,5 +109,7 @@ SpanRead s at (span.Span contigAt contigEnd loc next) =
 unfoldable pub SegmentRead : List ℕ → ℕ → SegmentAt → Type 0
 SegmentRead s at segment.Faulty = GroupFaulty s at segmentOf
 SegmentRead s at (segment.Segment contigAt contigEnd first basesAt basesEnd next) =
-    GroupTo s at segmentOf (record { contig = between s contigAt contigEnd; first = first .0; bases = between s basesAt basesEnd }) next
+    GroupTo s at segmentOf
+    (record { contig = between s contigAt contigEnd; first = first .0; bases = map capital (between s basesAt basesEnd) })
+    next
     × ValuePart s at (keyOf "contig") contigAt contigEnd × ValuePart s (lineStart s at 2) (keyOf "bases") basesAt basesEnd

@@ -5,8 +5,8 @@ ghost use Rattle.definitions.specs.Alleles.{lettersOf};
 ghost use Rattle.definitions.specs.Checked.{isAccepted};
 ghost use Rattle.definitions.specs.ClipAndReference.{optionalGroups, segmentOf, spanOf};
 ghost use Rattle.definitions.specs.Numbers.{maxNumber};
-ghost use Rattle.kv_text.specs.Lines.{LineReads, Placed, valueFound};
-ghost use Rattle.clip_and_reference.specs.Groups.{SegmentRead, SpanRead};
+ghost use Rattle.kv_text.specs.Lines.{LineReads, Placed};
+ghost use Rattle.clip_and_reference.specs.Groups.{SegmentRead, SpanRead, lettersFound};
 use bio_ids::GenomeLoc;
 use bio_ids::GenomePosition;
 use kv_text::NumberAt;
@@ -76,9 +76,9 @@ pub fn check_clip(s: &[u8]) -> bool
 
 // ---- reference.kv
 
-// The letters in the line at an offset.
+// The letters, in either case, in the line at an offset.
 fn letters_line(s: &[u8], at: usize, key: &[u8]) -> ValueAt
-    ensures { λ r. ⌜ LineReads (now (s .entry)) at (now (key .entry)) (lettersOf maxNumber) (valueFound (now (s .entry)) r) × Placed at (now (key .entry)) r ⌝ }
+    ensures { λ r. ⌜ LineReads (now (s .entry)) at (now (key .entry)) (lettersOf maxNumber) (lettersFound (now (s .entry)) r) × Placed at (now (key .entry)) r ⌝ }
 {
     let v = kv_text::value_line(s, at, key);
     let ValueAt::At(a, e) = v else {

@@ -15,7 +15,7 @@ use Rattle.coalescing.specs.Steps.{OtherRecord, recordStepped}
 use Rattle.coalescing.specs.declared.Pending.{Pending}
 use Rattle.coalescing.specs.declared.Pending.the-variants.{Nothing}
 use Rattle.coalescing.specs.declared.Stepped.{Stepped}
-use Rattle.definitions.specs.Alleles.{isBlock, onlyNonRef, writtenAlleles}
+use Rattle.definitions.specs.Alleles.{capital, isBlock, onlyNonRef, writtenAlleles}
 use Rattle.definitions.specs.Bytes.{comma, fieldsOf, text}
 use Rattle.definitions.specs.Lists.{numbersFrom, onlyIf}
 use Rattle.definitions.specs.Numbers.{decimal, writtenOrMissing}
@@ -96,10 +96,10 @@ module _ {s rows : List ℕ} {samples : ℕ} {contig : List ℕ} {first last : �
   abbrev sound-sites : Every SoundSite (map (siteAt s rows) (r .found))
   sound-sites = found-are-sound (r .on) first (r .to)
 
-  pub samples-are : printedSamples s rows samples own first allele alts ≡ flatMap printedSampleData (recordData (r .on) first (r .to))
+  pub samples-are : printedSamples s rows samples own first (map capital allele) alts ≡ flatMap printedSampleData (recordData (r .on) first (r .to))
   unfolding printedOwn
   samples-are =
-      ap (flatMap printedSampleData) (own-data s rows first allele alts (r .found) sound-sites (r .own-is) (r .on .loaded .few))
+      ap (flatMap printedSampleData) (own-data s rows first (map capital allele) alts (r .found) sound-sites (r .own-is) (r .on .loaded .few))
       ∙ rw (r .allele-is, alleles-are, r .to .sites)
 
   enough : samples ≤ length own
@@ -119,7 +119,7 @@ module _ {s rows : List ℕ} {samples : ℕ} {contig : List ℕ} {first last : �
   -- a block, by the number of ALTs and the length of REF
   pub by-numbers : isBlock (laidRecord r .alleles) ≡ (eqb number 1 && eqb (length allele) 1)
   unfolding isBlock onlyNonRef
-  by-numbers = rw (r .allele-is, sound-alleles .non-ref, ← r .to .number, and-true (eqb number 1))
+  by-numbers = rw (← length-map allele capital, r .allele-is, sound-alleles .non-ref, ← r .to .number, and-true (eqb number 1))
 
   -- ---- a block
 
@@ -128,7 +128,7 @@ module _ {s rows : List ℕ} {samples : ℕ} {contig : List ℕ} {first last : �
     one-alt = ap length (block-is (laidRecord r .alleles) block .0)
 
     pub one-letter : length allele ≡ 1
-    one-letter = ap length (r .allele-is) ∙ block-is (laidRecord r .alleles) block .1
+    one-letter = sym (length-map allele capital) ∙ ap length (r .allele-is) ∙ block-is (laidRecord r .alleles) block .1
 
     derived : Every (Derived 2) (recordData (r .on) first (r .to))
     derived = subst (λ (k : ℕ). Every (Derived (suc k)) (recordData (r .on) first (r .to))) one-alt
@@ -147,7 +147,7 @@ module _ {s rows : List ℕ} {samples : ℕ} {contig : List ℕ} {first last : �
       pub lines : take len after ≡ flatMap printedSampleData (recordData (r .on) first (r .to))
 
     pub fresh-lines : (after : List ℕ) (len : ℕ)
-        → Laid fresh 0 (printedSamples s rows samples own first allele alts) after len → FreshLines after len
+        → Laid fresh 0 (printedSamples s rows samples own first (map capital allele) alts) after len → FreshLines after len
     fresh-lines after len l =
         let few = lines-few in
         let room = r .fresh-room in
@@ -162,13 +162,15 @@ module _ {s rows : List ℕ} {samples : ℕ} {contig : List ℕ} {first last : �
           lines = rw front (take-at _ _ len (sym count));
         }
 
-    pub new-block : (lines : List ℕ) → lines ≡ flatMap printedSampleData (recordData (r .on) first (r .to))
-        → HeldBlock samples contig lines first last (getD allele 0 0) (length lines) (laidRecord r)
-    new-block lines e = record {
+    pub new-block : (base : ℕ) → base ≡ capital (getD allele 0 0)
+        → (lines : List ℕ) → lines ≡ flatMap printedSampleData (recordData (r .on) first (r .to))
+        → HeldBlock samples contig lines first last base (length lines) (laidRecord r)
+    new-block base b lines e = record {
       values = recordData (r .on) first (r .to);
       record-is =
           block-record contig (record { first = first; last = last }) (recordAlleles (r .on) first (r .to)) (recordData (r .on) first (r .to)) block
-          ∙ ap (λ (ref : List ℕ). blockRecord contig first last ref (recordData (r .on) first (r .to))) (sym (r .allele-is) ∙ only-letter allele one-letter);
+          ∙ ap (λ (ref : List ℕ). blockRecord contig first last ref (recordData (r .on) first (r .to)))
+          (sym (r .allele-is) ∙ ap (map capital) (only-letter allele one-letter) ∙ ap (λ (c : ℕ). c ∷ []) (sym b));
       derived = derived;
       all-samples = samples-count;
       printed = take-length lines ∙ e;
@@ -179,7 +181,7 @@ module _ {s rows : List ℕ} {samples : ℕ} {contig : List ℕ} {first last : �
   -- ---- another record
 
   module _ (other : isBlock (laidRecord r .alleles) ≡ false) where
-    pub other-record : OtherRecord (recordBytes s rows samples contig first allele own alts) (laidRecord r)
+    pub other-record : OtherRecord (recordBytes s rows samples contig first (map capital allele) own alts) (laidRecord r)
     unfolding onlyIf recordBytes
     other-record = record {
       not-block = other;
@@ -191,7 +193,7 @@ module _ {s rows : List ℕ} {samples : ℕ} {contig : List ℕ} {first last : �
         no-end : none ≡ endFrom first first
         no-end = rw (le-ltb first first (omega arith))
 
-  pub record-fits : (k : ℕ) → k ≤ 2 ^ 63 → RecordFits s rows samples contig first allele own alts k
+  pub record-fits : (k : ℕ) → k ≤ 2 ^ 63 → RecordFits s rows samples contig first (map capital allele) own alts k
   unfolding onlyIf writtenOrMissing text
   record-fits k h = record {
     in-range = omega (arith, r .ordered, r .in-range);
@@ -212,7 +214,7 @@ module _ {s rows : List ℕ} {samples : ℕ} {contig : List ℕ} {first last : �
       named : length contig ≤ 32
       named = contig-named (r .on) .not-too-long
 
-      short-ref : length allele ≤ 128
+      short-ref : length (map capital allele) ≤ 128
       short-ref = rw (r .allele-is) (ref-for (r .on) first (r .to) .letters .not-too-long)
 
       short-alts : length alts ≤ 4096

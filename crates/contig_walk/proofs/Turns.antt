@@ -13,6 +13,7 @@ use Rattle.coalescing.specs.Held.{Holds}
 use Rattle.coalescing.specs.Steps.{Progress, StepTo}
 use Rattle.coalescing.specs.declared.Pending.{Pending}
 use Rattle.coalescing.specs.declared.Stepped.{Stepped}
+use Rattle.definitions.specs.Alleles.{capital}
 use Rattle.definitions.specs.Checked.{Checked, refused}
 use Rattle.definitions.specs.CombinedList.{Input, intervalRecord}
 use Rattle.definitions.specs.CoveringSites.{coveringSites}
@@ -106,7 +107,7 @@ module _ {s rows : List ℕ} {samples : ℕ} {referenced : Bool} {reference cont
     }
 
     unfoldable pub lay-ready : (text : List ℕ) → text ≡ between alts 0 len → (own : List ℕ) → own ≡ ownOf rows (take n found)
-        → (allele : List ℕ) → allele ≡ recordRef on first to
+        → (allele : List ℕ) → map capital allele ≡ recordRef on first to
         → LayReady s rows samples contig first last allele number own text pending held fresh at
     lay-ready text e own o allele a =
         let i = ready .sound some-covering in
@@ -156,7 +157,7 @@ module _ {s rows : List ℕ} {samples : ℕ} {referenced : Bool} {reference cont
 
   module _ (found alts : List ℕ) (n : ℕ) (place : RefAt) (len number : ℕ) (to : RecordTo on′ first (take n found) alts n place len number) where
     pub turn-laid : (text : List ℕ) (e : text ≡ between alts 0 len) (own : List ℕ) (o : own ≡ ownOf rows (take n found))
-        (allele : List ℕ) (a : allele ≡ recordRef on′ first to) (held′ out : List ℕ) (step : Stepped)
+        (allele : List ℕ) (a : map capital allele ≡ recordRef on′ first to) (held′ out : List ℕ) (step : Stepped)
         → StepTo samples contig held′ out waiting (laidRecord (lay-ready ready found alts n place len number to text e own o allele a)) d₀ bytes records step
         → Turns (on′ .loaded .input) samples contig held′ out first last waiting d₀ bytes records (turned.To step)
     unfolding Turns lay-ready

@@ -11,6 +11,7 @@ use Rattle.coalescing.specs.Steps.{Progress}
 use Rattle.coalescing.specs.declared.Pending.{Pending}
 use Rattle.coalescing.specs.declared.Stepped.{Stepped}
 use Rattle.covering_sites.specs.Ended.{Ended}
+use Rattle.definitions.specs.Alleles.{capital}
 use Rattle.definitions.specs.Checked.{Checked, refused}
 use Rattle.definitions.specs.CombinedList.{Input}
 use Rattle.definitions.specs.CoveringSites.{coveringSites}
@@ -36,7 +37,7 @@ use Rattle.contig_walk.specs.declared.Turned.the-variants as turned
 abbrev pub ownOf : List ℕ → List ℕ → List ℕ
 ownOf rows found = ownRows (foundList found (map (column 0 rows) found)) 0 (replicate maxSamples (length rows))
 
--- the record was found, its interval is sound, and what is held back can be laid
+-- the record was found, with REF as a text spells it, its interval is sound, and what is held back can be laid
 pub record LayReady (s rows : List ℕ) (samples : ℕ) (contig : List ℕ) (first last : ℕ) (allele : List ℕ) (number : ℕ) (own alts : List ℕ)
     (pending : Pending) (held fresh : List ℕ) (at : ℕ) : Type 0 where
   pub referenced : Bool
@@ -47,7 +48,7 @@ pub record LayReady (s rows : List ℕ) (samples : ℕ) (contig : List ℕ) (fir
   pub sites : ℕ
   pub place : RefAt
   pub to : RecordTo on first found alts sites place (length alts) number
-  pub allele-is : allele ≡ recordRef on first to
+  pub allele-is : map capital allele ≡ recordRef on first to
   pub ordered : first ≤ last
   pub in-range : last ≤ maxNumber
   pub fits : PendingFits contig held pending at

@@ -1,11 +1,12 @@
-// The intervals of a contig one after the other: their records, coalesced and laid.
+// The intervals of a contig one after the other: their records, coalesced and laid. `allele` is REF as a text spells it.
 ghost use lib.Dec.{eqb};
 ghost use lib.ListN.{length};
 ghost use lib.Seq.{sets};
 ghost use mathlib.Core.Bool.{_&&_, true};
+ghost use mathlib.Core.List.{map};
 ghost use mathlib.Core.Path.{_≡_};
 ghost use Rattle.coalescing.specs.Steps.{StepTo, recordStepped};
-ghost use Rattle.definitions.specs.Alleles.{isBlock};
+ghost use Rattle.definitions.specs.Alleles.{capital, isBlock};
 ghost use Rattle.record_lines.specs.Records.{RecordFits, recordBytes};
 ghost use Rattle.contig_walk.specs.Laying.{LayReady, TurnReady, Turns, Underway, laidRecord};
 use bio_ids::GenomeLoc;
@@ -57,7 +58,8 @@ fn lay_block(
         fresh,
         0,
     );
-    let base = allele[0];
+    let letter = allele[0];
+    let base = kv_text::capital(letter);
     coalescing::coalesce_homref_blocks(
         contig,
         loc,
@@ -95,11 +97,11 @@ fn lay_behind(
     at: usize,
     count: usize,
 ) -> Stepped
-    requires { ⌜ RecordFits (now s) (now rows) samples (now contig) (position .0) (now allele) (now own) (now alts) at ⌝ }
+    requires { ⌜ RecordFits (now s) (now rows) samples (now contig) (position .0) (map capital (now allele)) (now own) (now alts) at ⌝ }
     ensures step { λ r. ⌜ r ≡ recordStepped at
-        (recordBytes (now (s .entry)) (now (rows .entry)) samples (now (contig .entry)) (position .0) (now (allele .entry)) (now (own .entry)) (now (alts .entry))) count ⌝ }
+        (recordBytes (now (s .entry)) (now (rows .entry)) samples (now (contig .entry)) (position .0) (map capital (now (allele .entry))) (now (own .entry)) (now (alts .entry))) count ⌝ }
     ensures laid { λ _. ⌜ now (out .exit) ≡ sets (now (out .entry)) at
-        (recordBytes (now (s .entry)) (now (rows .entry)) samples (now (contig .entry)) (position .0) (now (allele .entry)) (now (own .entry)) (now (alts .entry))) ⌝ }
+        (recordBytes (now (s .entry)) (now (rows .entry)) samples (now (contig .entry)) (position .0) (map capital (now (allele .entry))) (now (own .entry)) (now (alts .entry))) ⌝ }
 {
     let end = record_lines::merge_result_to_record(
         s,

@@ -178,7 +178,7 @@ slips =
     ∷ (shown (λ (x : Float). decimal (toBits binary64 x)) (likelihoodSubset (map log10FromPl (40 ∷ 0 ∷ 50 ∷ 60 ∷ 70 ∷ 80 ∷ [])) 3 (2 ∷ 0 ∷ []) 136)
     gives "13839561654909534208;13835058055282163712;0")
     ∷ (refsIn (one ++ block "10" "19" "A") "contig=c\nstart=13\nend=13\ncontig=c\nstart=14\nend=14\n"
-    "contig=c\nfirst=15\nbases=T\ncontig=c\nfirst=13\nbases=G\ncontig=c\nfirst=10\nbases=AAAAAAAAAA\n" gives "G;A")
+    "contig=c\nfirst=15\nbases=T\ncontig=c\nfirst=13\nbases=g\ncontig=c\nfirst=10\nbases=AAAAaAAAAA\n" gives "G;A")
     ∷ (answerWithin 1 65536 (alone (one ++ block "10" "19" "A"))
     gives "samples=1\nsample=S0\nrecords=1\ncontig=c\npos=10\nend=19\nref=A\nalt=<NON_REF>\ngt=.\ngq=.\ndp=.\nad=.\npl=.\n")
     ∷ (answerWithin 0 65536 (alone one) gives "samples=1\nsample=S0\nrecords=0\n")
@@ -189,6 +189,15 @@ slips =
     ∷ (allelesIn (two ++ bare "0" "10" "11" "AC" "A,<NON_REF>" ++ bare "1" "9" "11" "GAT" "G,<NON_REF>")
     gives "GAT,G,<NON_REF>;AC,A,*,<NON_REF>;C,*,<NON_REF>")
     ∷ (answerToSite "10" "9" "A" "G,G" "." gives "refused=4\n")
+    ∷ (answerToSite "10" "10" "A" "G,g,<NON_REF>" "." gives "refused=5\n")
+    ∷ (answerToSite "10" "10" "a" "A,<NON_REF>" "." gives "refused=5\n")
+    ∷ (answerToSite "10" "10" "a" "g,<nON_REF>" "." gives "refused=5\n")
+    ∷ (allelesIn (two ++ bare "0" "10" "10" "a" "g,<NON_REF>" ++ bare "1" "10" "11" "At" "G,a,<NON_REF>") gives "AT,G,A,GT,<NON_REF>;T,*,<NON_REF>")
+    ∷ (allelesIn (one ++ bare "0" "10" "10" "n" "c,<NON_REF>") gives "N,C,<NON_REF>")
+    ∷ (trimmed "aaT,At" gives "AA,A")
+    ∷ (callProgram (some (text "samples=1\nsample=S0\nrecords=1\ncontig=c\npos=10\nend=.\nref=a\nalt=t,<NON_REF>\n"
+    ++ text "gt=0/1\ngq=40\ndp=8\nad=.\npl=40,0,50,60,70,80\n"))
+    gives "samples=1\nsample=S0\nrecords=1\ncontig=c\npos=10\nref=A\nalt=T\ngq=40\ndp=8\nad=.\npl=40,0,50\n")
     ∷ (answerToSite "10" "12" "A" "G,<NON_REF>" "0,30" gives "refused=7\n")
     ∷ (answer (one ++ withPl "0" "10" "10" "A" "<NON_REF>" "0,30" ++ bare "0" "010" "10" "A" "<NON_REF>") gives "refused=8\n")
     ∷ []

@@ -23,7 +23,7 @@ use Rattle.list_header.specs.Measured.{limit, mostCount}
 use Rattle.list_reader.specs.RecordGroups.{altsAt, recordFrom, sampleAt, withoutGt}
 use Rattle.list_reader.specs.declared.RecordPlace.{RecordPlace}
 use Rattle.site_groups.specs.SiteGroups.{bytesOf}
-use Rattle.tables.specs.Tables.{alleleSpelled, refAltsSpelled}
+use Rattle.laws.proofs.AllelesAsRead.{alleleAsRead, refAltsAsRead}
 use Rattle.genotype_gvcfs.specs.Walk.{CalledLaid, LayReady, readWith}
 
 -- ---- one more record
@@ -48,8 +48,8 @@ module _ {s : List ℕ} {p : RecordPlace} {rows : List ℕ} {samples : ℕ} {out
   new = recordFrom s (p .contig) (p .pos) (p .end) (p .alleles) (ready .sampleData)
 
   alts-count : length (new .alleles .alts) ≡ altsAt s (p .alleles)
-  unfolding refAltsSpelled
-  alts-count = length-map (fieldsOf comma (bytesOf s (p .alleles .alts))) alleleSpelled
+  unfolding refAltsAsRead
+  alts-count = length-map (fieldsOf comma (bytesOf s (p .alleles .alts))) alleleAsRead
 
   pub by-numbers : isCalled new ≡ (not (eqb (p .count) 2) && p .«has_pl»)
   unfolding isCalled onlyNonRef

@@ -11,6 +11,7 @@ use native.Mathlib.Nat.{zero-add}
 use native.Mathlib.Omega.{arith}
 use Rattle.clip_and_reference.proofs.Places.{bases-at, placed-count, placed-group, placed-segments}
 use Rattle.clip_and_reference.specs.Groups.{GroupTo, PlacedSegment, ValuePart, basesStart, segmentsPlaced, segmentsRead}
+use Rattle.definitions.specs.Alleles.{capital}
 use Rattle.definitions.specs.ClipAndReference.{segmentOf}
 use Rattle.definitions.specs.Lines.{keyOf}
 use Rattle.definitions.specs.Lists.{numbersFrom}
@@ -58,7 +59,7 @@ module _ (reference rows : List ℕ) (count contigAt contigEnd first basesAt bas
 
   abbrev here : PlacedSegment
   here = record {
-    segment = record { contig = between reference contigAt contigEnd; first = first; bases = between reference basesAt basesEnd };
+    segment = record { contig = between reference contigAt contigEnd; first = first; bases = map capital (between reference basesAt basesEnd) };
     basesAt = basesAt;
   }
 

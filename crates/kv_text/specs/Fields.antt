@@ -1,10 +1,10 @@
 -- What the answers about bytes and fields stand for in the definitions.
 use Prim.Native.Nat.{Ordering, Ordering·eq, Ordering·gt, Ordering·lt, _+_, _-_, _<_, _≤_, ℕ}
 use lib.ListN.{drop, getD, length, take}
-use mathlib.Core.List.{List, [], _∷_}
+use mathlib.Core.List.{List, [], _∷_, map}
 use mathlib.Core.Option.{Option, none, some}
 use mathlib.Core.Path.{_≡_}
-use Rattle.definitions.specs.Alleles.{Allele, letters, nonRef, spanDel}
+use Rattle.definitions.specs.Alleles.{Allele, capital, letters, nonRef, spanDel}
 use Rattle.definitions.specs.Bytes.{comma, fieldsOf}
 use Rattle.definitions.specs.Numbers.{number, numberList}
 use Rattle.kv_text.specs.declared.AlleleRead.{AlleleRead}
@@ -78,9 +78,9 @@ unfoldable pub numbersRead : NumbersRead → List ℕ → Type 0
 numbersRead (several.Count n) s = (numberList s ≡ some (firstNumbers (fieldsOf comma s))) × (n ≡ length (firstNumbers (fieldsOf comma s)))
 numbersRead several.Fault s = numberList s ≡ none
 
--- an ALT that is spelled so
+-- an ALT that is spelled so; letters of either case are read as capitals
 abbrev pub alleleRead : AlleleRead → List ℕ → Option Allele
-alleleRead allele.Letters s = some (letters s)
+alleleRead allele.Letters s = some (letters (map capital s))
 alleleRead allele.SpanDel s = some spanDel
 alleleRead allele.NonRef s = some nonRef
 alleleRead allele.Fault s = none

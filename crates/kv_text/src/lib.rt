@@ -4,7 +4,8 @@ ghost use Prim.Native.Nat.{_+_};
 ghost use lib.Dec.{eqb};
 ghost use lib.ListN.{drop, length, set};
 ghost use lib.Seq.{sets};
-ghost use Rattle.definitions.specs.Alleles.{alleleOf, isLetter, lettersOf};
+ghost use mathlib.Core.List.{map};
+ghost use Rattle.definitions.specs.Alleles.{alleleOf, capital, isLetter, lettersOf};
 ghost use Rattle.definitions.specs.Bytes.{comma, compareBytes, fieldsOf, sameBytes, stripPrefix};
 ghost use Rattle.definitions.specs.Lists.{isThere};
 ghost use Rattle.definitions.specs.Numbers.{isDigit, isNameByte, name, number, numberList, orMissing};
@@ -287,17 +288,55 @@ pub fn is_name(s: &[u8]) -> bool
     true
 }
 
-// Whether a byte is one of ACGTN.
+// Whether a byte is one of ACGTN, in either case.
 fn is_letter(b: u8) -> bool
-    ensures { λ r. ⌜ r ≡ isLetter b ⌝ }
+    ensures { λ r. ⌜ r ≡ isLetter (capital b) ⌝ }
 {
     match b {
-        b'A' | b'C' | b'G' | b'T' | b'N' => true,
+        b'A' | b'C' | b'G' | b'T' | b'N' | b'a' | b'c' | b'g' | b't' | b'n' => true,
         _ => false,
     }
 }
 
-// Whether a field is letters of ACGTN, 1 to `most` of them.
+// A byte of acgtn as its capital, any other as itself.
+pub fn capital(b: u8) -> u8
+    ensures { λ r. ⌜ r ≡ capital b ⌝ }
+{
+    match b {
+        b'a' | b'c' | b'g' | b't' | b'n' => b - 32,
+        _ => b,
+    }
+}
+
+// Whether two bytes have the same capital: most often they are equal as they stand.
+fn same_letter(a: u8, b: u8) -> bool
+    ensures { λ r. ⌜ r ≡ eqb (capital a) (capital b) ⌝ }
+{
+    if a == b {
+        return true;
+    }
+    let raised = capital(a);
+    raised == capital(b)
+}
+
+// The same letters in either case: as many, and each with the same capital.
+pub fn same_letters(a: &[u8], b: &[u8]) -> bool
+    ensures { λ r. ⌜ r ≡ sameBytes (map capital (now (a .entry))) (map capital (now (b .entry))) ⌝ }
+{
+    if b.len() != a.len() {
+        return false;
+    }
+    let mut i = 0;
+    while i < a.len() {
+        if !same_letter(a[i], b[i]) {
+            return false;
+        }
+        i += 1;
+    }
+    true
+}
+
+// Whether a field is letters of ACGTN in either case, 1 to `most` of them.
 pub fn is_letters(s: &[u8], most: usize) -> bool
     ensures { λ r. ⌜ r ≡ isThere (lettersOf most (now (s .entry))) ⌝ }
 {

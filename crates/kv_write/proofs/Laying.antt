@@ -1,12 +1,13 @@
 -- Bytes laid over a buffer: the laws for the proofs of the writers and of their callers. `sets d at bytes` of lib.Seq
 -- stores the bytes that fit; `Laid` is what a writer promises; `Left` is the invariant of a writer's loop.
 use Prim.Native.Nat.{_+_, _-_, _<_, _^_, _≤_, suc, ℕ}
-use lib.ListN.{drop, length, length-append, take, take-append-drop}
+use lib.ListN.{drop, length, length-append, length-map, take, take-append-drop}
 use lib.Seq.{drop-drop, length-sets, length-take-le, set-out, sets, sets-eq}
-use mathlib.Core.List.{List, [], _++_, _∷_, append-assoc}
+use mathlib.Core.List.{List, [], _++_, _∷_, append-assoc, map}
 use mathlib.Core.Path.{_∙_, _≡_, ap, refl, sym}
 use native.Mathlib.Nat.{add-suc, add-zero, suc-add, zero-add}
 use native.Mathlib.Omega.{arith}
+use Rattle.laws.proofs.Members.{take-map}
 use Rattle.kv_write.specs.Laid.{Laid}
 
 -- sets
@@ -67,6 +68,15 @@ laid-start {d} {bytes} {part} {at} l h p =
           ∙ sym (sets-append d at (take room bytes) (drop room bytes))
           ∙ ap (sets d at) all;
     }
+
+-- the same where each byte is laid as another
+pub laid-start-map : (f : ℕ → ℕ) (bytes : List ℕ) {d part : List ℕ} {at : ℕ} → at ≤ length d → length d ≤ at + length bytes
+    → part ≡ map f (take (length d - at) bytes)
+    → Laid d at (map f bytes) (take at d ++ (part ++ drop (length d - at) (drop at d))) (at + length bytes)
+laid-start-map f bytes {d} {part} {at} l h p =
+    let start = laid-start {d = d} {bytes = map f bytes} {part = part} {at = at} l (rw (length-map bytes f) h)
+    (p ∙ sym (take-map f bytes (length d - at))) in
+    record { next = ap (λ (n : ℕ). at + n) (sym (length-map bytes f)); laid = start .laid }
 
 -- bytes are laid, and then bytes behind them
 pub laid-append : {d d′ d″ xs ys : List ℕ} {at at′ at″ : ℕ}

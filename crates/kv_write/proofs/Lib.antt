@@ -4,3 +4,4 @@ pub mod NumberList
 pub mod Lines
 pub mod StoredDigits
 pub mod ShortNumbers
+pub mod Copying

@@ -3,11 +3,12 @@
 // Each requires that this offset fits a usize, since a function that took every offset would have to return a wrong one
 // where the sum overflows.
 ghost use mathlib.Core.Bool.{cond};
-ghost use mathlib.Core.List.{[], _∷_};
+ghost use mathlib.Core.List.{[], _∷_, map};
 ghost use mathlib.Core.Path.{_≡_};
 ghost use Prim.Native.Nat.{_+_, _*_, _<_, _≤_, _^_};
 ghost use lib.Dec.{leb};
 ghost use lib.ListN.{length};
+ghost use Rattle.definitions.specs.Alleles.{capital};
 ghost use Rattle.definitions.specs.Bytes.{text};
 ghost use Rattle.definitions.specs.Lists.{onlyIf};
 ghost use Rattle.definitions.specs.Numbers.{decimal, decimals, writtenOrMissing};
@@ -53,6 +54,36 @@ pub fn put_bytes(out: &mut [u8], at: usize, bytes: &[u8]) -> usize
     }
     let room = out.len() - at;
     copy_bytes(&mut out[at..], &bytes[..room]);
+    end
+}
+
+// Copies bytes over as many, letters as capitals.
+fn copy_letters(to: &mut [u8], bytes: &[u8])
+    requires { ⌜ length (now to) ≡ length (now bytes) ⌝ }
+    ensures { λ _. ⌜ now (to .exit) ≡ map capital (now (bytes .entry)) ⌝ }
+{
+    for i in 0..bytes.len() {
+        let letter = bytes[i];
+        let raised = kv_text::capital(letter);
+        to[i] = raised;
+    }
+}
+
+// Lays the bytes of alleles, their letters as capitals.
+pub fn put_letters(out: &mut [u8], at: usize, bytes: &[u8]) -> usize
+    requires { ⌜ at + length (map capital (now bytes)) < 2 ^ 64 ⌝ }
+    ensures { λ r. ⌜ Laid (now (out .entry)) at (map capital (now (bytes .entry))) (now (out .exit)) r ⌝ }
+{
+    let end = at + bytes.len();
+    if out.len() <= at {
+        return end;
+    }
+    if end <= out.len() {
+        copy_letters(&mut out[at..end], bytes);
+        return end;
+    }
+    let room = out.len() - at;
+    copy_letters(&mut out[at..], &bytes[..room]);
     end
 }
 

@@ -10,7 +10,7 @@ use Rattle.definitions.specs.Alleles.{Allele, RefAlts, hasNonRef, isBlock, lett
 use Rattle.definitions.specs.Lists.{anyOf}
 use Rattle.laws.proofs.Bytes.{same-is, same-refl}
 use Rattle.laws.proofs.Members.{any-member}
-use Rattle.laws.proofs.Tests.{both, both-of}
+use Rattle.laws.proofs.Tests.{bool-ext, both, both-of}
 
 -- ---- sameAllele
 
@@ -31,6 +31,11 @@ unfolding sameAllele
 allele-refl (letters s) = same-refl s
 allele-refl spanDel = refl
 allele-refl nonRef = refl
+
+pub allele-flip : (a b : Allele) → sameAllele a b ≡ sameAllele b a
+allele-flip a b = bool-ext _ _
+    (λ e. rw (allele-is a b e) (allele-refl b))
+    (λ e. rw (allele-is b a e) (allele-refl a))
 
 -- ---- isBlock
 

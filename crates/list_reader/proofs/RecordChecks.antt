@@ -9,7 +9,7 @@ use mathlib.Core.Option.{Option, none, some}
 use mathlib.Core.Path.{_∙_, _≡_, refl, sym}
 use native.Mathlib.Omega.{arith}
 use Rattle.alleles.specs.Alleles.{AllelesRight}
-use Rattle.definitions.specs.Alleles.{hasNonRef, isBlock, onlyNonRef, refAltsOf}
+use Rattle.definitions.specs.Alleles.{capital, hasNonRef, isBlock, onlyNonRef, refAltsOf}
 use Rattle.definitions.specs.Bytes.{comma, fieldsOf}
 use Rattle.definitions.specs.Checked.{Checked, _>>=_, _>>_, accepted, orRefuse, refused, require}
 use Rattle.definitions.specs.Genotypes.{SampleData}
@@ -19,7 +19,7 @@ use Rattle.definitions.specs.Records.{Record, recordEnd}
 use Rattle.laws.proofs.Checked.{not-required, or-refused, required, then, then-refused}
 use Rattle.laws.proofs.Tests.{bool-ext}
 use Rattle.site_groups.specs.SiteGroups.{bytesOf}
-use Rattle.tables.specs.Tables.{alleleSpelled, refAltsSpelled}
+use Rattle.laws.proofs.AllelesAsRead.{alleleAsRead, refAltsAsRead}
 use Rattle.list_reader.specs.RecordGroups.{PreviousOf, Ready, RecordChecked, RecordFound, TextTo, allelesAt, altsAt, comesAfterLast, endOption, recordFrom, recordGroup, rightCounts}
 use Rattle.list_reader.specs.declared.Previous.{Previous}
 use Rattle.list_reader.specs.declared.Previous.the-variants.{Last, None}
@@ -86,10 +86,10 @@ came-after s before None contig pos e = rw e
 came-after s before (Last part end) contig pos e = rw (e .nearest, e .on, e .to)
 
 -- a block by the numbers of alleles and of letters
-module _ (ref alt : List ℕ) (n : ℕ) (number : n ≡ suc (length (fieldsOf comma alt))) (has : hasNonRef (refAltsSpelled ref alt) ≡ true) where
-  two : eqb (length (refAltsSpelled ref alt .alts)) 1 ≡ eqb n 2
-  unfolding refAltsSpelled
-  two = rw (length-map (fieldsOf comma alt) alleleSpelled) (bool-ext _ _
+module _ (ref alt : List ℕ) (n : ℕ) (number : n ≡ suc (length (fieldsOf comma alt))) (has : hasNonRef (refAltsAsRead ref (fieldsOf comma alt)) ≡ true) where
+  two : eqb (length (refAltsAsRead ref (fieldsOf comma alt) .alts)) 1 ≡ eqb n 2
+  unfolding refAltsAsRead
+  two = rw (length-map (fieldsOf comma alt) alleleAsRead) (bool-ext _ _
       (λ e. let k = eqb-true (length (fieldsOf comma alt)) 1 e in eq-eqb n 2 (omega arith))
       (λ e. let k = eqb-true n 2 e in eq-eqb (length (fieldsOf comma alt)) 1 (omega arith)))
 
@@ -97,11 +97,11 @@ module _ (ref alt : List ℕ) (n : ℕ) (number : n ≡ suc (length (fieldsOf co
   and-true true = refl
   and-true false = refl
 
-  block : isBlock (refAltsSpelled ref alt) ≡ (eqb n 2 && eqb (length ref) 1)
+  block : isBlock (refAltsAsRead ref (fieldsOf comma alt)) ≡ (eqb n 2 && eqb (length ref) 1)
   unfolding isBlock onlyNonRef
-  block = rw (has, two, and-true (eqb n 2)) (unfold refAltsSpelled in refl)
+  block = rw (has, two, and-true (eqb n 2)) (unfold refAltsAsRead in rw (length-map ref capital))
 
-  allowed : (end : Option ℕ) → endAllowed (refAltsSpelled ref alt) end ≡ (not (isThere end) || (eqb n 2 && eqb (length ref) 1))
+  allowed : (end : Option ℕ) → endAllowed (refAltsAsRead ref (fieldsOf comma alt)) end ≡ (not (isThere end) || (eqb n 2 && eqb (length ref) 1))
   unfolding endAllowed isThere
   allowed none = refl
   allowed (some end) = block

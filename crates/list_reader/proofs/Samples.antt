@@ -29,7 +29,8 @@ use Rattle.site_groups.specs.SiteGroups.{Counted, bytesOf, siteFrom}
 use Rattle.site_groups.specs.declared.SiteAlleles.{SiteAlleles}
 use Rattle.site_groups.specs.declared.SitePlace.{SitePlace}
 use Rattle.site_groups.specs.declared.SiteValues.{SiteValues}
-use Rattle.tables.specs.Tables.{alleleSpelled, refAltsSpelled, siteAt}
+use Rattle.laws.proofs.AllelesAsRead.{alleleAsRead, refAltsAsRead}
+use Rattle.tables.specs.Tables.{siteAt}
 use Rattle.list_reader.proofs.RecordLines.{unless-1}
 use Rattle.list_reader.specs.RecordGroups.{HeadTo, Misspelled, SampleRead, SampleTo, TextTo, altsAt, groupLines, recordGroup, rightCounts, sampleAt, sampleFrom, withoutGt}
 use Rattle.list_reader.specs.declared.RecordHead.{RecordHead}
@@ -108,10 +109,10 @@ pl-there t c h = go (numberList t) (numbers-sound t) h
 
 -- AD has as many numbers as there are alleles
 ad-by : (ref alt t : List ℕ) (c : ℕ) → c ≡ length (Option·getD (numberList t) [])
-    → missingOr (λ ad. eqb (length ad) (suc (length (refAltsSpelled ref alt .alts)))) (numberList t)
+    → missingOr (λ ad. eqb (length ad) (suc (length (refAltsAsRead ref (fieldsOf comma alt) .alts)))) (numberList t)
     ≡ (eqb c 0 || eqb c (suc (length (fieldsOf comma alt))))
-unfolding missingOr refAltsSpelled
-ad-by ref alt t c h = rw (length-map (fieldsOf comma alt) alleleSpelled) (go (numberList t) (numbers-sound t) h)
+unfolding missingOr refAltsAsRead
+ad-by ref alt t c h = rw (length-map (fieldsOf comma alt) alleleAsRead) (go (numberList t) (numbers-sound t) h)
   where
     go : (o : Option (List ℕ)) → ((ns : List ℕ) → o ≡ some ns → Numbers ns) → c ≡ length (Option·getD o [])
         → missingOr (λ ad. eqb (length ad) (suc (length (fieldsOf comma alt)))) o ≡ (eqb c 0 || eqb c (suc (length (fieldsOf comma alt))))

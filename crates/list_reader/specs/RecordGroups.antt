@@ -23,7 +23,8 @@ use Rattle.site_groups.specs.SiteGroups.{Counted, bytesOf, numbersOf}
 use Rattle.site_groups.specs.declared.Part.{Part}
 use Rattle.site_groups.specs.declared.SiteAlleles.{SiteAlleles}
 use Rattle.site_groups.specs.declared.SiteValues.{SiteValues}
-use Rattle.tables.specs.Tables.{adAt, codeOption, column, plAt, refAltsSpelled, rowLength}
+use Rattle.laws.proofs.AllelesAsRead.{refAltsAsRead}
+use Rattle.tables.specs.Tables.{adAt, codeOption, column, plAt, rowLength}
 use Rattle.list_reader.specs.declared.EndAt.{EndAt}
 use Rattle.list_reader.specs.declared.EndAt.the-variants as end
 use Rattle.list_reader.specs.declared.GtAt.{GtAt}
@@ -116,7 +117,7 @@ endFound end.Wrong = unread
 
 -- REF and the ALTs that two parts of the text spell, and how many ALTs they are
 abbrev pub allelesAt : List ℕ → SiteAlleles → RefAlts
-allelesAt s a = refAltsSpelled (bytesOf s (a .refs)) (bytesOf s (a .alts))
+allelesAt s a = refAltsAsRead (bytesOf s (a .refs)) (fieldsOf comma (bytesOf s (a .alts)))
 
 abbrev pub altsAt : List ℕ → SiteAlleles → ℕ
 altsAt s a = length (fieldsOf comma (bytesOf s (a .alts)))

@@ -5,7 +5,7 @@ use mathlib.Core.Bool.{Bool, false, true}
 use mathlib.Core.List.{List, [], _++_, _∷_, append-assoc, flatMap, map, map-append, reverse}
 use mathlib.Core.Path.{_∙_, _≡_, ap, refl, sym}
 use native.Mathlib.Omega.{arith}
-use Rattle.definitions.specs.Alleles.{Allele, letters, nonRef, spanDel, spelled, writtenAlleles}
+use Rattle.definitions.specs.Alleles.{Allele, capital, letters, nonRef, spanDel, spelled, writtenAlleles}
 use Rattle.definitions.specs.Bytes.{comma, joinedBy, text}
 use Rattle.definitions.specs.Lists.{allOf, anyOf}
 use Rattle.definitions.specs.MergedAlleles.{mergedAlts, showsSpanDel, spanDelAlt}
@@ -66,9 +66,9 @@ module _ {d : List ℕ} {len n : ℕ} (h : Listed d len n) where
   one-too-many many = omega (arith, length-behind (listed d len n) (spanDel ∷ nonRef ∷ []), h .count)
 
 pub merged-added : (s rows ref : List ℕ) (position : ℕ) (found : List ℕ)
-    → mergedAlts ref position (sitesAt s rows found)
+    → mergedAlts (map capital ref) position (sitesAt s rows found)
     ≡ withEnds (addAll [] (flatMap (siteLetters s rows ref position) (reverse found)))
-    (anyOf (showsSpanDel ref position) (sitesAt s rows found))
+    (anyOf (showsSpanDel (map capital ref) position) (sitesAt s rows found))
 unfolding mergedAlts
 merged-added s rows ref position found = rw (letters-added s rows ref position found)
 
@@ -80,8 +80,8 @@ letters-too-many alts false many = omega (arith, length-behind alts (nonRef ∷ 
 
 pub merged-too-many : (s rows ref : List ℕ) (position : ℕ) (found : List ℕ)
     → 14 < length (addAll [] (flatMap (siteLetters s rows ref position) (reverse found)))
-    → 15 < length (mergedAlts ref position (sitesAt s rows found))
+    → 15 < length (mergedAlts (map capital ref) position (sitesAt s rows found))
 merged-too-many s rows ref position found many =
     rw (merged-added s rows ref position found)
     (letters-too-many (addAll [] (flatMap (siteLetters s rows ref position) (reverse found)))
-    (anyOf (showsSpanDel ref position) (sitesAt s rows found)) many)
+    (anyOf (showsSpanDel (map capital ref) position) (sitesAt s rows found)) many)

@@ -1,21 +1,22 @@
--- `found-sound`: what `collect_target_alleles` requires holds of sites found in the table of a sound cohort.
+-- `found-sound`: what `collect_target_alleles` requires holds of sites found in the table of a sound cohort, and of REF as spelled.
 use Prim.Native.Nat.{_<_, _≤_, ℕ}
-use lib.ListN.{length}
-use mathlib.Core.List.{List}
-use mathlib.Core.Path.{refl, subst}
+use lib.ListN.{length, length-map}
+use mathlib.Core.List.{List, map}
+use mathlib.Core.Path.{_≡_, refl, subst}
 use native.Mathlib.Omega.{arith}
-use Rattle.alleles.proofs.Spelled.{spelled-so}
-use Rattle.definitions.specs.Alleles.{Allele, isLetter, letters, nonRef, spanDel, spelled}
+use Rattle.definitions.specs.Alleles.{Allele, capital, isLetter, letters, nonRef, spanDel, spelled}
 use Rattle.definitions.specs.Bytes.{comma, fieldsOf, text}
 use Rattle.definitions.specs.Cohort.{Site}
 use Rattle.definitions.specs.Limits.{maxSiteLetters}
 use Rattle.definitions.specs.Lists.{anyOf, numbersFrom}
-use Rattle.laws.proofs.Every.{Every, every-map, every-member, every-of-map-back}
-use Rattle.laws.proofs.Fields.{free-by}
+use Rattle.laws.proofs.AllelesAsRead.{alleleAsRead, as-read-spelled, refAltsAsRead}
+use Rattle.laws.proofs.Every.{Every, every-map, every-member, every-of-map-back, every-passed}
+use Rattle.laws.proofs.Fields.{Free}
 use Rattle.laws.proofs.Members.{numbers-member}
 use Rattle.laws.proofs.SoundInput.{SoundSite}
 use Rattle.laws.proofs.SoundValues.{Letters, SoundAllele}
-use Rattle.tables.specs.Tables.{SiteRows, alleleSpelled, partAt, refAltsSpelled, siteAt}
+use Rattle.laws.proofs.Tests.{told-apart}
+use Rattle.tables.specs.Tables.{SiteRows, partAt, siteAt}
 use Rattle.merged_alleles.specs.SoundSites.{ShortFields, SoundRow, SoundSites}
 
 short-allele : (a : Allele) → SoundAllele maxSiteLetters a → length (spelled a) ≤ maxSiteLetters
@@ -24,12 +25,18 @@ short-allele (letters t) h = h .not-too-long
 short-allele spanDel h = omega arith
 short-allele nonRef h = omega arith
 
+-- letters in either case have no comma
+no-comma : (most : ℕ) (ref : List ℕ) → Letters most (map capital ref) → Free comma ref
+unfolding isLetter capital anyOf text comma
+no-comma most ref l = every-map (λ b h. told-apart (λ c. isLetter (capital c)) h refl)
+    (every-of-map-back capital ref (every-passed isLetter (map capital ref) (l .all-letters)))
+
 module _ (s rows : List ℕ) where
   short-alts : (site : ℕ) → SoundSite (siteAt s rows site) → ShortFields (partAt 11 12 s rows site)
-  unfolding siteAt refAltsSpelled
+  unfolding siteAt refAltsAsRead
   short-alts site h = every-map
-      (λ f k. subst (λ (l : List ℕ). length l ≤ maxSiteLetters) (spelled-so f) (short-allele (alleleSpelled f) k))
-      (every-of-map-back alleleSpelled (fieldsOf comma (partAt 11 12 s rows site)) (h .alleles .alts))
+      (λ f k. rw (as-read-spelled f, length-map f capital) at (short-allele (alleleAsRead f) k))
+      (every-of-map-back alleleAsRead (fieldsOf comma (partAt 11 12 s rows site)) (h .alleles .alts))
 
   module _ {sites : List Site} (table : SiteRows s rows sites) (sound : Every SoundSite sites) where
     row-sound : (site : ℕ) → site < length sites → SoundRow s rows site
@@ -41,10 +48,9 @@ module _ (s rows : List ℕ) where
           block = table .blocks site below;
         }
 
-    pub found-sound : {found ref : List ℕ} → Every (λ site. site < length sites) found → Letters maxSiteLetters ref
+    pub found-sound : {found ref : List ℕ} → Every (λ site. site < length sites) found → Letters maxSiteLetters (map capital ref)
         → SoundSites s rows found ref
-    unfolding isLetter anyOf text comma
     found-sound {ref = ref} below l = record {
       sites = every-map row-sound below;
-      reference = record { short = l .not-too-long; free = free-by isLetter ref (l .all-letters) refl };
+      reference = record { short = rw (length-map ref capital) at (l .not-too-long); free = no-comma maxSiteLetters ref l };
     }

@@ -8,29 +8,30 @@ use mathlib.Core.List.{List, [], _∷_, map}
 use mathlib.Core.Option.{none, some}
 use mathlib.Core.Path.{_∙_, _≡_, ap, refl, sym}
 use native.Mathlib.Numerals.{add-one}
-use Rattle.definitions.specs.Alleles.{RefAlts, isBlock, letters, nonRef, sameAllele, spanDel, spelled}
+use Rattle.definitions.specs.Alleles.{RefAlts, capital, isBlock, letters, nonRef, sameAllele, spanDel, spelled}
 use Rattle.definitions.specs.Bytes.{comma, fieldsOf, sameBytes}
 use Rattle.definitions.specs.Lists.{anyOf}
 use Rattle.definitions.specs.MergedAlleles.{extendedAllele, isAllele, remappedAlleles, showsSpanDel, spanningReading}
 use Rattle.definitions.specs.MergedRef.{siteRef, startsAt}
 use Rattle.laws.proofs.Alleles.{block-is}
+use Rattle.laws.proofs.AllelesAsRead.{alleleAsRead, refAltsAsRead}
 use Rattle.laws.proofs.Bytes.{same-flip}
-use Rattle.tables.specs.Tables.{alleleSpelled, column, partAt, refAltsSpelled, siteAt}
+use Rattle.tables.specs.Tables.{column, partAt, siteAt}
 use Rattle.merged_alleles.proofs.Adding.{or-false, or-true}
 use Rattle.merged_alleles.specs.Alts.{sitesAt}
 
 -- a site that starts there
 starting : (ref own : List ℕ) (fs : List (List ℕ))
-    → anyOf (isAllele spanDel) (map (λ a. some (extendedAllele ref own a)) (map alleleSpelled fs)) ≡ anyOf (sameBytes (spelled spanDel)) fs
-unfolding anyOf isAllele extendedAllele alleleSpelled sameAllele
+    → anyOf (isAllele spanDel) (map (λ a. some (extendedAllele ref own a)) (map alleleAsRead fs)) ≡ anyOf (sameBytes (spelled spanDel)) fs
+unfolding anyOf isAllele extendedAllele alleleAsRead sameAllele
 starting ref own [] = refl
 starting ref own (f ∷ fs) = go (sameBytes f (spelled spanDel)) (same-flip f (spelled spanDel)) (sameBytes f (spelled nonRef)) (starting ref own fs)
   where
     rest : Bool
-    rest = anyOf (isAllele spanDel) (map (λ a. some (extendedAllele ref own a)) (map alleleSpelled fs))
+    rest = anyOf (isAllele spanDel) (map (λ a. some (extendedAllele ref own a)) (map alleleAsRead fs))
 
     go : (a : Bool) → a ≡ sameBytes (spelled spanDel) f → (b : Bool) → rest ≡ anyOf (sameBytes (spelled spanDel)) fs
-        → (isAllele spanDel (some (extendedAllele ref own (cond a spanDel (cond b nonRef (letters f))))) || rest)
+        → (isAllele spanDel (some (extendedAllele ref own (cond a spanDel (cond b nonRef (letters (map capital f)))))) || rest)
         ≡ (sameBytes (spelled spanDel) f || anyOf (sameBytes (spelled spanDel)) fs)
     go true e b r = rw (← e)
     go false e true r = rw (← e) r
@@ -50,8 +51,8 @@ spanning own r = go (isBlock r) refl
 module _ (s rows : List ℕ) (position site : ℕ) (ref : List ℕ) where
   pub shows-starting : eqb (column 2 rows site) position ≡ true
       → anyOf (sameBytes (spelled spanDel)) (fieldsOf comma (partAt 11 12 s rows site)) ≡ showsSpanDel ref position (siteAt s rows site)
-  unfolding showsSpanDel remappedAlleles siteRef startsAt siteAt refAltsSpelled anyOf isAllele extendedAllele sameAllele
-  shows-starting e = rw e (sym (or-false _ ∙ starting ref (partAt 9 10 s rows site) (fieldsOf comma (partAt 11 12 s rows site))))
+  unfolding showsSpanDel remappedAlleles siteRef startsAt siteAt refAltsAsRead anyOf isAllele extendedAllele sameAllele
+  shows-starting e = rw e (sym (or-false _ ∙ starting ref (map capital (partAt 9 10 s rows site)) (fieldsOf comma (partAt 11 12 s rows site))))
 
   pub shows-spanning : eqb (column 2 rows site) position ≡ false
       → not (isBlock (siteAt s rows site .alleles)) ≡ showsSpanDel ref position (siteAt s rows site)

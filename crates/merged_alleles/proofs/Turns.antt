@@ -1,15 +1,15 @@
 -- What the functions that lay letter ALTs do to the list: one candidate, the fields of a site, the sites.
 use Prim.Native.Nat.{_+_, _-_, _<_, _≤_, suc, ℕ}
 use lib.Dec.{eqb}
-use lib.ListN.{drop, getD, length, length-append, length-drop, length-take, take}
+use lib.ListN.{drop, getD, length, length-append, length-drop, length-map, length-take, take}
 use lib.Seq.{drop-at, take-all, take-suc, take-take}
 use mathlib.Core.Bool.{Bool, cond, false, true}
-use mathlib.Core.List.{List, [], _++_, _∷_, append-assoc, flatMap, foldl-append, reverse, reverse-append}
+use mathlib.Core.List.{List, [], _++_, _∷_, append-assoc, flatMap, foldl-append, map, reverse, reverse-append}
 use mathlib.Core.Path.{_∙_, _≡_, ap, refl, subst, sym}
 use native.Mathlib.Decide.{decLt}
 use native.Mathlib.Nat.{min-eq-left}
 use native.Mathlib.Omega.{arith}
-use Rattle.definitions.specs.Alleles.{nonRef, spanDel, spelled}
+use Rattle.definitions.specs.Alleles.{capital, nonRef, spanDel, spelled}
 use Rattle.definitions.specs.Bytes.{comma, fieldsOf, sameBytes}
 use Rattle.definitions.specs.Limits.{maxSiteLetters}
 use Rattle.definitions.specs.Lists.{anyOf}
@@ -17,6 +17,7 @@ use Rattle.kv_text.proofs.Fields.{field-first, field-has-none, field-last}
 use Rattle.kv_text.specs.Fields.{between, fieldLength}
 use Rattle.kv_write.proofs.Laying.{laid-append, laid-length}
 use Rattle.kv_write.specs.Laid.{Laid}
+use Rattle.laws.proofs.Capitals.{comma-no-letter, free-capitals}
 use Rattle.laws.proofs.Every.{Every, every-append, every-drop, every-uncons}
 use Rattle.laws.proofs.Fields.{Free}
 use Rattle.tables.specs.Tables.{column, partAt}
@@ -27,6 +28,13 @@ use Rattle.merged_alleles.specs.SoundSites.{ShortField}
 use Rattle.merged_alleles.specs.declared.AltsAt.the-variants.{Alts, TooMany}
 
 -- ---- a candidate
+
+-- raised, a field is as short and has no comma either
+pub short-capitals : {f : List ℕ} → ShortField f → ShortField (map capital f)
+short-capitals {f} h = record {
+  short = rw (length-map f capital) (h .short);
+  free = free-capitals comma (comma-no-letter .0) (comma-no-letter .1) (h .free);
+}
 
 module _ {d d₁ d₂ d₃ : List ℕ} {len n from middle next : ℕ} (h : Listed d len n) (field end : List ℕ)
     (f : ShortField field) (e : ShortField end)
@@ -106,12 +114,12 @@ module _ (end f : List ℕ) where
   unfolding extendedLetters
   no-letters-symbol h = go (sameBytes f (spelled spanDel))
     where
-      go : (b : Bool) → cond b [] (cond (sameBytes f (spelled nonRef)) [] ((f ++ end) ∷ [])) ≡ []
+      go : (b : Bool) → cond b [] (cond (sameBytes f (spelled nonRef)) [] ((map capital f ++ map capital end) ∷ [])) ≡ []
       go true = refl
       go false = rw h
 
   pub letters-extended : sameBytes f (spelled spanDel) ≡ false → sameBytes f (spelled nonRef) ≡ false
-      → extendedLetters end f ≡ (f ++ end) ∷ []
+      → extendedLetters end f ≡ (map capital f ++ map capital end) ∷ []
   unfolding extendedLetters
   letters-extended h k = rw (h, k)
 

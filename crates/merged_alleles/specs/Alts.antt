@@ -1,11 +1,11 @@
--- A list of ALTs as it is laid, and the letter ALTs of the sites in a table, by their bytes.
+-- A list of ALTs as it is laid, and the letter ALTs of the sites in a table, by the bytes that spell them in either case.
 use Prim.Native.Nat.{_*_, _<_, _≤_, suc, zero, ℕ}
 use lib.Dec.{eqb}
 use lib.ListN.{drop, length, take}
 use mathlib.Core.Bool.{Bool, cond}
 use mathlib.Core.List.{List, [], _++_, _∷_, flatMap, foldl, map}
 use mathlib.Core.Path.{_≡_}
-use Rattle.definitions.specs.Alleles.{Allele, letters, nonRef, spanDel, spelled, writtenAlleles}
+use Rattle.definitions.specs.Alleles.{Allele, capital, letters, nonRef, spanDel, spelled, writtenAlleles}
 use Rattle.definitions.specs.Bytes.{comma, fieldsOf, sameBytes}
 use Rattle.definitions.specs.Cohort.{Site}
 use Rattle.definitions.specs.Lists.{anyOf}
@@ -50,10 +50,10 @@ Added alts fs d TooMany = 14 < length (addAll alts fs)
 
 -- ---- the letter ALTs of a site
 
--- what a field reads as, with the end of REF that the site's own lacks, if it is letters
+-- what a field reads as, with the end of REF that the site's own lacks, if it is letters: capitals
 unfoldable pub extendedLetters : List ℕ → List ℕ → List (List ℕ)
 extendedLetters end f =
-    cond (sameBytes f (spelled spanDel)) [] (cond (sameBytes f (spelled nonRef)) [] ((f ++ end) ∷ []))
+    cond (sameBytes f (spelled spanDel)) [] (cond (sameBytes f (spelled nonRef)) [] ((map capital f ++ map capital end) ∷ []))
 
 -- those of the site in a row, if it starts at the position
 unfoldable pub siteLetters : List ℕ → List ℕ → List ℕ → ℕ → ℕ → List (List ℕ)

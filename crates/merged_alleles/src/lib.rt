@@ -1,10 +1,11 @@
-// The ALTs of the record at a position, laid as a list with commas into the caller's buffer (row 13: over 16 alleles).
+// The ALTs of the record at a position, laid as a list with commas, letters as capitals, into the caller's buffer (row 13: over 16 alleles).
 // Sites stand in a table; those over the position are given by their numbers, in the order of samples.
 ghost use mathlib.Core.Path.{_≡_};
-ghost use mathlib.Core.List.{List, [], _++_, _∷_, flatMap, reverse};
+ghost use mathlib.Core.List.{List, [], _++_, _∷_, flatMap, map, reverse};
 ghost use Prim.Native.Nat.{ℕ, _+_, _<_, _≤_, _^_};
 ghost use lib.Dec.{eqb};
 ghost use lib.ListN.{drop, length};
+ghost use Rattle.definitions.specs.Alleles.{capital};
 ghost use Rattle.definitions.specs.Bytes.{comma, fieldsOf, sameBytes};
 ghost use Rattle.definitions.specs.Lists.{anyOf};
 ghost use Rattle.definitions.specs.MergedAlleles.{mergedAlts, showsSpanDel};
@@ -54,16 +55,16 @@ fn is_listed(text: &[u8], len: usize, n: usize, from: usize) -> bool
     alleles::among_fields(&text[from..], &text[..len])
 }
 
-// Lays letters and the end of REF behind the list, and adds them to it unless they are on it.
+// Lays letters and the end of REF, as capitals, behind the list, and adds them to it unless they are on it.
 fn add_allele(field: &[u8], end: &[u8], alts: &mut [u8], len: usize, n: usize) -> AltsAt
     requires { ⌜ Listed (now alts) len n × ShortField (now field) × ShortField (now end) ⌝ }
     ensures { λ r. ⌜ Added (listed (now (alts .entry)) len n)
-        ((now (field .entry) ++ now (end .entry)) ∷ [])
+        ((map capital (now (field .entry)) ++ map capital (now (end .entry))) ∷ [])
         (now (alts .exit)) r ⌝ }
 {
     let from = put_comma(alts, len, n);
-    let middle = kv_write::put_bytes(alts, from, field);
-    let next = kv_write::put_bytes(alts, middle, end);
+    let middle = kv_write::put_letters(alts, from, field);
+    let next = kv_write::put_letters(alts, middle, end);
     if is_listed(&alts[..next], len, n, from) {
         return AltsAt::Alts(len, n);
     }
@@ -226,8 +227,8 @@ fn put_ends(alts: &mut [u8], len: usize, n: usize, shown: bool) -> AltsAt
 
 // ---- all ALTs
 
-// Lays the ALTs of the record at a position: the letter ALTs, last sample first, none twice; `*` if a site shows it;
-// `<NON_REF>`. Over 15 are too many. `alts` is a work buffer: its beginning is the ALTs' text (`AltsWritten`). Nothing is promised of
+// Lays the ALTs of the record at a position: the letter ALTs as capitals, last sample first, none twice; `*` if a site shows it;
+// `<NON_REF>`. `reference` is REF as spelled. Over 15 are too many. `alts` is a work buffer: its beginning is the ALTs' text (`AltsWritten`). Nothing is promised of
 // what stands behind it, or of the buffer where they are too many: an ALT is laid behind the list before it is looked for there.
 // `found-sound` of proofs/Sound.antt shows what is required of sites found in the table of a sound cohort.
 pub fn collect_target_alleles(
@@ -240,7 +241,7 @@ pub fn collect_target_alleles(
 ) -> AltsAt
     requires { ⌜ (4096 ≤ length (now alts)) × SoundSites (now s) (now rows) (now found) (now reference) ⌝ }
     ensures { λ r. ⌜ AltsLaid
-        (mergedAlts (now (reference .entry)) (position .0) (sitesAt (now (s .entry)) (now (rows .entry)) (now (found .entry))))
+        (mergedAlts (map capital (now (reference .entry))) (position .0) (sitesAt (now (s .entry)) (now (rows .entry)) (now (found .entry))))
         (now (alts .exit)) r ⌝ }
 {
     let letters = letter_alts(s, rows, found, position, reference, alts);

@@ -10,7 +10,7 @@ use native.Mathlib.Nat.{zero-add}
 use native.Mathlib.Omega.{arith}
 use Rattle.covering_sites.proofs.CoveringFound.{covering-found, found-few, found-owners, member-found}
 use Rattle.covering_sites.specs.Covering.{Found, coveringSamples}
-use Rattle.definitions.specs.Alleles.{Allele, RefAlts}
+use Rattle.definitions.specs.Alleles.{Allele, RefAlts, capital}
 use Rattle.definitions.specs.Checked.{Checked, accepted, refused}
 use Rattle.definitions.specs.CombinedList.{intervalRecord}
 use Rattle.definitions.specs.CoveringSites.{coveringSites}
@@ -73,10 +73,11 @@ module _ {s rows : List ℕ} {samples : ℕ} {referenced : Bool} {reference cont
 
   -- ---- REF
 
+  -- as spelled; it is the capitals of these bytes
   module _ (ref : List ℕ)
-      (merged : mergedRef (on .loaded .input .reference) contig position (covering on position) ≡ accepted ref) where
-    ref-letters : Letters maxSiteLetters ref
-    ref-letters = merged-ref-sound (on .loaded .input .reference) contig position (covering on position) ref
+      (merged : mergedRef (on .loaded .input .reference) contig position (covering on position) ≡ accepted (map capital ref)) where
+    ref-letters : Letters maxSiteLetters (map capital ref)
+    ref-letters = merged-ref-sound (on .loaded .input .reference) contig position (covering on position) (map capital ref)
         (covering-sound (on .loaded .input .cohort) contig position (on .loaded .sound .cohort .sites))
         (on .loaded .sound .reference) merged .letters
 
@@ -126,7 +127,7 @@ module _ {s rows : List ℕ} {samples : ℕ} {referenced : Bool} {reference cont
 
     module _ (at : RefAt)
         (merged : mergedRef (on .loaded .input .reference) contig position (covering on position)
-        ≡ accepted (refBytes s reference at)) where
+        ≡ accepted (map capital (refBytes s reference at))) where
       pub found-sites-sound : SoundSites s rows sites (refBytes s reference at)
       found-sites-sound = rw here (sites-sound (refBytes s reference at) merged)
 
@@ -135,7 +136,7 @@ module _ {s rows : List ℕ} {samples : ℕ} {referenced : Bool} {reference cont
       unfolding AltsFound RecordFound
       record-found some-site alts answer.NoSites h = absurd h
       record-found some-site alts (answer.Refused row) h =
-          (covering-some sites here some-site, λ last. rw (h .0) (alts-refused last (refBytes s reference at) merged (rw (← numbers-cover, ← here) (h .1))))
+          (covering-some sites here some-site, λ last. rw (h .0) (alts-refused last (map capital (refBytes s reference at)) merged (rw (← numbers-cover, ← here) (h .1))))
       record-found some-site alts (answer.Record m same len number) h =
           let cover : map (siteAt s rows) sites ≡ covering on position = ap (map (siteAt s rows)) here ∙ numbers-cover in
           rw (h .same-ref) (record {
@@ -160,14 +161,14 @@ module _ {s rows : List ℕ} {samples : ℕ} {referenced : Bool} {reference cont
       let same : n ≡ m = h .all ∙ sym e in
       subst (λ (k : ℕ). RecordTo on position (take k after) alts n at len number) (sym same) h
 
--- an answer that is an allele of the cohort text or a letter is REF
+-- an answer that is an allele of the cohort text or a letter is REF, in either case
 pub allele-answered : (s reference : List ℕ) (at : RefAt) (from to : ℕ) → at ≡ ref.Allele from to
-    → refAnswer s reference at ≡ accepted (refBytes s reference at)
+    → refAnswer s reference at ≡ accepted (map capital (refBytes s reference at))
 unfolding refAnswer
 allele-answered s reference at from to e = rw e
 
 pub letter-answered : (s reference : List ℕ) (at : RefAt) (place : Place) → at ≡ ref.Letter place
-    → refAnswer s reference at ≡ accepted (refBytes s reference at)
+    → refAnswer s reference at ≡ accepted (map capital (refBytes s reference at))
 unfolding refAnswer
 letter-answered s reference at place e = rw e
 
@@ -213,8 +214,9 @@ module _ {s rows : List ℕ} {samples : ℕ} {referenced : Bool} {reference cont
       let at : take n found′ ≡ coveringNumbers on position = rw (count-is, stored) (front-of found₀ (coveringNumbers on position) (omega arith)) in
       rw (here, at, same, owned) (front-of owners₀ (coveringOwners on position) (omega arith))
 
+  -- REF, as capitals
   abbrev pub recordRef : List ℕ
-  recordRef = refBytes s reference at
+  recordRef = map capital (refBytes s reference at)
 
   abbrev pub recordAlts : List Allele
   recordAlts = mergedAlts recordRef position (covering on position)

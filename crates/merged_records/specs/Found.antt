@@ -4,7 +4,7 @@ use lib.ListN.{length, take}
 use mathlib.Core.Bool.{Bool}
 use mathlib.Core.List.{List, [], map}
 use mathlib.Core.Path.{_≡_}
-use Rattle.definitions.specs.Alleles.{writtenAlleles}
+use Rattle.definitions.specs.Alleles.{capital, writtenAlleles}
 use Rattle.definitions.specs.Checked.{accepted, refused}
 use Rattle.definitions.specs.Cohort.{Site}
 use Rattle.definitions.specs.CombinedList.{intervalRecord}
@@ -25,7 +25,7 @@ module _ {s rows : List ℕ} {samples : ℕ} {referenced : Bool} {reference cont
   abbrev pub covering : List Site
   covering = coveringSites (on .loaded .input .cohort) contig position
 
-  -- these n sites are found, and REF and the ALTs are these
+  -- these n sites are found; REF has the letters of this part of a text, as capitals, and the ALTs are these
   pub record RecordTo (found alts : List ℕ) (n : ℕ) (at : RefAt) (len count : ℕ) : Type 0 where
     pub sites : map (siteAt s rows) found ≡ covering
     pub known : Every (λ i. i < length (on .loaded .input .cohort .sites)) found
@@ -33,9 +33,9 @@ module _ {s rows : List ℕ} {samples : ℕ} {referenced : Bool} {reference cont
     pub some-site : 0 < n
     pub few : n ≤ samples
     pub ref : mergedRef (on .loaded .input .reference) contig position covering
-        ≡ accepted (refBytes s reference at)
-    pub text : take len alts ≡ writtenAlleles (mergedAlts (refBytes s reference at) position covering)
-    pub number : count ≡ length (mergedAlts (refBytes s reference at) position covering)
+        ≡ accepted (map capital (refBytes s reference at))
+    pub text : take len alts ≡ writtenAlleles (mergedAlts (map capital (refBytes s reference at)) position covering)
+    pub number : count ≡ length (mergedAlts (map capital (refBytes s reference at)) position covering)
     pub few-alts : count ≤ 15
 
   -- no site covers the position; or some do and the record is refused, however far its interval goes; or it is as found, with n sites in a list
@@ -50,12 +50,12 @@ module _ {s rows : List ℕ} {samples : ℕ} {referenced : Bool} {reference cont
 pub record AltsTo (s rows reference : List ℕ) (position : ℕ) (at : RefAt) (found alts : List ℕ) (n : ℕ) (same : RefAt) (len count : ℕ) : Type 0 where
   pub number : n ≡ length found
   pub same-ref : same ≡ at
-  pub written : AltsWritten (mergedAlts (refBytes s reference at) position (map (siteAt s rows) found)) alts len count
+  pub written : AltsWritten (mergedAlts (map capital (refBytes s reference at)) position (map (siteAt s rows) found)) alts len count
 
 unfoldable pub AltsFound : List ℕ → List ℕ → List ℕ → ℕ → RefAt → List ℕ → List ℕ → RecordAt → Type 0
 AltsFound s rows reference position at found alts answer.NoSites = ⊥
 AltsFound s rows reference position at found alts (answer.Refused row) =
-    (row ≡ 13) × (15 < length (mergedAlts (refBytes s reference at) position (map (siteAt s rows) found)))
+    (row ≡ 13) × (15 < length (mergedAlts (map capital (refBytes s reference at)) position (map (siteAt s rows) found)))
 AltsFound s rows reference position at found alts (answer.Record n same len count) = AltsTo s rows reference position at found alts n same len count
 
 -- these are the numbers of the sites that cover a position of the contig, and there are some

@@ -1,7 +1,7 @@
 -- Where the letter stands: in one segment, in segments one after the other, the loops that look for it, and that it is the letter.
 use Prim.Native.Nat.{_+_, _-_, _<_, _≤_, ℕ}
 use borrow.Author.Tests.{le-leb, le-ltb, lt-leb, lt-ltb}
-use lib.ListN.{length}
+use lib.ListN.{length, length-map}
 use mathlib.Core.Bool.{Bool, false, true}
 use mathlib.Core.List.{List, [], _++_, _∷_, map, map-append, map-map}
 use mathlib.Core.Option.{Option, Option·map, none, some}
@@ -10,6 +10,7 @@ use native.Mathlib.Nat.{sub-zero}
 use native.Mathlib.Omega.{arith}
 use Rattle.clip_and_reference.proofs.Places.{BasesStand, bases-stand, placed-end, placed-faulty, placed-group, placed-segments}
 use Rattle.clip_and_reference.specs.Groups.{GroupFaulty, GroupTo, PlacedSegment, ValuePart, segmentsPlaced}
+use Rattle.definitions.specs.Alleles.{capital}
 use Rattle.definitions.specs.Bytes.{sameBytes}
 use Rattle.definitions.specs.ClipAndReference.{ReferenceSegment, segmentHolds, segmentOf}
 use Rattle.definitions.specs.Lines.{keyOf}
@@ -32,6 +33,9 @@ module _ (s contig : List ℕ) (position contigAt contigEnd first basesAt basesE
   abbrev here : Option ℕ
   here = letterPlace contig position (placedBy s contigAt contigEnd first basesAt basesEnd ∷ [])
 
+  as-many : length (map capital (between s basesAt basesEnd)) ≡ length (between s basesAt basesEnd)
+  as-many = length-map (between s basesAt basesEnd) capital
+
   pub off-contig : sameBytes contig (between s contigAt contigEnd) ≡ false → none ≡ here
   unfolding letterPlace firstWhere segmentHolds
   off-contig h = rw h
@@ -44,11 +48,11 @@ module _ (s contig : List ℕ) (position contigAt contigEnd first basesAt basesE
     module _ (low : first ≤ position) where
       pub too-late : length (between s basesAt basesEnd) ≤ position - first → none ≡ here
       unfolding letterPlace firstWhere segmentHolds
-      too-late k = rw (h, le-leb first position low, le-ltb position (first + length (between s basesAt basesEnd)) (omega arith))
+      too-late k = rw (h, le-leb first position low, as-many, le-ltb position (first + length (between s basesAt basesEnd)) (omega arith))
 
       pub at-index : position - first < length (between s basesAt basesEnd) → some (basesAt + (position - first)) ≡ here
       unfolding letterPlace placeIn firstWhere segmentHolds
-      at-index k = rw (h, le-leb first position low, lt-ltb position (first + length (between s basesAt basesEnd)) (omega arith))
+      at-index k = rw (h, le-leb first position low, as-many, lt-ltb position (first + length (between s basesAt basesEnd)) (omega arith))
 
 -- ---- segments one after the other
 

@@ -2,17 +2,19 @@
 use Prim.Native.Nat.{_+_, _-_, _<_, _≤_, ℕ}
 use borrow.Author.Tests.{leb-true, ltb-true}
 use lib.Dec.{leb, ltb}
-use lib.ListN.{drop, getD, length, length-drop, length-take, take}
+use lib.ListN.{drop, getD, length, length-drop, length-map, length-take, take}
 use lib.Seq.{drop-cons, getD-drop, getD-take}
 use mathlib.Core.Bool.{Bool, cond, false, true}
-use mathlib.Core.List.{List, [], _++_, _∷_}
-use mathlib.Core.Option.{Option·map, none, some}
+use mathlib.Core.List.{List, [], _++_, _∷_, map}
+use mathlib.Core.Option.{Option, Option·map, none, some}
 use mathlib.Core.Path.{_∙_, _≡_, ap, refl, sym}
 use native.Mathlib.Omega.{arith}
+use Rattle.definitions.specs.Alleles.{capital}
 use Rattle.definitions.specs.Bytes.{sameBytes}
 use Rattle.definitions.specs.ClipAndReference.{ReferenceSegment, referenceLetter, segmentHolds, segmentLetter}
 use Rattle.definitions.specs.Lists.{firstWhere}
 use Rattle.kv_text.specs.Fields.{between}
+use Rattle.laws.proofs.Capitals.{capital-at}
 use Rattle.laws.proofs.Members.{first-found}
 use Rattle.laws.proofs.Tests.{all-three, not-none}
 use Rattle.merged_ref.specs.declared.LetterAt.{LetterAt}
@@ -55,14 +57,14 @@ module _ {A : Type 0} (p : A → Bool) where
 
 -- ---- the letter
 
--- The offset is that of the letter at the position in the bases of the first segment that holds it, which stand in the reference text
--- from `basesAt` to before `basesEnd`.
+-- The offset is that of the letter at the position in the bases of the first segment that holds it, which stand in the reference text,
+-- in either case, from `basesAt` to before `basesEnd`.
 pub record LetterIn (reference contig : List ℕ) (position : ℕ) (segments : List ReferenceSegment) (i : ℕ) : Type 0 where
   pub segment : ReferenceSegment
   pub holding : firstWhere (segmentHolds contig position) segments ≡ some segment
   pub basesAt : ℕ
   pub basesEnd : ℕ
-  pub bases : segment .bases ≡ between reference basesAt basesEnd
+  pub bases : segment .bases ≡ map capital (between reference basesAt basesEnd)
   pub offset : i ≡ basesAt + (position - segment .first)
 
 -- the letter is found there, or no segment holds the position
@@ -83,15 +85,20 @@ module _ (reference contig : List ℕ) (position : ℕ) where
       let (_, low, high) = all-three (sameBytes contig (g .contig)) (leb (g .first) position) (ltb position (g .first + length (g .bases))) e in
       (leb-true _ _ low, ltb-true _ _ high)
 
+  -- its letter is the capital of the byte there
   pub letter-is : (segments : List ReferenceSegment) (i : ℕ) → Of segments (At i)
-      → (letter : ℕ) × (referenceLetter segments contig position ≡ some letter) × (take 1 (drop i reference) ≡ letter ∷ [])
+      → (byte : ℕ) × (referenceLetter segments contig position ≡ some (capital byte)) × (take 1 (drop i reference) ≡ byte ∷ [])
   unfolding LetterFound referenceLetter segmentLetter
   letter-is segments i f =
       let (low, high) = in-bases (f .segment) (first-found holds segments (f .holding) .1) in
-      let inside : position - f .segment .first < length (between reference (f .basesAt) (f .basesEnd)) =
-      omega (arith, low, high, ap length (f .bases)) in
-      let is = part-letter reference (f .basesAt) (f .basesEnd) _ inside in
-      (segmentLetter position (f .segment), ap (Option·map (segmentLetter position)) (f .holding), rw (f .offset, f .bases) is)
+      let part = between reference (f .basesAt) (f .basesEnd) in
+      let index = position - f .segment .first in
+      let inside : index < length part = omega (arith, low, high, ap length (f .bases) ∙ length-map part capital) in
+      let raised : segmentLetter position (f .segment) ≡ capital (getD part index 0) = rw (f .bases) (capital-at part index) in (
+        getD part index 0,
+        ap (Option·map (segmentLetter position)) (f .holding) ∙ ap {B = Option ℕ} some raised,
+        rw (f .offset) (part-letter reference (f .basesAt) (f .basesEnd) index inside),
+      )
 
   pub letter-lacks : (segments : List ReferenceSegment) → Of segments Absent → referenceLetter segments contig position ≡ none
   unfolding LetterFound referenceLetter

@@ -3,18 +3,21 @@
 use Prim.Native.Nat.{_+_, _-_, _<_, _≤_, ℕ}
 use borrow.Author.Tests.{le-ltb, lt-ltb, ltb-false, ltb-true}
 use lib.Dec.{ltb}
-use lib.ListN.{drop, drop-of-length-le, getD, length, take}
+use lib.ListN.{drop, drop-of-length-le, getD, length, length-map, take}
 use lib.Seq.{drop-cons}
 use mathlib.Core.Bool.{Bool, false, true}
-use mathlib.Core.List.{List, [], _∷_}
+use mathlib.Core.List.{List, [], _∷_, map}
 use mathlib.Core.Option.{Option, none, orElse, some}
-use mathlib.Core.Path.{_∙_, _≡_, refl, sym}
+use mathlib.Core.Path.{_∙_, _≡_, ap, refl, sym}
 use native.Mathlib.Numerals.{add-one}
+use Rattle.definitions.specs.Alleles.{capital}
 use Rattle.definitions.specs.Lists.{onlyIf}
 use Rattle.definitions.specs.MergedRef.{reachedLetter, siteLetter, siteRef}
+use Rattle.laws.proofs.AllelesAsRead.{refAltsAsRead}
+use Rattle.laws.proofs.Capitals.{capital-at}
 use Rattle.laws.proofs.ReachedLetter.{reached-first, reached-later, reached-nothing, site-reaches, site-too-short}
 use Rattle.laws.proofs.Tests.{not-none, some-same}
-use Rattle.tables.specs.Tables.{column, partAt, refAltsSpelled, siteAt}
+use Rattle.tables.specs.Tables.{column, partAt, siteAt}
 use Rattle.merged_ref.proofs.Letters.{part-letter}
 use Rattle.merged_ref.specs.Answers.{reachedOffset, reachedPlace, sitesAt}
 
@@ -35,27 +38,32 @@ module _ (s rows : List ℕ) (position site : ℕ) where
   unfolding reachedOffset onlyIf
   reaches h = rw (lt-ltb index (length allele) h)
 
-  -- the byte there is the site's letter
+  -- REF has as many letters
+  as-many : length (map capital allele) ≡ length allele
+  as-many = length-map allele capital
+
+  -- the site's letter is the capital of the byte there
   site-there : {i : ℕ} → reachedOffset s rows position site ≡ some i
-      → (letter : ℕ) × (siteLetter position (siteAt s rows site) ≡ some letter) × (take 1 (drop i s) ≡ letter ∷ [])
-  unfolding reachedOffset onlyIf siteRef siteAt refAltsSpelled partAt
+      → (byte : ℕ) × (siteLetter position (siteAt s rows site) ≡ some (capital byte)) × (take 1 (drop i s) ≡ byte ∷ [])
+  unfolding reachedOffset onlyIf siteRef siteAt refAltsAsRead partAt
   site-there {i} e = go (ltb index (length allele)) refl e
     where
       go : (b : Bool) → ltb index (length allele) ≡ b → onlyIf b (column 9 rows site + index) ≡ some i
-          → (letter : ℕ) × (siteLetter position (siteAt s rows site) ≡ some letter) × (take 1 (drop i s) ≡ letter ∷ [])
+          → (byte : ℕ) × (siteLetter position (siteAt s rows site) ≡ some (capital byte)) × (take 1 (drop i s) ≡ byte ∷ [])
       go false h e = not-none e
       go true h e =
           let inside : index < length allele = ltb-true _ _ h in
           let is = part-letter s (column 9 rows site) (column 10 rows site) index inside in
-          (getD allele index 0, site-reaches position (siteAt s rows site) inside, rw (some-same e) at is)
+          let letter = site-reaches position (siteAt s rows site) (rw as-many inside) in
+          (getD allele index 0, letter ∙ ap {B = Option ℕ} some (capital-at allele index), rw (some-same e) at is)
 
   site-lacks : reachedOffset s rows position site ≡ none → siteLetter position (siteAt s rows site) ≡ none
-  unfolding reachedOffset onlyIf siteRef siteAt refAltsSpelled
+  unfolding reachedOffset onlyIf siteRef siteAt refAltsAsRead
   site-lacks e = go (ltb index (length allele)) refl e
     where
       go : (b : Bool) → ltb index (length allele) ≡ b → onlyIf b (column 9 rows site + index) ≡ none
           → siteLetter position (siteAt s rows site) ≡ none
-      go false h e = site-too-short position (siteAt s rows site) (ltb-false _ _ h)
+      go false h e = site-too-short position (siteAt s rows site) (rw as-many (ltb-false _ _ h))
       go true h e = not-none (sym e)
 
 -- ---- sites one after the other
@@ -93,22 +101,22 @@ module _ (s rows : List ℕ) (position : ℕ) where
     unfolding reachedPlace
     reached-absent h = rw (drop-of-length-le found h) at (p .left)
 
-  -- the byte there is the letter
+  -- the letter is the capital of the byte there
   pub reached-there : (found : List ℕ) {i : ℕ} → place found ≡ some i
-      → (letter : ℕ) × (reachedLetter position (sitesAt s rows found) ≡ some letter) × (take 1 (drop i s) ≡ letter ∷ [])
+      → (byte : ℕ) × (reachedLetter position (sitesAt s rows found) ≡ some (capital byte)) × (take 1 (drop i s) ≡ byte ∷ [])
   unfolding reachedPlace orElse
   reached-there [] e = not-none e
   reached-there (site ∷ found) {i} e = go (offset site) refl e (λ e. reached-there found e)
     where
       go : (o : Option ℕ) → offset site ≡ o → orElse o (place found) ≡ some i
-          → (place found ≡ some i → (letter : ℕ) × (reachedLetter position (sitesAt s rows found) ≡ some letter) × (take 1 (drop i s) ≡ letter ∷ []))
-          → (letter : ℕ) × (reachedLetter position (sitesAt s rows (site ∷ found)) ≡ some letter) × (take 1 (drop i s) ≡ letter ∷ [])
+          → (place found ≡ some i → (byte : ℕ) × (reachedLetter position (sitesAt s rows found) ≡ some (capital byte)) × (take 1 (drop i s) ≡ byte ∷ []))
+          → (byte : ℕ) × (reachedLetter position (sitesAt s rows (site ∷ found)) ≡ some (capital byte)) × (take 1 (drop i s) ≡ byte ∷ [])
       go none h e later =
-          let (letter, is, byte) = later e in
-          (letter, reached-later position _ _ (site-lacks s rows position site h) ∙ is, byte)
+          let (byte, is, there) = later e in
+          (byte, reached-later position _ _ (site-lacks s rows position site h) ∙ is, there)
       go (some j) h e later =
-          let (letter, is, byte) = site-there s rows position site (h ∙ e) in
-          (letter, reached-first position _ _ is, byte)
+          let (byte, is, there) = site-there s rows position site (h ∙ e) in
+          (byte, reached-first position _ _ is, there)
 
   pub none-there : (found : List ℕ) → place found ≡ none → reachedLetter position (sitesAt s rows found) ≡ none
   unfolding reachedPlace orElse

@@ -1,21 +1,23 @@
 -- REF by what the steps found: the letter, or the longest of the REFs.
 use Prim.Native.Nat.{ℕ}
 use mathlib.Core.Bool.{Bool, false, true}
-use mathlib.Core.List.{List}
+use mathlib.Core.List.{List, [], _∷_, map}
 use mathlib.Core.Option.{none, some}
 use mathlib.Core.Path.{_∙_, _≡_, ap, refl, sym}
 use Rattle.clip_and_reference.proofs.Groups.{all-read}
 use Rattle.clip_and_reference.specs.Groups.{SegmentsFrom}
+use Rattle.definitions.specs.Alleles.{capital}
 use Rattle.definitions.specs.Bytes.{isPrefix}
 use Rattle.definitions.specs.Checked.{Checked, accepted, orRefuse}
 use Rattle.definitions.specs.ClipAndReference.{ReferenceSegment, segmentOf}
 use Rattle.definitions.specs.Cohort.{Site}
 use Rattle.definitions.specs.Lists.{allOf, onlyIf}
-use Rattle.definitions.specs.MergedRef.{mergedRef, refLetter, sharedRef}
+use Rattle.definitions.specs.MergedRef.{mergedRef, refLetter, sharedRef, unknownBase}
 use Rattle.indexed_groups.proofs.Storing.{segments-split}
 use Rattle.indexed_groups.specs.Indexed.{SegmentsIndexed}
+use Rattle.laws.proofs.Capitals.{capital-letter}
 use Rattle.laws.proofs.Checked.{not-required, or-refused, required, then, then-refused}
-use Rattle.laws.proofs.ReachedLetter.{ref-letter-reached, ref-letter-unknown}
+use Rattle.laws.proofs.ReachedLetter.{ref-letter-reached, ref-letter-unknown, unknown-base}
 use Rattle.tables.specs.Tables.{column, partAt}
 use Rattle.merged_ref.specs.Answers.{letterBytes, partOr, reachedPlace, refAnswer, refBytes, refOr, referenceSegments, sitesAt, startingRefs}
 use Rattle.merged_ref.proofs.Letters.{LetterFound, letter-is, letter-lacks}
@@ -27,9 +29,9 @@ use Rattle.merged_ref.specs.declared.Place.the-variants.{Cohort, Nowhere
 use Rattle.merged_ref.specs.declared.RefAt.{RefAt}
 use Rattle.merged_ref.specs.declared.RefAt.the-variants as answer
 
--- for callers: an answer that does not refuse says where REF stands
+-- for callers: an answer that does not refuse says where REF stands, in either case
 pub answered : (s reference : List ℕ) (at : RefAt) → ((row : ℕ) → at ≡ answer.Refused row → ⊥)
-    → refAnswer s reference at ≡ accepted (refBytes s reference at)
+    → refAnswer s reference at ≡ accepted (map capital (refBytes s reference at))
 unfolding refAnswer
 answered s reference (answer.Allele from to) h = refl
 answered s reference (answer.Letter place) h = refl
@@ -45,19 +47,23 @@ module _ (s rows reference contig : List ℕ) (position : ℕ) (found : List ℕ
       → refAnswer s reference (answer.Letter (Cohort i)) ≡ refLetter (onlyIf referenced segments) contig position covering
   unfolding refAnswer refBytes refOr partOr letterBytes onlyIf
   letter-reached h i e =
-      let (letter, is, byte) = reached-there s rows position found (sym e) in
-      rw (h, byte) (sym (ref-letter-reached contig position covering is))
+      let (byte, is, there) = reached-there s rows position found (sym e) in
+      rw (h, there) (sym (ref-letter-reached contig position covering is))
+
+  -- `N` is its own capital
+  unknown-raised : map capital (unknownBase ∷ []) ≡ unknownBase ∷ []
+  unknown-raised = ap (λ (b : ℕ). b ∷ []) (capital-letter unknownBase unknown-base)
 
   pub letter-unknown : referenced ≡ false → none ≡ reachedPlace s rows position found
       → refAnswer s reference (answer.Letter Nowhere) ≡ refLetter (onlyIf referenced segments) contig position covering
   unfolding refAnswer refBytes refOr partOr letterBytes onlyIf
-  letter-unknown h e = rw h (sym (ref-letter-unknown contig position covering (none-there s rows position found (sym e))))
+  letter-unknown h e = rw (h, unknown-raised) (sym (ref-letter-unknown contig position covering (none-there s rows position found (sym e))))
 
   pub letter-there : referenced ≡ true → (i : ℕ) → LetterFound reference contig position segments (letterAt.At i)
       → refAnswer s reference (answer.Letter (Reference i)) ≡ refLetter (onlyIf referenced segments) contig position covering
   unfolding refAnswer refBytes refOr partOr letterBytes refLetter onlyIf
   letter-there h i f =
-      let (letter, first, is) = letter-is reference contig position segments i f in
+      let (byte, first, is) = letter-is reference contig position segments i f in
       rw (h, is) (sym (then _ _ (or-refused 11 _ first) refl))
 
   pub letter-lacking : referenced ≡ true → LetterFound reference contig position segments letterAt.Absent
@@ -74,7 +80,7 @@ module _ (s rows reference contig : List ℕ) (position : ℕ) (found : List ℕ
   by-letter f e = rw f e
 
   module _ (site : ℕ) (f : LongestFound s rows position found (longestAt.Site site)) {agree : Bool}
-      (e : agree ≡ allOf (λ ref. isPrefix ref (partAt 9 10 s rows site)) (startingRefs position covering)) where
+      (e : agree ≡ allOf (λ ref. isPrefix ref (map capital (partAt 9 10 s rows site))) (startingRefs position covering)) where
     pub shared : agree ≡ true
         → refAnswer s reference (answer.Allele (column 9 rows site) (column 10 rows site))
         ≡ mergedRef (onlyIf referenced segments) contig position covering

@@ -2,17 +2,19 @@
 use Prim.Native.Nat.{_<_, _≤_, ℕ}
 use borrow.Author.Tests.{eq-eqb, le-ltb, lt-ltb, ltb-false, ltb-true, ne-eqb}
 use lib.Dec.{ltb}
-use lib.ListN.{length}
+use lib.ListN.{length, length-map}
 use mathlib.Core.Bool.{Bool, _&&_, cond, false, true}
 use mathlib.Core.List.{List, [], _∷_, foldr, map}
 use mathlib.Core.Path.{_∙_, _≡_, ap, refl, sym}
 use native.Mathlib.Omega.{arith}
+use Rattle.definitions.specs.Alleles.{capital}
 use Rattle.definitions.specs.Cohort.{Site}
 use Rattle.definitions.specs.Lists.{allOf, anyOf, filterBy}
 use Rattle.definitions.specs.MergedRef.{longest, siteRef, startsAt}
+use Rattle.laws.proofs.AllelesAsRead.{refAltsAsRead}
 use Rattle.laws.proofs.Members.{filter-no, filter-yes}
 use Rattle.laws.proofs.Tests.{or-neither}
-use Rattle.tables.specs.Tables.{column, partAt, refAltsSpelled, siteAt}
+use Rattle.tables.specs.Tables.{column, partAt, siteAt}
 use Rattle.merged_ref.specs.Answers.{longerOf, longerSite, longestSite, sitesAt, startingRefs}
 use Rattle.merged_ref.specs.declared.LongestAt.{LongestAt}
 use Rattle.merged_ref.specs.declared.LongestAt.the-variants as longestAt
@@ -78,7 +80,7 @@ module _ (s rows : List ℕ) (position site : ℕ) where
 unfoldable pub LongestFound : List ℕ → List ℕ → ℕ → List ℕ → LongestAt → Type 0
 LongestFound s rows position found (longestAt.Site site) =
     (anyOf (startsAt position) (sitesAt s rows found) ≡ true)
-    × (partAt 9 10 s rows site ≡ longest (startingRefs position (sitesAt s rows found)))
+    × (map capital (partAt 9 10 s rows site) ≡ longest (startingRefs position (sitesAt s rows found)))
 LongestFound s rows position found longestAt.NoneStarts = anyOf (startsAt position) (sitesAt s rows found) ≡ false
 
 alone : (r : List ℕ) → r ≡ longest (r ∷ [])
@@ -87,6 +89,9 @@ alone [] = refl
 alone (b ∷ r) = let h : 0 < length (b ∷ r) = omega arith in rw (lt-ltb 0 (length (b ∷ r)) h)
 
 module _ (s rows : List ℕ) (position site : ℕ) (found : List ℕ) where
+  as-many : (i : ℕ) → length (map capital (partAt 9 10 s rows i)) ≡ length (partAt 9 10 s rows i)
+  as-many i = length-map (partAt 9 10 s rows i) capital
+
   -- the site starts elsewhere
   passed : (best : LongestAt) → startsAt position (siteAt s rows site) ≡ false → LongestFound s rows position found best
       → LongestFound s rows position (site ∷ found) best
@@ -97,18 +102,18 @@ module _ (s rows : List ℕ) (position site : ℕ) (found : List ℕ) where
   module _ (h : startsAt position (siteAt s rows site) ≡ true) where
     -- no later one starts there
     only : LongestFound s rows position found longestAt.NoneStarts → LongestFound s rows position (site ∷ found) (longestAt.Site site)
-    unfolding LongestFound anyOf siteRef siteAt refAltsSpelled
+    unfolding LongestFound anyOf siteRef siteAt refAltsAsRead
     only f = (rw h refl, rw (starts position _ (sitesAt s rows found) h, none-starts position _ f) (alone _))
 
     module _ (other : ℕ) (f : LongestFound s rows position found (longestAt.Site other)) where
       -- its REF is longer than the longest of the later ones, or it is not
       longer : length (partAt 9 10 s rows other) < length (partAt 9 10 s rows site) → LongestFound s rows position (site ∷ found) (longestAt.Site site)
-      unfolding LongestFound anyOf siteRef siteAt refAltsSpelled longest
-      longer k = (rw h refl, rw (starts position _ (sitesAt s rows found) h, ← f .1, lt-ltb _ _ k))
+      unfolding LongestFound anyOf siteRef siteAt refAltsAsRead longest
+      longer k = (rw h refl, rw (starts position _ (sitesAt s rows found) h, ← f .1, as-many other, as-many site, lt-ltb _ _ k))
 
       not-longer : length (partAt 9 10 s rows site) ≤ length (partAt 9 10 s rows other) → LongestFound s rows position (site ∷ found) (longestAt.Site other)
-      unfolding LongestFound anyOf siteRef siteAt refAltsSpelled longest
-      not-longer k = (rw h refl, rw (starts position _ (sitesAt s rows found) h, ← f .1, le-ltb _ _ k))
+      unfolding LongestFound anyOf siteRef siteAt refAltsAsRead longest
+      not-longer k = (rw h refl, rw (starts position _ (sitesAt s rows found) h, ← f .1, as-many other, as-many site, le-ltb _ _ k))
 
 -- longestSite finds it
 module _ (s rows : List ℕ) (position : ℕ) where

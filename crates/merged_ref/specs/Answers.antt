@@ -6,6 +6,7 @@ use mathlib.Core.Bool.{cond}
 use mathlib.Core.List.{List, [], _++_, _∷_, foldr, map}
 use mathlib.Core.Option.{Option, Option·map, none, orElse, some}
 use Rattle.clip_and_reference.specs.Groups.{PlacedSegment, segmentsPlaced, segmentsRead}
+use Rattle.definitions.specs.Alleles.{capital}
 use Rattle.definitions.specs.Checked.{Checked, accepted, refused}
 use Rattle.definitions.specs.ClipAndReference.{ReferenceSegment, segmentHolds}
 use Rattle.definitions.specs.Cohort.{Site}
@@ -31,10 +32,10 @@ sitesAt s rows found = map (siteAt s rows) found
 unfoldable pub startingRefs : ℕ → List Site → List (List ℕ)
 startingRefs position covering = map siteRef (filterBy (startsAt position) covering)
 
--- the segment whose contig and letters stand in these parts of the reference text
+-- the segment whose contig and letters, in either case, stand in these parts of the reference text
 abbrev pub segmentBy : List ℕ → ℕ → ℕ → ℕ → ℕ → ℕ → ReferenceSegment
 segmentBy reference contigAt contigEnd first basesAt basesEnd =
-    record { contig = between reference contigAt contigEnd; first = first; bases = between reference basesAt basesEnd }
+    record { contig = between reference contigAt contigEnd; first = first; bases = map capital (between reference basesAt basesEnd) }
 
 -- the segments with rows
 abbrev pub segmentsIn : List ℕ → List ℕ → List ReferenceSegment
@@ -101,7 +102,7 @@ reachedOffset s rows position site =
 unfoldable pub reachedPlace : List ℕ → List ℕ → ℕ → List ℕ → Option ℕ
 reachedPlace s rows position = foldr (λ site r. orElse (reachedOffset s rows position site) r) none
 
--- ---- the parts handed on
+-- ---- the parts handed on, as spelled
 
 -- a letter by its place: one byte of the text that holds it, and none for nowhere
 unfoldable pub letterBytes : List ℕ → List ℕ → Place → List ℕ
@@ -123,8 +124,8 @@ refOr unknown s reference (answer.Refused row) = []
 unfoldable pub refBytes : List ℕ → List ℕ → RefAt → List ℕ
 refBytes s reference at = refOr (unknownBase ∷ []) s reference at
 
--- REF, or the row that refuses it
+-- REF, its letters as capitals, or the row that refuses it
 unfoldable pub refAnswer : List ℕ → List ℕ → RefAt → Checked (List ℕ)
-refAnswer s reference (answer.Allele from to) = accepted (refBytes s reference (answer.Allele from to))
-refAnswer s reference (answer.Letter place) = accepted (refBytes s reference (answer.Letter place))
+refAnswer s reference (answer.Allele from to) = accepted (map capital (refBytes s reference (answer.Allele from to)))
+refAnswer s reference (answer.Letter place) = accepted (map capital (refBytes s reference (answer.Letter place)))
 refAnswer s reference (answer.Refused row) = refused row

@@ -1,10 +1,12 @@
 // REF of the record at a position, from the sites found over it, numbers of a table's rows in the order of samples. The answer says
-// where REF stands, by offsets of the texts; `ref_bytes` hands on the part of the text. Nothing is copied.
+// where REF stands, by offsets of the texts; `ref_bytes` hands on the part of the text, as spelled there. Nothing is copied. Letters
+// are compared in either case.
 ghost use lib.ListN.{drop, take};
-ghost use mathlib.Core.List.{[], _∷_};
+ghost use mathlib.Core.List.{[], _∷_, map};
 ghost use mathlib.Core.Path.{_≡_};
 ghost use Prim.Native.Nat.{_-_};
 ghost use Rattle.clip_and_reference.specs.Groups.{segmentsPlaced};
+ghost use Rattle.definitions.specs.Alleles.{capital};
 ghost use Rattle.definitions.specs.Bytes.{isPrefix};
 ghost use Rattle.definitions.specs.Lists.{allOf, onlyIf};
 ghost use Rattle.definitions.specs.MergedRef.{mergedRef, refLetter};
@@ -200,12 +202,12 @@ pub fn longest_ref(s: &[u8], rows: &[usize], found: &[usize], position: GenomePo
     best
 }
 
-// Whether a text begins with another.
+// Whether letters begin with others, in either case.
 fn is_prefix(p: &[u8], s: &[u8]) -> bool
-    ensures { λ r. ⌜ r ≡ isPrefix (now (p .entry)) (now (s .entry)) ⌝ }
+    ensures { λ r. ⌜ r ≡ isPrefix (map capital (now (p .entry))) (map capital (now (s .entry))) ⌝ }
 {
     let front = tables::part(s, 0, p.len());
-    kv_text::same_bytes(p, front)
+    kv_text::same_letters(p, front)
 }
 
 // Whether a site starts elsewhere, or its REF is a prefix of the longest.
@@ -216,7 +218,7 @@ fn ref_agrees(
     position: GenomePosition,
     longest: &[u8],
 ) -> bool
-    ensures { λ r. ⌜ r ≡ allOf (λ ref. isPrefix ref (now (longest .entry))) (startingRefs (position .0) (sitesAt (now (s .entry)) (now (rows .entry)) (site ∷ []))) ⌝ }
+    ensures { λ r. ⌜ r ≡ allOf (λ ref. isPrefix ref (map capital (now (longest .entry)))) (startingRefs (position .0) (sitesAt (now (s .entry)) (now (rows .entry)) (site ∷ []))) ⌝ }
 {
     if tables::start_of(rows, site).get() != position.get() {
         return true;
@@ -233,7 +235,7 @@ pub fn refs_agree(
     position: GenomePosition,
     longest: &[u8],
 ) -> bool
-    ensures { λ r. ⌜ r ≡ allOf (λ ref. isPrefix ref (now (longest .entry))) (startingRefs (position .0) (sitesAt (now (s .entry)) (now (rows .entry)) (now (found .entry)))) ⌝ }
+    ensures { λ r. ⌜ r ≡ allOf (λ ref. isPrefix ref (map capital (now (longest .entry)))) (startingRefs (position .0) (sitesAt (now (s .entry)) (now (rows .entry)) (now (found .entry)))) ⌝ }
 {
     for i in 0..found.len() {
         let site = found[i];

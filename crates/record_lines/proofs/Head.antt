@@ -2,9 +2,10 @@
 use Prim.Native.Nat.{_+_, ℕ}
 use lib.ListN.{length, length-append}
 use mathlib.Core.List.{List, [], _++_, _∷_, flatMap}
-use mathlib.Core.Path.{_∙_, _≡_, ap, refl}
+use mathlib.Core.Path.{_∙_, _≡_, ap, refl, sym}
 use Rattle.definitions.specs.Alleles.{writtenAlleles}
-use Rattle.definitions.specs.Bytes.{text}
+use native.Mathlib.Omega.{arith}
+use Rattle.definitions.specs.Bytes.{lineFeed, text}
 use Rattle.definitions.specs.Lines.{keyOf, line}
 use Rattle.definitions.specs.Numbers.{decimal, writtenOrMissing}
 use Rattle.definitions.specs.Printed.{printedRecord, printedSampleData}
@@ -12,7 +13,7 @@ use Rattle.definitions.specs.Records.{Record}
 use Rattle.kv_write.proofs.Laying.{laid-append}
 use Rattle.kv_write.specs.Keyed.{keyed}
 use Rattle.kv_write.specs.Laid.{Laid}
-use Rattle.record_lines.specs.Head.{endFrom, headOf}
+use Rattle.record_lines.specs.Head.{endFrom, headOf, placeOf}
 
 -- a record is these lines and those of its samples
 pub printed-record : (r : Record) {contig ref alts : List ℕ} {first : ℕ} (last : ℕ) → r .contig ≡ contig → r .pos ≡ first
@@ -40,6 +41,36 @@ altLine = keyed (97 ∷ 108 ∷ 116 ∷ 61 ∷ [])
 lengths : (a b c d e : List ℕ) → length (a ++ b ++ c ++ d ++ e) ≡ length a + length b + length c + length d + length e
 lengths a b c d e = simp length-append
 
+three : (a b c : List ℕ) → length (a ++ b ++ c) ≡ length a + length b + length c
+three a b c = simp length-append
+
+-- the first three, which say where the record stands; and REF's
+module _ (contig : List ℕ) (first last : ℕ) where
+  place-lines : placeOf contig first last ≡ contigLine contig ++ posLine first ++ endLine first last
+  unfolding line keyOf text
+  place-lines = refl
+
+  pub place-length : length (placeOf contig first last) ≡ length (contigLine contig) + length (posLine first) + length (endLine first last)
+  place-length = ap length place-lines ∙ three (contigLine contig) (posLine first) (endLine first last)
+
+  pub place-laid : {d d1 d2 d3 : List ℕ} {at at1 at2 at3 : ℕ} → Laid d at (contigLine contig) d1 at1
+      → Laid d1 at1 (posLine first) d2 at2 → Laid d2 at2 (endLine first last) d3 at3 → Laid d at (placeOf contig first last) d3 at3
+  place-laid l1 l2 l3 = rw place-lines (laid-append (laid-append l1 l2) l3)
+
+module _ (ref : List ℕ) where
+  pub ref-line : line "ref" ref ≡ refLine ref
+  unfolding line keyOf text
+  ref-line = refl
+
+  pub ref-line-length : length (line "ref" ref) ≡ 5 + length ref
+  unfolding line keyOf text lineFeed
+  ref-line-length = simp length-append (omega arith)
+
+  pub ref-line-laid : {d d1 d2 d3 : List ℕ} {at at1 at2 at3 : ℕ} → Laid d at (114 ∷ 101 ∷ 102 ∷ 61 ∷ []) d1 at1 → Laid d1 at1 ref d2 at2
+      → Laid d2 at2 (10 ∷ []) d3 at3 → Laid d at (line "ref" ref) d3 at3
+  unfolding line keyOf text lineFeed
+  ref-line-laid key value end = laid-append (laid-append key value) end
+
 module _ (contig : List ℕ) (first last : ℕ) (ref alts : List ℕ) where
   head-lines : headOf contig first last ref alts ≡ contigLine contig ++ posLine first ++ endLine first last ++ refLine ref ++ altLine alts
   unfolding headOf line keyOf text
@@ -49,7 +80,11 @@ module _ (contig : List ℕ) (first last : ℕ) (ref alts : List ℕ) where
       ≡ length (contigLine contig) + length (posLine first) + length (endLine first last) + length (refLine ref) + length (altLine alts)
   head-length = ap length head-lines ∙ lengths (contigLine contig) (posLine first) (endLine first last) (refLine ref) (altLine alts)
 
-  pub head-laid : {d d1 d2 d3 d4 d5 : List ℕ} {at at1 at2 at3 at4 at5 : ℕ} → Laid d at (contigLine contig) d1 at1
-      → Laid d1 at1 (posLine first) d2 at2 → Laid d2 at2 (endLine first last) d3 at3 → Laid d3 at3 (refLine ref) d4 at4
-      → Laid d4 at4 (altLine alts) d5 at5 → Laid d at (headOf contig first last ref alts) d5 at5
-  head-laid l1 l2 l3 l4 l5 = rw head-lines (laid-append (laid-append (laid-append (laid-append l1 l2) l3) l4) l5)
+  -- by the lines of its place
+  pub head-parts : length (headOf contig first last ref alts) ≡ length (placeOf contig first last) + length (refLine ref) + length (altLine alts)
+  head-parts =
+      head-length ∙ ap (λ (n : ℕ). n + length (refLine ref) + length (altLine alts)) (sym (place-length contig first last))
+
+  pub head-laid : {d d1 d2 d3 : List ℕ} {at at1 at2 at3 : ℕ} → Laid d at (placeOf contig first last) d1 at1
+      → Laid d1 at1 (refLine ref) d2 at2 → Laid d2 at2 (altLine alts) d3 at3 → Laid d at (headOf contig first last ref alts) d3 at3
+  head-laid l r a = rw head-lines (laid-append (laid-append (rw (place-lines contig first last) at l) r) a)

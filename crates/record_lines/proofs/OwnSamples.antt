@@ -12,6 +12,7 @@ use native.Mathlib.Omega.{arith}
 use Rattle.definitions.specs.Bytes.{comma, fieldsOf}
 use Rattle.definitions.specs.Genotypes.{missingData, siteData}
 use Rattle.definitions.specs.Printed.{printedSampleData}
+use Rattle.laws.proofs.AllelesAsRead.{alleleAsRead}
 use Rattle.laws.proofs.Every.{every-map, every-of-map}
 use Rattle.laws.proofs.SampleDataSound.{site-data-sound}
 use Rattle.laws.proofs.SoundInput.{SoundSite}
@@ -19,7 +20,7 @@ use Rattle.laws.proofs.SoundRecords.{SoundSampleData}
 use Rattle.record_laws.proofs.Lengths.{all-data-few}
 use Rattle.sample_alleles.specs.Readings.{allelesIn}
 use Rattle.tables.proofs.Parts.{column-past}
-use Rattle.tables.specs.Tables.{alleleSpelled, siteAt}
+use Rattle.tables.specs.Tables.{siteAt}
 use Rattle.record_lines.specs.Samples.{OwnPrintable, SamplePrintable, SamplesPrintable, SitePrintable, dataOwn, printedOwn, printedSamples}
 
 -- ---- a sample by its site
@@ -78,7 +79,7 @@ module _ {s rows : List ℕ} {samples : ℕ} {own alts : List ℕ} {at : ℕ} (p
   samples-fit : (position : ℕ) (ref : List ℕ) → at + length (printedSamples s rows samples own position ref alts) < 2 ^ 64
   unfolding printedOwn
   samples-fit position ref =
-      let count = length-map (fieldsOf comma alts) alleleSpelled in
+      let count = length-map (fieldsOf comma alts) alleleAsRead in
       let data′ = dataOwn s rows position ref alts in
       let few = all-data-few (suc (length (allelesIn alts))) {vs = map data′ (take samples own)} (omega arith) (omega (arith, p .few))
       (every-of-map data′ (every-map (data-sound s rows position ref alts) (p .sound))) in

@@ -20,13 +20,14 @@ use Rattle.genotype_values.proofs.Said.{site-values}
 use Rattle.genotype_values.specs.Remapped.{Filled}
 use Rattle.genotype_values.specs.Values.{Printable, present, valuesOf}
 use Rattle.kv_text.proofs.Numbers.{first-numbers}
+use Rattle.laws.proofs.AllelesAsRead.{alleleAsRead, refAltsAsRead}
 use Rattle.laws.proofs.Every.{IfThere, if-there}
 use Rattle.laws.proofs.SoundInput.{SoundSite}
 use Rattle.laws.proofs.SoundValues.{Numbers, numbers-sound}
 use Rattle.sample_alleles.proofs.Readings.{few-alleles}
 use Rattle.sample_alleles.specs.Readings.{allelesIn}
 use Rattle.tables.proofs.NumberLists.{first-in-row, first-in-text, in-row, in-text, stored-length, stored-some}
-use Rattle.tables.specs.Tables.{adAt, alleleSpelled, codeOption, column, firstNumbersAt, isStored, numbersAt, partAt, plAt, refAltsSpelled, siteAt, storedNumbers}
+use Rattle.tables.specs.Tables.{adAt, codeOption, column, firstNumbersAt, isStored, numbersAt, partAt, plAt, siteAt, storedNumbers}
 use Rattle.record_lines.specs.Samples.{SitePrintable}
 
 -- ---- numbers of a list
@@ -100,15 +101,15 @@ module _ (s rows : List ℕ) (site : ℕ) where
 
   module _ (sound : SoundSite (siteAt s rows site)) where
     alts-few : length (fieldsOf comma (partAt 11 12 s rows site)) ≤ 7
-    unfolding siteAt refAltsSpelled
-    alts-few = omega (arith, sound .alleles .at-most, length-map (fieldsOf comma (partAt 11 12 s rows site)) alleleSpelled)
+    unfolding siteAt refAltsAsRead
+    alts-few = omega (arith, sound .alleles .at-most, length-map (fieldsOf comma (partAt 11 12 s rows site)) alleleAsRead)
 
     ad-few : IfThere (λ ns. length ns ≤ 8) (adAt s rows site)
-    unfolding siteAt refAltsSpelled
+    unfolding siteAt refAltsAsRead
     ad-few = if-there (adAt s rows site) (λ ns c. omega (arith, c .at-most, sound .alleles .at-most)) (sound .ad)
 
     pl-few : IfThere (λ ns. length ns ≤ 36) (plAt s rows site)
-    unfolding siteAt refAltsSpelled
+    unfolding siteAt refAltsAsRead
     pl-few = if-there (plAt s rows site) (λ ns c. omega (arith, c .how-many, count-few _ (sound .alleles .at-most))) (sound .pl)
 
     module _ (before : List ℕ) {after : List ℕ} {r : ℕ} where
@@ -125,7 +126,7 @@ module _ (s rows : List ℕ) (site : ℕ) where
           → after ≡ sets before 0 (perSampleMap (take 256 (remappedAlleles ref position (siteAt s rows site))) (allelesIn alts))
           → Front (mapOf position ref alts) after r
       map-front position ref alts long few count laid =
-          let n = length-map (fieldsOf comma alts) alleleSpelled in
+          let n = length-map (fieldsOf comma alts) alleleAsRead in
           let m = map-length (remappedAlleles ref position (siteAt s rows site)) (allelesIn alts) in
           filled
           (record { laid = rw (few-alleles ref position s rows site (omega (arith, alts-few))) at laid; count = omega arith })
@@ -151,7 +152,7 @@ module _ (s rows : List ℕ) (site : ℕ) where
       → gq ≡ codeOption (column 5 rows site) → dp ≡ codeOption (column 6 rows site) → m ≡ mapOf position ref alts → ad ≡ adOf → pl ≡ plOf
       → Printable m gq dp ad pl at
   printable position ref alts pre g d m a p =
-      let n = length-map (fieldsOf comma alts) alleleSpelled in
+      let n = length-map (fieldsOf comma alts) alleleAsRead in
       let k = ap length m ∙ map-length (remappedAlleles ref position (siteAt s rows site)) (allelesIn alts) in
       record {
         alleles = omega arith;

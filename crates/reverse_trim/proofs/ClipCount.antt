@@ -9,7 +9,7 @@ use mathlib.Core.List.{List, [], _∷_, filterMap, foldr, map, reverse}
 use mathlib.Core.Option.{Option·elim}
 use mathlib.Core.Path.{_∙_, _≡_, ap, refl, sym}
 use native.Mathlib.Omega.{arith}
-use Rattle.definitions.specs.Alleles.{letters, nonRef, spanDel, spelled}
+use Rattle.definitions.specs.Alleles.{capital, letters, nonRef, spanDel, spelled}
 use Rattle.definitions.specs.Bytes.{comma, fieldsOf, sameBytes, text}
 use Rattle.definitions.specs.Genotypes.{least}
 use Rattle.definitions.specs.Lists.{anyOf, isThere, onlyIf}
@@ -17,7 +17,7 @@ use Rattle.definitions.specs.ReverseTrim.{commonPrefix, commonSuffixLength, let
 use Rattle.kv_text.proofs.Fields.{field-first, field-last}
 use Rattle.kv_text.specs.Fields.{between, fieldLength}
 use Rattle.laws.proofs.Tests.{clash}
-use Rattle.tables.specs.Tables.{alleleSpelled}
+use Rattle.laws.proofs.AllelesAsRead.{alleleAsRead}
 use Rattle.reverse_trim.specs.CommonEnding.{commonEnding, commonEndingOfAll}
 use Rattle.reverse_trim.specs.LetterAlleles.{allelesSpelled, lettersSpelled, spellsLetters}
 
@@ -84,35 +84,36 @@ module _ (ref : List ℕ) where
 
 -- those among fields
 abbrev pub lettersFrom : List (List ℕ) → List (List ℕ)
-lettersFrom fs = filterMap lettersIn (map alleleSpelled fs)
+lettersFrom fs = filterMap lettersIn (map alleleAsRead fs)
 
-letters-field : (f : List ℕ) → lettersIn (alleleSpelled f) ≡ onlyIf (spellsLetters f) f
-unfolding spellsLetters alleleSpelled lettersIn isThere onlyIf
+letters-field : (f : List ℕ) → lettersIn (alleleAsRead f) ≡ onlyIf (spellsLetters f) (map capital f)
+unfolding spellsLetters alleleAsRead lettersIn isThere onlyIf
 letters-field f = go (sameBytes f (spelled spanDel)) (sameBytes f (spelled nonRef))
   where
-    go : (a b : Bool) → lettersIn (cond a spanDel (cond b nonRef (letters f))) ≡ onlyIf (isThere (lettersIn (cond a spanDel (cond b nonRef (letters f))))) f
+    go : (a b : Bool) → lettersIn (cond a spanDel (cond b nonRef (letters (map capital f))))
+        ≡ onlyIf (isThere (lettersIn (cond a spanDel (cond b nonRef (letters (map capital f)))))) (map capital f)
     go true b = refl
     go false true = refl
     go false false = refl
 
 -- `*` and `<NON_REF>` are none
 pub star-spelled : (f : List ℕ) → sameBytes f (text "*") ≡ true → false ≡ spellsLetters f
-unfolding spellsLetters alleleSpelled lettersIn isThere spelled
+unfolding spellsLetters alleleAsRead lettersIn isThere spelled
 star-spelled f h = rw h
 
 pub other-spelled : (f : List ℕ) → sameBytes f (text "*") ≡ false → not (sameBytes f (text "<NON_REF>")) ≡ spellsLetters f
-unfolding spellsLetters alleleSpelled lettersIn isThere spelled
+unfolding spellsLetters alleleAsRead lettersIn isThere spelled
 other-spelled f h = rw h (go (sameBytes f (text "<NON_REF>")))
   where
-    go : (b : Bool) → not b ≡ isThere (lettersIn (cond b nonRef (letters f)))
+    go : (b : Bool) → not b ≡ isThere (lettersIn (cond b nonRef (letters (map capital f))))
     go true = refl
     go false = refl
 
-letters-cons : (f : List ℕ) (fs : List (List ℕ)) → lettersFrom (f ∷ fs) ≡ cond (spellsLetters f) (f ∷ lettersFrom fs) (lettersFrom fs)
+letters-cons : (f : List ℕ) (fs : List (List ℕ)) → lettersFrom (f ∷ fs) ≡ cond (spellsLetters f) (map capital f ∷ lettersFrom fs) (lettersFrom fs)
 unfolding filterMap onlyIf
 letters-cons f fs = rw (letters-field f) (go (spellsLetters f))
   where
-    go : (v : Bool) → Option·elim (onlyIf v f) (lettersFrom fs) (λ c. c ∷ lettersFrom fs) ≡ cond v (f ∷ lettersFrom fs) (lettersFrom fs)
+    go : (v : Bool) → Option·elim (onlyIf v (map capital f)) (lettersFrom fs) (λ c. c ∷ lettersFrom fs) ≡ cond v (map capital f ∷ lettersFrom fs) (lettersFrom fs)
     go true = refl
     go false = refl
 
@@ -122,7 +123,7 @@ no-letters [] h = refl
 no-letters (f ∷ fs) h = letters-cons f fs ∙ go (spellsLetters f) h (no-letters fs)
   where
     go : (v : Bool) → (v || anyOf spellsLetters fs) ≡ false → (anyOf spellsLetters fs ≡ false → lettersFrom fs ≡ [])
-        → cond v (f ∷ lettersFrom fs) (lettersFrom fs) ≡ []
+        → cond v (map capital f ∷ lettersFrom fs) (lettersFrom fs) ≡ []
     go true e rest = cc
     go false e rest = rest e
 
@@ -132,7 +133,7 @@ some-letters [] h = clash h refl
 some-letters (f ∷ fs) h = rw (letters-cons f fs) (go (spellsLetters f) h (some-letters fs))
   where
     go : (v : Bool) → (v || anyOf spellsLetters fs) ≡ true → (anyOf spellsLetters fs ≡ true → 0 < length (lettersFrom fs))
-        → 0 < length (cond v (f ∷ lettersFrom fs) (lettersFrom fs))
+        → 0 < length (cond v (map capital f ∷ lettersFrom fs) (lettersFrom fs))
     go true e rest = omega arith
     go false e rest = rest e
 
@@ -147,7 +148,7 @@ swap false w clip a b = refl
 module _ (ref : List ℕ) where
   -- what `clip_with` gives
   abbrev pub clipWith : List ℕ → ℕ → ℕ
-  clipWith f clip = cond (spellsLetters f) (min clip (commonEnding ref f)) clip
+  clipWith f clip = cond (spellsLetters f) (min clip (commonEnding ref (map capital f))) clip
 
   abbrev pub clipOver : ℕ → List (List ℕ) → ℕ
   clipOver clip fs = foldr clipWith clip fs
@@ -165,8 +166,8 @@ module _ (ref : List ℕ) where
   over-letters clip [] = refl
   over-letters clip (f ∷ fs) = rw (letters-cons f fs, over-letters clip fs) (go (spellsLetters f))
     where
-      go : (v : Bool) → cond v (min (leastEnding ref clip (lettersFrom fs)) (commonEnding ref f)) (leastEnding ref clip (lettersFrom fs))
-          ≡ leastEnding ref clip (cond v (f ∷ lettersFrom fs) (lettersFrom fs))
+      go : (v : Bool) → cond v (min (leastEnding ref clip (lettersFrom fs)) (commonEnding ref (map capital f))) (leastEnding ref clip (lettersFrom fs))
+          ≡ leastEnding ref clip (cond v (map capital f ∷ lettersFrom fs) (lettersFrom fs))
       go true = refl
       go false = refl
 
@@ -183,9 +184,9 @@ module _ (ref : List ℕ) where
       pub within : at ≤ length alts
       pub same : clipOver clip (fieldsOf 44 (drop at alts)) ≡ clipOver (length ref - 1) (fieldsOf comma alts)
 
-    pub clip-start : ClipLeft (length ref - 1) 0
+    pub clip-start : {clip : ℕ} → clip ≡ length ref - 1 → ClipLeft clip 0
     unfolding comma
-    clip-start = record { within = omega arith; same = refl }
+    clip-start e = record { within = omega arith; same = rw e }
 
     module _ {clip at end clip′ : ℕ} (left : ClipLeft clip at) (ends : end ≡ at + fieldLength 44 (drop at alts))
         (e : clip′ ≡ clipWith (between alts at end) clip) where
@@ -211,10 +212,10 @@ module _ (ref : List ℕ) where
   unfolding suffixClipCount
   few-letters fs h = rw (letters-cons ref fs, h) (go (spellsLetters ref))
     where
-      go : (v : Bool) → 0 ≡ suffixClipCount (cond v (ref ∷ []) [])
+      go : (v : Bool) → 0 ≡ suffixClipCount (cond v (map capital ref ∷ []) [])
       go true = refl
       go false = refl
 
-  pub ref-first : (fs : List (List ℕ)) → alleleSpelled ref ≡ letters ref → lettersFrom (ref ∷ fs) ≡ ref ∷ lettersFrom fs
+  pub ref-first : (fs : List (List ℕ)) → alleleAsRead ref ≡ letters (map capital ref) → lettersFrom (ref ∷ fs) ≡ map capital ref ∷ lettersFrom fs
   unfolding filterMap lettersIn
   ref-first fs h = rw h

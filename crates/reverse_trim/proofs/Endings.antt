@@ -1,16 +1,18 @@
 -- The common ending of REF and another allele, letter by letter from the end.
 use Prim.Native.Nat.{_+_, _-_, _<_, _≤_, min, suc, ℕ}
 use borrow.Author.Tests.{eq-eqb, ne-eqb}
-use lib.ListN.{List·getD-append, drop, drop-of-length-le, getD, length, length-reverse}
+use lib.ListN.{List·getD-append, drop, drop-of-length-le, getD, length, length-map, length-reverse}
 use lib.Seq.{drop-cons, getD-at}
-use mathlib.Core.List.{List, [], _∷_, reverse, reverse-cons}
+use mathlib.Core.List.{List, [], _∷_, map, reverse, reverse-cons}
 use mathlib.Core.Logic.{_≢_}
 use mathlib.Core.Path.{_∙_, _≡_, ap, refl, sym}
 use native.Mathlib.Decide.{decLt}
 use native.Mathlib.Nat.{zero-add}
 use native.Mathlib.Numerals.{add-one}
 use native.Mathlib.Omega.{arith}
+use Rattle.definitions.specs.Alleles.{capital}
 use Rattle.definitions.specs.ReverseTrim.{commonPrefix, commonSuffixLength}
+use Rattle.laws.proofs.Capitals.{capital-at}
 use Rattle.reverse_trim.specs.CommonEnding.{commonEnding}
 
 -- a text from its end on
@@ -100,3 +102,32 @@ module _ (ref allele : List ℕ) (most : ℕ) where
           let none : before n ≡ 0 =
           rw (reverse-from allele n (omega arith), reverse-from ref n long) (prefix-differs _ _ _ _ (λ h. e (sym h))) in
           omega (arith, left .same, none, left .few)
+
+-- ---- letters in either case, raised
+
+raised-at : (s : List ℕ) (n : ℕ) → getD (map capital s) (length (map capital s) - 1 - n) 0 ≡ capital (getD s (length s - 1 - n) 0)
+raised-at s n = rw (length-map s capital) (capital-at s (length s - 1 - n))
+
+module _ (ref allele : List ℕ) (most : ℕ) {n : ℕ} (left : EndingLeft (map capital ref) (map capital allele) most n) where
+  abbrev wholeRaised : ℕ
+  wholeRaised = min most (commonEnding (map capital ref) (map capital allele))
+
+  pub raised-whole : length ref ≤ n → n ≡ wholeRaised
+  raised-whole h = ending-whole _ _ _ left (rw (length-map ref capital) h)
+
+  pub raised-one-left : length allele ≤ n + 1 → n ≡ wholeRaised
+  raised-one-left h = ending-one-left _ _ _ left (rw (length-map allele capital) h)
+
+  module _ (long : n < length ref) (other-long : n + 1 < length allele) where
+    abbrev same-raised : Type 0
+    same-raised = capital (getD ref (length ref - 1 - n) 0) ≡ capital (getD allele (length allele - 1 - n) 0)
+
+    pub raised-more : n < most → same-raised → EndingLeft (map capital ref) (map capital allele) most (n + 1)
+    raised-more h e =
+        ending-more _ _ _ left (rw (length-map ref capital) long) (rw (length-map allele capital) other-long) h
+        (raised-at ref n ∙ e ∙ sym (raised-at allele n))
+
+    pub raised-differs : (same-raised → ⊥) → n ≡ wholeRaised
+    raised-differs e =
+        ending-differs _ _ _ left (rw (length-map ref capital) long) (rw (length-map allele capital) other-long)
+        (λ h. e (sym (raised-at ref n) ∙ h ∙ raised-at allele n))

@@ -1,15 +1,15 @@
--- Row 5: a list of alleles that is in order is what its fields spell.
-use Prim.Native.Nat.{_+_, _-_, _<_, _≤_, ℕ}
+-- Row 5: a list of alleles that is in order is what its fields read as.
+use Prim.Native.Nat.{_+_, _-_, _<_, _≤_, suc, ℕ}
+use lib.Dec.{leb}
 use lib.ListN.{drop, length, length-drop, take}
 use lib.Seq.{take-all}
-use mathlib.Core.Bool.{Bool, false, true}
+use mathlib.Core.Bool.{_&&_, false, true}
 use mathlib.Core.List.{List, [], _∷_, map}
 use mathlib.Core.Option.{Option, bind, none, some}
 use mathlib.Core.Path.{_∙_, _≡_, ap, refl, sym}
 use native.Mathlib.Nat.{sub-zero}
 use native.Mathlib.Omega.{arith}
-use Rattle.alleles.proofs.Spelled.{alleles-faulty, alleles-spelled, letters-spelled}
-use Rattle.definitions.specs.Alleles.{Allele, RefAlts, alleleOf, allelesOf, checkedAlleles, letters, lettersOf, refAltsFrom, refAltsOf}
+use Rattle.definitions.specs.Alleles.{RefAlts, alleleOf, allelesOf, capital, checkedAlleles, letters, lettersOf, refAltsFrom, refAltsOf}
 use Rattle.definitions.specs.Bytes.{comma, fieldsOf}
 use Rattle.definitions.specs.Checked.{_>>=_, accepted, isAccepted, orRefuse, refused}
 use Rattle.definitions.specs.Limits.{maxAlleles, maxLetters}
@@ -17,39 +17,30 @@ use Rattle.definitions.specs.Lists.{allDistinct, allOf, allSome, anyOf, isThere
 use Rattle.definitions.specs.ReverseTrim.{allelesFrom}
 use Rattle.kv_text.proofs.Fields.{field-first, field-last}
 use Rattle.kv_text.specs.Fields.{fieldLength}
-use Rattle.laws.proofs.Tests.{after-bind, after-only-if, clash, not-none, only-if-is, some-same}
-use Rattle.tables.specs.Tables.{alleleSpelled}
+use Rattle.laws.proofs.AllelesAsRead.{alleleAsRead, letters-as-read, noneTwice, ref-alts-as-read, refAltsAsRead}
+use Rattle.laws.proofs.Tests.{after-only-if, both-of, clash}
 
 -- ---- refAltsFrom
 
 module _ (most count : ℕ) (ref : List ℕ) (alts : List (List ℕ)) where
-  alts-are : (as′ : List Allele) → allSome (map (alleleOf most) alts) ≡ some as′ → as′ ≡ map alleleSpelled alts
-  alts-are as′ h = go (allOf (λ f. isThere (alleleOf most f)) alts) refl
-    where
-      go : (v : Bool) → allOf (λ f. isThere (alleleOf most f)) alts ≡ v → as′ ≡ map alleleSpelled alts
-      go true e = some-same (sym h ∙ alleles-spelled most alts e)
-      go false e = not-none (sym (alleles-faulty most alts e) ∙ h)
+  -- REF is letters, and the alleles are those that the fields read as
+  record AsRead (r : RefAlts) : Type 0 where
+    ref-letters : alleleAsRead ref ≡ letters (map capital ref)
+    all-read : allelesOf r ≡ map alleleAsRead (ref ∷ alts)
 
-  -- REF is letters, and the alleles are those that are spelled
-  record AsSpelled (r : RefAlts) : Type 0 where
-    ref-letters : alleleSpelled ref ≡ letters ref
-    all-spelled : allelesOf r ≡ map alleleSpelled (ref ∷ alts)
-
-  as-spelled : (r : RefAlts) → refAltsFrom most count ref alts ≡ some r → AsSpelled r
-  unfolding refAltsFrom checkedAlleles lettersOf allelesOf
-  as-spelled r h =
-      after-bind _ _ h λ s p h.
-      after-bind _ _ h λ as′ q h.
-      after-only-if _ _ h λ t e.
-      after-only-if _ ref p λ there same.
-      let known = sym (letters-spelled most ref (only-if-is _ ref ∙ there)) in
-      record { ref-letters = known; all-spelled = rw (← e, ← same, alts-are as′ q, known) }
+  as-read : (r : RefAlts) → refAltsFrom most count ref alts ≡ some r → AsRead r
+  unfolding refAltsAsRead allelesOf
+  as-read r h = after-only-if _ _ (sym (ref-alts-as-read most count ref alts) ∙ h) λ t e.
+      let alts-right = allOf (λ f. isThere (alleleOf most f)) alts && noneTwice ref alts in
+      let right = both-of (leb (suc (length alts)) count) (isThere (lettersOf most ref) && alts-right) t .1 in
+      let known = letters-as-read most ref (both-of (isThere (lettersOf most ref)) alts-right right .0) in
+      record { ref-letters = known; all-read = rw (← e, known) }
 
 -- ---- allelesFrom
 
 pub record InOrder (ref : List ℕ) (alts : List (List ℕ)) : Type 0 where
-  pub ref-letters : alleleSpelled ref ≡ letters ref
-  pub read : allelesFrom (ref ∷ alts) ≡ accepted (map alleleSpelled (ref ∷ alts))
+  pub ref-letters : alleleAsRead ref ≡ letters (map capital ref)
+  pub read : allelesFrom (ref ∷ alts) ≡ accepted (map alleleAsRead (ref ∷ alts))
 
 pub in-order : (ref : List ℕ) (alts : List (List ℕ)) → isAccepted (allelesFrom (ref ∷ alts)) ≡ true → InOrder ref alts
 unfolding allelesFrom isAccepted orRefuse _>>=_
@@ -59,8 +50,8 @@ in-order ref alts h = go (refAltsFrom maxLetters maxAlleles ref alts) refl h
         → isAccepted (orRefuse 5 o >>= λ r. accepted (allelesOf r)) ≡ true → InOrder ref alts
     go none e h = clash h refl
     go (some r) e h =
-        let known = as-spelled maxLetters maxAlleles ref alts r e in
-        record { ref-letters = known .ref-letters; read = rw (e, known .all-spelled) }
+        let known = as-read maxLetters maxAlleles ref alts r e in
+        record { ref-letters = known .ref-letters; read = rw (e, known .all-read) }
 
 pub not-in-order : (fs : List (List ℕ)) → isAccepted (allelesFrom fs) ≡ false → allelesFrom fs ≡ refused 5
 unfolding allelesFrom isAccepted orRefuse _>>=_

@@ -2,14 +2,13 @@
 use Prim.Native.Nat.{_+_, _-_, _<_, _^_, _≤_, ℕ}
 use borrow.Author.Tests.{eqb-true}
 use lib.Dec.{eqb}
-use lib.ListN.{drop, length, length-append, length-take, take}
+use lib.ListN.{drop, length, length-append, length-map, length-take, take}
 use mathlib.Core.Bool.{Bool, cond, false, true}
 use mathlib.Core.List.{List, [], _++_, _∷_, map}
 use mathlib.Core.Path.{_∙_, _≡_, ap, refl, sym}
 use native.Mathlib.Decide.{decLt}
 use native.Mathlib.Omega.{arith}
-use Rattle.alleles.proofs.Spelled.{spelled-so}
-use Rattle.definitions.specs.Alleles.{Allele, letters, nonRef, spanDel, spelled, writtenAlleles}
+use Rattle.definitions.specs.Alleles.{Allele, capital, letters, nonRef, spanDel, spelled, writtenAlleles}
 use Rattle.definitions.specs.Bytes.{comma, fieldsOf, joinedBy}
 use Rattle.definitions.specs.Lists.{isThere, splitWhere, toFirst}
 use Rattle.definitions.specs.ReverseTrim.{lettersIn, withoutSuffix}
@@ -19,7 +18,8 @@ use Rattle.kv_write.proofs.Laying.{Left, last, one, recast, room, several, star
 use Rattle.kv_write.specs.Laid.{Laid}
 use Rattle.laws.proofs.Fields.{fields-cons}
 use Rattle.laws.proofs.Tests.{clash}
-use Rattle.tables.specs.Tables.{alleleSpelled}
+use Rattle.laws.proofs.AllelesAsRead.{alleleAsRead, as-read-spelled}
+use Rattle.laws.proofs.Capitals.{capitals-front}
 use Rattle.reverse_trim.specs.LetterAlleles.{spellsLetters}
 
 -- ---- the list is not longer than it was
@@ -41,31 +41,32 @@ joined-back (b ∷ s) = let (f, fs, e) = fields-cons 44 s in rw e (go (eqb b 44)
 
 -- a field as it is written
 abbrev pub trimmedField : ℕ → List ℕ → List ℕ
-trimmedField clip f = spelled (withoutSuffix clip (alleleSpelled f))
+trimmedField clip f = spelled (withoutSuffix clip (alleleAsRead f))
 
 -- fields as they are written
 abbrev pub written : ℕ → List (List ℕ) → List ℕ
-written clip fs = writtenAlleles (map (withoutSuffix clip) (map alleleSpelled fs))
+written clip fs = writtenAlleles (map (withoutSuffix clip) (map alleleAsRead fs))
 
 module _ (clip : ℕ) where
-  -- letters lose their last, and others stay
-  pub letters-trimmed : (f : List ℕ) → spellsLetters f ≡ true → trimmedField clip f ≡ take (length f - clip) f
+  -- letters, in capitals, lose their last, and others stay
+  pub letters-trimmed : (f : List ℕ) → spellsLetters f ≡ true → trimmedField clip f ≡ map capital (take (length f - clip) f)
   unfolding spellsLetters spelled withoutSuffix lettersIn isThere
-  letters-trimmed f h = go (alleleSpelled f) (spelled-so f) h
+  letters-trimmed f h = go (alleleAsRead f) (as-read-spelled f) h
     where
-      go : (a : Allele) → spelled a ≡ f → isThere (lettersIn a) ≡ true → spelled (withoutSuffix clip a) ≡ take (length f - clip) f
-      go (letters s) e h = rw e
+      go : (a : Allele) → spelled a ≡ map capital f → isThere (lettersIn a) ≡ true
+          → spelled (withoutSuffix clip a) ≡ map capital (take (length f - clip) f)
+      go (letters s) e h = rw e (capitals-front f clip)
       go spanDel e h = clash h refl
       go nonRef e h = clash h refl
 
   pub all-trimmed : (f : List ℕ) → spellsLetters f ≡ true → length f ≤ clip → trimmedField clip f ≡ []
   all-trimmed f h few = letters-trimmed f h ∙ (let none-left : length f - clip ≡ 0 = omega arith in rw none-left)
 
-  pub others-stay : (f : List ℕ) → spellsLetters f ≡ false → trimmedField clip f ≡ f
+  pub others-stay : (f : List ℕ) → spellsLetters f ≡ false → trimmedField clip f ≡ map capital f
   unfolding spellsLetters spelled withoutSuffix lettersIn isThere
-  others-stay f h = go (alleleSpelled f) (spelled-so f) h
+  others-stay f h = go (alleleAsRead f) (as-read-spelled f) h
     where
-      go : (a : Allele) → spelled a ≡ f → isThere (lettersIn a) ≡ false → spelled (withoutSuffix clip a) ≡ f
+      go : (a : Allele) → spelled a ≡ map capital f → isThere (lettersIn a) ≡ false → spelled (withoutSuffix clip a) ≡ map capital f
       go (letters s) e h = clash refl h
       go spanDel e h = e
       go nonRef e h = e
@@ -77,7 +78,7 @@ module _ (clip : ℕ) where
   allele-short nonRef = omega arith
 
   field-short : (f : List ℕ) → length (trimmedField clip f) ≤ length f
-  field-short f = omega (arith, allele-short (alleleSpelled f), ap length (spelled-so f))
+  field-short f = omega (arith, allele-short (alleleAsRead f), ap length (as-read-spelled f), length-map f capital)
 
   written-short : (fs : List (List ℕ)) → length (written clip fs) ≤ length (joinedBy 44 fs)
   unfolding writtenAlleles joinedBy

@@ -9,7 +9,7 @@ use native.Mathlib.Omega.{arith}
 use Rattle.answers.proofs.Answers.{answered-refused, answered-written, is-within, not-within}
 use Rattle.answers.specs.Answered.{Answered}
 use Rattle.answers.specs.declared.Outcome.the-variants as outcome
-use Rattle.definitions.specs.Alleles.{writtenAlleles}
+use Rattle.definitions.specs.Alleles.{capital, writtenAlleles}
 use Rattle.definitions.specs.Bytes.{comma, fieldsOf}
 use Rattle.definitions.specs.Checked.{accepted, isAccepted, within}
 use Rattle.definitions.specs.Lists.{anyOf}
@@ -19,7 +19,7 @@ use Rattle.kv_write.proofs.Laying.{measured, sets-front}
 use Rattle.kv_write.specs.Laid.{Laid}
 use Rattle.laws.proofs.Checked.{then, then-refused}
 use Rattle.laws.proofs.Tests.{clash}
-use Rattle.tables.specs.Tables.{alleleSpelled}
+use Rattle.laws.proofs.AllelesAsRead.{alleleAsRead}
 use Rattle.reverse_trim.proofs.ClipCount.{few-letters, many-letters, no-letters, ref-first, some-letters}
 use Rattle.reverse_trim.proofs.InOrder.{fields-alone, fields-several, in-order, not-in-order, rest-is, restFrom}
 use Rattle.reverse_trim.specs.CommonEnding.{commonEndingOfAll}
@@ -39,17 +39,17 @@ module _ (s : List ℕ) (end : ℕ) (ends : end ≡ 0 + fieldLength 44 (drop 0 s
 
     pub several-count : isAccepted (allelesFrom (fieldsOf comma s)) ≡ true
         → anyOf spellsLetters (fieldsOf comma (restFrom s (end + 1))) ≡ true
-        → commonEndingOfAll (take end s ∷ lettersSpelled (restFrom s (end + 1))) ≡ suffixClipCount (lettersSpelled s)
+        → commonEndingOfAll (map capital (take end s) ∷ lettersSpelled (restFrom s (end + 1))) ≡ suffixClipCount (lettersSpelled s)
     unfolding lettersSpelled allelesSpelled
     several-count right e =
         let alts = fieldsOf comma (drop (end + 1) s) in
         let read = in-order (take end s) alts (rw (fields-several s end ends h) at right) in
         rw (fields-several s end ends h, ref-first (take end s) alts (read .ref-letters), rest-is s (end + 1))
-        (sym (many-letters (take end s) _ (some-letters alts (rw (rest-is s (end + 1)) at e))))
+        (sym (many-letters (map capital (take end s)) _ (some-letters alts (rw (rest-is s (end + 1)) at e))))
 
 -- ---- a call
 
-alleles-read : (fs : List (List ℕ)) → isAccepted (allelesFrom fs) ≡ true → allelesFrom fs ≡ accepted (map alleleSpelled fs)
+alleles-read : (fs : List (List ℕ)) → isAccepted (allelesFrom fs) ≡ true → allelesFrom fs ≡ accepted (map alleleAsRead fs)
 unfolding allelesFrom isAccepted
 alleles-read [] h = clash h refl
 alleles-read (ref ∷ alts) h = in-order ref alts h .read

@@ -5,13 +5,13 @@ ghost use mathlib.Core.Path.{_≡_};
 ghost use Prim.Native.Nat.{min};
 ghost use lib.ListN.{length};
 ghost use Rattle.answers.specs.Answered.{Answered};
-ghost use Rattle.definitions.specs.Alleles.{spelled, writtenAlleles};
+ghost use Rattle.definitions.specs.Alleles.{capital, spelled, writtenAlleles};
 ghost use Rattle.definitions.specs.Bytes.{comma, fieldsOf};
 ghost use Rattle.definitions.specs.Checked.{isAccepted};
 ghost use Rattle.definitions.specs.Lists.{anyOf};
 ghost use Rattle.definitions.specs.ReverseTrim.{allelesFrom, suffixClipCount, trimmedAlleles, withoutSuffix};
 ghost use Rattle.kv_write.specs.Laid.{Laid};
-ghost use Rattle.tables.specs.Tables.{alleleSpelled};
+ghost use Rattle.laws.proofs.AllelesAsRead.{alleleAsRead};
 ghost use Rattle.reverse_trim.specs.CommonEnding.{commonEnding, commonEndingOfAll};
 ghost use Rattle.reverse_trim.specs.LetterAlleles.{allelesSpelled, lettersSpelled, spellsLetters};
 use alleles::AllelesRead;
@@ -59,9 +59,9 @@ fn has_letter_alt(alts: &[u8]) -> bool
     }
 }
 
-// How many letters REF and another allele end on alike, at most `most`, one letter of the other left.
+// How many letters, in either case, REF and another allele end on alike, at most `most`, one letter of the other left.
 fn common_ending(reference: &[u8], allele: &[u8], most: usize) -> usize
-    ensures { λ r. ⌜ r ≡ min most (commonEnding (now (reference .entry)) (now (allele .entry))) ⌝ }
+    ensures { λ r. ⌜ r ≡ min most (commonEnding (map capital (now (reference .entry))) (map capital (now (allele .entry)))) ⌝ }
 {
     let mut n = 0;
     while n < most {
@@ -73,7 +73,8 @@ fn common_ending(reference: &[u8], allele: &[u8], most: usize) -> usize
         }
         let a = reference[reference.len() - 1 - n];
         let b = allele[allele.len() - 1 - n];
-        if a != b {
+        let raised = kv_text::capital(a);
+        if raised != kv_text::capital(b) {
             return n;
         }
         n += 1;
@@ -84,7 +85,7 @@ fn common_ending(reference: &[u8], allele: &[u8], most: usize) -> usize
 // How many letters are cut off, at most `clip`, if this ALT has them too; only a letter allele counts.
 fn clip_with(reference: &[u8], alt: &[u8], clip: usize) -> usize
     ensures { λ r. ⌜ r ≡ cond (spellsLetters (now (alt .entry)))
-        (min clip (commonEnding (now (reference .entry)) (now (alt .entry))))
+        (min clip (commonEnding (map capital (now (reference .entry))) (map capital (now (alt .entry)))))
         clip ⌝ }
 {
     if is_letter_allele(alt) {
@@ -95,7 +96,7 @@ fn clip_with(reference: &[u8], alt: &[u8], clip: usize) -> usize
 
 // How many letters REF and the letter alleles among the ALTs end on alike, one letter of each left.
 fn common_clip(reference: &[u8], alts: &[u8]) -> usize
-    ensures { λ r. ⌜ r ≡ commonEndingOfAll (now (reference .entry) ∷ lettersSpelled (now (alts .entry))) ⌝ }
+    ensures { λ r. ⌜ r ≡ commonEndingOfAll (map capital (now (reference .entry)) ∷ lettersSpelled (now (alts .entry))) ⌝ }
 {
     if reference.len() == 0 {
         return 0;
@@ -127,9 +128,9 @@ fn reverse_suffix_clip_count(alleles: &[u8]) -> usize
     common_clip(&alleles[..end], &alleles[end + 1..])
 }
 
-// A field without its last letters, if it is a letter allele.
+// A field without its last letters, if it is a letter allele; as it is spelled.
 fn without_suffix<'a>(field: &'a [u8], clip: usize) -> &'a [u8]
-    ensures { λ r. ⌜ now r ≡ spelled (withoutSuffix clip (alleleSpelled (now (field .entry)))) ⌝ }
+    ensures { λ r. ⌜ map capital (now r) ≡ spelled (withoutSuffix clip (alleleAsRead (now (field .entry)))) ⌝ }
 {
     if !is_letter_allele(field) {
         return field;
@@ -140,7 +141,7 @@ fn without_suffix<'a>(field: &'a [u8], clip: usize) -> &'a [u8]
     &field[..field.len() - clip]
 }
 
-// Lays the alleles of a list, the letter alleles without their last letters.
+// Lays the alleles of a list in capitals, the letter alleles without their last letters.
 fn put_trimmed(list: &[u8], clip: usize, out: &mut [u8]) -> usize
     ensures { λ r. ⌜ Laid (now (out .entry)) 0
         (writtenAlleles (map (withoutSuffix clip) (allelesSpelled (now (list .entry)))))
@@ -151,7 +152,7 @@ fn put_trimmed(list: &[u8], clip: usize, out: &mut [u8]) -> usize
     loop {
         let end = kv_text::field_end(list, at, b',');
         let trimmed = without_suffix(&list[at..end], clip);
-        next = kv_write::put_bytes(out, next, trimmed);
+        next = kv_write::put_letters(out, next, trimmed);
         if list.len() <= end {
             return next;
         }

@@ -14,9 +14,10 @@ use Rattle.definitions.specs.Lists.{numbersFrom}
 use Rattle.definitions.specs.MergedAlleles.{isAllele, perSampleMap, sampleAlleleOf}
 use Rattle.kv_text.proofs.Fields.{field-first, field-last}
 use Rattle.kv_text.specs.Fields.{between, fieldLength}
+use Rattle.laws.proofs.AllelesAsRead.{alleleAsRead}
 use Rattle.laws.proofs.Members.{map-composed}
 use Rattle.laws.proofs.Tests.{both-of}
-use Rattle.tables.specs.Tables.{alleleSpelled, nameAt, namesIn}
+use Rattle.tables.specs.Tables.{nameAt, namesIn}
 use Rattle.sample_alleles.proofs.Numbers.{no-field, no-number, number-last, number-next, sample-number}
 use Rattle.sample_alleles.proofs.Places.{put-over}
 use Rattle.sample_alleles.specs.Fields.{AltsAt}
@@ -77,11 +78,11 @@ module _ (starts : Bool) (ref own alts fields s : List ℕ) (at end n found : �
 
 module _ (starts : Bool) (ref own alternates : List ℕ) {alts fields : List ℕ} {count : ℕ} (at : AltsAt alts fields count) (entry : List ℕ) where
   pub all-numbers : {first : ℕ} → first ≡ 0
-      → putWhere (λ i. isAllele (alleleSpelled (nameAt alts fields i)) (refReading starts ref own)) 0 0 count
+      → putWhere (λ i. isAllele (alleleAsRead (nameAt alts fields i)) (refReading starts ref own)) 0 0 count
       (sets (set entry 0 first) 1 (eachOf (numbersBy starts ref own first 1 (fieldsOf comma alternates) alts fields) count))
       ≡ sets entry 0 (perSampleMap (take 256 (readings starts ref own alternates)) (allelesIn alts))
   unfolding perSampleMap readings namesIn
   all-numbers e =
       let remapped = take 256 (readings starts ref own alternates) in
-      rw (e, at .split, map-map (sampleAlleleOf remapped) alleleSpelled (map (nameAt alts fields) (numbersFrom 0 count)), map-map (λ f. sampleAlleleOf remapped (alleleSpelled f)) (nameAt alts fields) (numbersFrom 0 count))
+      rw (e, at .split, map-map (sampleAlleleOf remapped) alleleAsRead (map (nameAt alts fields) (numbersFrom 0 count)), map-map (λ f. sampleAlleleOf remapped (alleleAsRead f)) (nameAt alts fields) (numbersFrom 0 count))
       (over _ 0 _ _ count (set entry 0 0) (λ i. sample-number starts ref own (fieldsOf comma alternates) (nameAt alts fields i)))

@@ -18,7 +18,7 @@ use Rattle.definitions.specs.MergedAlleles.{isAllele, sampleAlleleOf}
 use Rattle.sample_alleles.proofs.First.{fails, fails-last, from, numbered-one, passes}
 use Rattle.sample_alleles.proofs.Readings.{is-non-ref, non-ref-reads, not-non-ref-reads, ref-not-non-ref, spelled-non-ref}
 use Rattle.sample_alleles.specs.Readings.{altNumber, altReading, firstFrom, nonRefFrom, readsAs, refReading}
-use Rattle.tables.specs.Tables.{alleleSpelled}
+use Rattle.laws.proofs.AllelesAsRead.{alleleAsRead}
 
 -- ---- the first that passes
 
@@ -133,13 +133,13 @@ module _ (starts : Bool) (ref own : List ℕ) (fs : List (List ℕ)) where
 
   module _ (g : List ℕ) where
     -- one that is not `<NON_REF>`
-    reads-other : sameBytes g (text "<NON_REF>") ≡ false → (f : List ℕ) → readsAs starts ref own g f ≡ isAllele (alleleSpelled g) (altReading starts ref own f)
+    reads-other : sameBytes g (text "<NON_REF>") ≡ false → (f : List ℕ) → readsAs starts ref own g f ≡ isAllele (alleleAsRead g) (altReading starts ref own f)
     unfolding readsAs
     reads-other h f = go (sameBytes f (text "<NON_REF>")) refl
       where
         go : (b : Bool) → sameBytes f (text "<NON_REF>") ≡ b
-            → cond b false (isAllele (alleleSpelled g) (altReading starts ref own f)) ≡ isAllele (alleleSpelled g) (altReading starts ref own f)
-        go true e = sym (non-ref-reads (alleleSpelled g) starts ref own f e ∙ is-non-ref g ∙ h)
+            → cond b false (isAllele (alleleAsRead g) (altReading starts ref own f)) ≡ isAllele (alleleAsRead g) (altReading starts ref own f)
+        go true e = sym (non-ref-reads (alleleAsRead g) starts ref own f e ∙ is-non-ref g ∙ h)
         go false e = refl
 
     -- `<NON_REF>`
@@ -151,8 +151,8 @@ module _ (starts : Bool) (ref own : List ℕ) (fs : List (List ℕ)) where
         go true = refl
         go false = refl
 
-    pub sample-number : cond (isAllele (alleleSpelled g) (refReading starts ref own)) 0 (altNumber starts ref own 0 1 fs g)
-        ≡ sampleAlleleOf (take 256 (refReading starts ref own ∷ map (altReading starts ref own) fs)) (alleleSpelled g)
+    pub sample-number : cond (isAllele (alleleAsRead g) (refReading starts ref own)) 0 (altNumber starts ref own 0 1 fs g)
+        ≡ sampleAlleleOf (take 256 (refReading starts ref own ∷ map (altReading starts ref own) fs)) (alleleAsRead g)
     unfolding altNumber sampleAlleleOf orElse
     sample-number = go (sameBytes g (text "<NON_REF>")) refl
       where
@@ -168,13 +168,13 @@ module _ (starts : Bool) (ref own : List ℕ) (fs : List (List ℕ)) where
         remapped = take 256 (refReading starts ref own ∷ map (altReading starts ref own) fs)
 
         go : (b : Bool) → sameBytes g (text "<NON_REF>") ≡ b
-            → cond (isAllele (alleleSpelled g) (refReading starts ref own)) 0 (altNumber starts ref own 0 1 fs g)
-            ≡ sampleAlleleOf (take 256 (refReading starts ref own ∷ map (altReading starts ref own) fs)) (alleleSpelled g)
+            → cond (isAllele (alleleAsRead g) (refReading starts ref own)) 0 (altNumber starts ref own 0 1 fs g)
+            ≡ sampleAlleleOf (take 256 (refReading starts ref own ∷ map (altReading starts ref own) fs)) (alleleAsRead g)
         go true e =
             rw (first-none (readsAs starts ref own g) (nonRefFrom 0 1 fs) 1 fs (reads-none e), spelled-non-ref g e, ref-not-non-ref starts ref own)
             (sym non-ref-number ∙ sym (twice (indexWhere (isAllele nonRef) remapped)))
         go false e =
-            ap (cond (isAllele (alleleSpelled g) (refReading starts ref own)) 0) (first-same (readsAs starts ref own g) (λ f. isAllele (alleleSpelled g) (altReading starts ref own f)) (nonRefFrom 0 1 fs) 1 fs (reads-other e))
-            ∙ sym (by-fields (isAllele (alleleSpelled g)) (altReading starts ref own) (nonRefFrom 0 1 fs) (refReading starts ref own) fs)
-            ∙ ap (Option·getD (indexWhere (isAllele (alleleSpelled g)) remapped)) (sym non-ref-number)
-            ∙ sym (either (indexWhere (isAllele (alleleSpelled g)) remapped) (indexWhere (isAllele nonRef) remapped))
+            ap (cond (isAllele (alleleAsRead g) (refReading starts ref own)) 0) (first-same (readsAs starts ref own g) (λ f. isAllele (alleleAsRead g) (altReading starts ref own f)) (nonRefFrom 0 1 fs) 1 fs (reads-other e))
+            ∙ sym (by-fields (isAllele (alleleAsRead g)) (altReading starts ref own) (nonRefFrom 0 1 fs) (refReading starts ref own) fs)
+            ∙ ap (Option·getD (indexWhere (isAllele (alleleAsRead g)) remapped)) (sym non-ref-number)
+            ∙ sym (either (indexWhere (isAllele (alleleAsRead g)) remapped) (indexWhere (isAllele nonRef) remapped))

@@ -1,28 +1,33 @@
--- A site's alleles as they read at a position, by the bytes that spell them.
+-- A site's alleles as they read at a position, by the bytes that spell them and REF of the record, letters in either case.
 use Prim.Native.Nat.{suc, zero, ℕ}
 use lib.Dec.{eqb, ltb}
 use lib.ListN.{set}
 use mathlib.Core.Bool.{Bool, cond, false}
 use mathlib.Core.List.{List, [], _∷_, map}
 use mathlib.Core.Option.{Option, some}
-use Rattle.definitions.specs.Alleles.{Allele, letters}
+use Rattle.definitions.specs.Alleles.{Allele, capital, letters}
 use Rattle.definitions.specs.Bytes.{comma, fieldsOf, sameBytes, text}
 use Rattle.definitions.specs.Lists.{numbersFrom, onlyIf}
 use Rattle.definitions.specs.MergedAlleles.{extendedAllele, isAllele, spanningReading}
-use Rattle.tables.specs.Tables.{alleleSpelled}
+use Rattle.laws.proofs.AllelesAsRead.{alleleAsRead}
+
+-- letters in either case as capitals
+abbrev pub capitals : List ℕ → List ℕ
+capitals = map capital
 
 -- the alleles that a text with commas spells
 abbrev pub allelesIn : List ℕ → List Allele
-allelesIn alts = map alleleSpelled (fieldsOf comma alts)
+allelesIn alts = map alleleAsRead (fieldsOf comma alts)
 
 -- REF of a site that starts at the position, or that starts earlier
 unfoldable pub refReading : Bool → List ℕ → List ℕ → Option Allele
-refReading starts ref ownRef = onlyIf starts (extendedAllele ref ownRef (letters ownRef))
+refReading starts ref ownRef = onlyIf starts (extendedAllele (capitals ref) (capitals ownRef) (letters (capitals ownRef)))
 
 -- an ALT of such a site
 unfoldable pub altReading : Bool → List ℕ → List ℕ → List ℕ → Option Allele
 altReading starts ref ownRef alt =
-    cond starts (some (extendedAllele ref ownRef (alleleSpelled alt))) (spanningReading ownRef (alleleSpelled alt))
+    cond starts (some (extendedAllele (capitals ref) (capitals ownRef) (alleleAsRead alt)))
+    (spanningReading (capitals ownRef) (alleleAsRead alt))
 
 -- its alleles by their numbers: `remappedAlleles` of the site (`site-readings` of proofs/Readings.antt)
 unfoldable pub readings : Bool → List ℕ → List ℕ → List ℕ → List (Option Allele)
@@ -31,7 +36,7 @@ readings starts ref ownRef ownAlts = refReading starts ref ownRef ∷ map (altRe
 -- an ALT of such a site that is not `<NON_REF>` reads as this allele
 unfoldable pub readsAs : Bool → List ℕ → List ℕ → List ℕ → List ℕ → Bool
 readsAs starts ref ownRef allele alt =
-    cond (sameBytes alt (text "<NON_REF>")) false (isAllele (alleleSpelled allele) (altReading starts ref ownRef alt))
+    cond (sameBytes alt (text "<NON_REF>")) false (isAllele (alleleAsRead allele) (altReading starts ref ownRef alt))
 
 -- of fields that are numbered from n on, the number of the first that passes a test, else another; none past 255 is looked at
 unfoldable pub firstFrom : (List ℕ → Bool) → ℕ → ℕ → List (List ℕ) → ℕ

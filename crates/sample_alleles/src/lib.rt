@@ -1,7 +1,7 @@
 // For each allele of a record, the number of a sample's own allele.
 // A site's alleles are lent as bytes: `own` is its REF, and `alternates` are its ALTs, with commas. `starts` says whether the
-// site starts at the record's position (else it starts earlier), and `reference` is REF of the record. `alts` are the record's
-// ALTs, with commas, and `fields` says where each of the first `count` of them stands there, by two numbers.
+// site starts at the record's position (else it starts earlier), and `reference` is REF of the record; all three as spelled, in either
+// case. `alts` are the record's ALTs, with commas, and `fields` says where each of the first `count` of them stands there, by two numbers.
 // The site's own alleles are gone through once: what each reads as gets its number, the last of them first, so that the first stays.
 // Numbers are bytes: alleles past number 255 are not looked at. A site with at most 255 ALTs has none (`few-alleles`, proofs/Readings.antt).
 ghost use mathlib.Core.Bool.{_&&_, cond};
@@ -14,8 +14,9 @@ ghost use lib.Seq.{sets};
 ghost use Rattle.definitions.specs.Alleles.{letters, sameAllele};
 ghost use Rattle.definitions.specs.Bytes.{comma, fieldsOf, sameBytes, text};
 ghost use Rattle.definitions.specs.MergedAlleles.{isAllele, perSampleMap, remappedAlleles};
-ghost use Rattle.tables.specs.Tables.{alleleSpelled, nameAt, siteAt};
-ghost use Rattle.sample_alleles.specs.Readings.{allelesIn, altNumber, eachOf, putWhere, readings, readsAs, refReading};
+ghost use Rattle.laws.proofs.AllelesAsRead.{alleleAsRead};
+ghost use Rattle.tables.specs.Tables.{nameAt, siteAt};
+ghost use Rattle.sample_alleles.specs.Readings.{allelesIn, altNumber, capitals, eachOf, putWhere, readings, readsAs, refReading};
 ghost use Rattle.sample_alleles.specs.Fields.{AltsAt, AltsSplit};
 use bio_ids::AlleleIndex;
 use bio_ids::GenomePosition;
@@ -51,9 +52,9 @@ fn alt_at<'a>(alts: &'a [u8], fields: &[usize], i: usize) -> &'a [u8]
     tables::part(alts, from, to)
 }
 
-// Whether an allele is these letters, extended by a tail. Most are of another length.
+// Whether an allele is these letters, extended by a tail, in either case. Most are of another length.
 fn is_extended(allele: &[u8], bases: &[u8], tail: &[u8]) -> bool
-    ensures { λ r. ⌜ r ≡ sameAllele (alleleSpelled (now (allele .entry))) (letters (now (bases .entry) ++ now (tail .entry))) ⌝ }
+    ensures { λ r. ⌜ r ≡ sameAllele (alleleAsRead (now (allele .entry))) (letters (capitals (now (bases .entry) ++ now (tail .entry)))) ⌝ }
 {
     let n = bases.len();
     if allele.len() < n {
@@ -62,10 +63,10 @@ fn is_extended(allele: &[u8], bases: &[u8], tail: &[u8]) -> bool
     if allele.len() - n != tail.len() {
         return false;
     }
-    if !kv_text::same_bytes(&allele[..n], bases) {
+    if !kv_text::same_letters(&allele[..n], bases) {
         return false;
     }
-    if !kv_text::same_bytes(&allele[n..], tail) {
+    if !kv_text::same_letters(&allele[n..], tail) {
         return false;
     }
     if alleles::is_span_del(allele) {
@@ -129,7 +130,7 @@ fn put_extended(
 )
     requires { ⌜ 2 * count ≤ length (now fields) ⌝ }
     ensures { λ _. ⌜ now (map .exit) ≡ putWhere
-        (λ i. sameAllele (alleleSpelled (nameAt (now (alts .entry)) (now (fields .entry)) i)) (letters (now (bases .entry) ++ now (tail .entry))))
+        (λ i. sameAllele (alleleAsRead (nameAt (now (alts .entry)) (now (fields .entry)) i)) (letters (capitals (now (bases .entry) ++ now (tail .entry)))))
         (index .0) 0 count (now (map .entry)) ⌝ }
 {
     for i in 0..count {
@@ -152,7 +153,7 @@ fn put_ref(
 )
     requires { ⌜ 2 * count ≤ length (now fields) ⌝ }
     ensures { λ _. ⌜ now (map .exit) ≡ putWhere
-        (λ i. isAllele (alleleSpelled (nameAt (now (alts .entry)) (now (fields .entry)) i)) (refReading starts (now (reference .entry)) (now (own .entry))))
+        (λ i. isAllele (alleleAsRead (nameAt (now (alts .entry)) (now (fields .entry)) i)) (refReading starts (now (reference .entry)) (now (own .entry))))
         0 0 count (now (map .entry)) ⌝ }
 {
     if starts {
@@ -342,7 +343,7 @@ pub fn indexes_of_relevant_alleles_for_gvcf(
     requires { ⌜ AltsAt (now alts) (now fields) count ⌝ }
     ensures count { λ r. ⌜ r ≡ 1 + length (fieldsOf comma (now (alts .entry))) ⌝ }
     ensures values { λ r. ⌜ now (map .exit) ≡ sets (now (map .entry)) 0 (perSampleMap
-        (take 256 (remappedAlleles (now (reference .entry)) (position .0) (siteAt (now (s .entry)) (now (rows .entry)) site)))
+        (take 256 (remappedAlleles (capitals (now (reference .entry))) (position .0) (siteAt (now (s .entry)) (now (rows .entry)) site)))
         (allelesIn (now (alts .entry)))) ⌝ }
 {
     let own = tables::reference_allele(s, rows, site);

@@ -8,7 +8,7 @@ use mathlib.Core.List.{List, []}
 use mathlib.Core.Option.{Option, Option·getD, none, some}
 use mathlib.Core.Path.{_∙_, _≡_, ap, refl, sym}
 use native.Mathlib.Omega.{arith}
-use Rattle.definitions.specs.Alleles.{RefAlts, genotypeCount, hasNonRef, isBlock, onlyNonRef, refAltsOf}
+use Rattle.definitions.specs.Alleles.{RefAlts, capital, genotypeCount, hasNonRef, isBlock, onlyNonRef, refAltsOf}
 use Rattle.definitions.specs.Bytes.{comma, fieldsOf}
 use Rattle.definitions.specs.Checked.{Checked, accepted, orRefuse, refused}
 use Rattle.definitions.specs.Cohort.{Site, SiteText, adFits, checkedSite, endFits, plFits}
@@ -18,7 +18,7 @@ use Rattle.definitions.specs.Numbers.{numberList}
 use Rattle.laws.proofs.Checked.{not-required, or-refused, required, then, then-refused}
 use Rattle.laws.proofs.SoundValues.{Numbers, numbers-sound}
 use Rattle.laws.proofs.Tests.{bool-ext}
-use Rattle.tables.specs.Tables.{alleleSpelled, refAltsSpelled}
+use Rattle.laws.proofs.AllelesAsRead.{alleleAsRead, refAltsAsRead}
 use Rattle.alleles.specs.Alleles.{AllelesRight}
 use Rattle.site_groups.specs.SiteGroups.{Counted, SiteChecked, bytesOf, numbersOf, siteTextAt}
 use Rattle.site_groups.specs.declared.SiteAlleles.{SiteAlleles}
@@ -99,11 +99,11 @@ spans start end letters h = bool-ext _ _
 
 module _ (ref alt : List ℕ) (n : ℕ) (number : n ≡ suc (length (fieldsOf comma alt))) where
   abbrev alleles : RefAlts
-  alleles = refAltsSpelled ref alt
+  alleles = refAltsAsRead ref (fieldsOf comma alt)
 
   count : length (alleles .alts) ≡ n - 1
-  unfolding refAltsSpelled
-  count = length-map (fieldsOf comma alt) alleleSpelled ∙ omega arith
+  unfolding refAltsAsRead
+  count = length-map (fieldsOf comma alt) alleleAsRead ∙ omega arith
 
   module _ (has : hasNonRef alleles ≡ true) where
     only : onlyNonRef alleles ≡ eqb n 2
@@ -113,13 +113,13 @@ module _ (ref alt : List ℕ) (n : ℕ) (number : n ≡ suc (length (fieldsOf co
         (λ e. let k = eqb-true n 2 e in eq-eqb (n - 1) 1 (omega arith)))
 
     block-by : isBlock alleles ≡ (eqb n 2 && eqb (length ref) 1)
-    unfolding isBlock refAltsSpelled
-    block-by = ap (λ (b : Bool). b && eqb (length ref) 1) only
+    unfolding isBlock refAltsAsRead
+    block-by = rw (length-map ref capital) (ap (λ (b : Bool). b && eqb (length ref) 1) only)
 
     pub end-by : (start end : ℕ) → start ≤ end
         → endFits alleles start end ≡ cond (eqb n 2) (eqb (length ref) 1) (eqb (length ref) (end - start + 1))
-    unfolding endFits refAltsSpelled
-    end-by start end h = rw (only, block-by, spans start end (length ref) h) (pick (eqb n 2) (eqb (length ref) 1) (eqb (length ref) (end - start + 1)))
+    unfolding endFits refAltsAsRead
+    end-by start end h = rw (length-map ref capital, only, block-by, spans start end (length ref) h) (pick (eqb n 2) (eqb (length ref) 1) (eqb (length ref) (end - start + 1)))
       where
         pick : (b l p : Bool) → cond b (b && l) p ≡ cond b l p
         pick true l p = refl
@@ -205,13 +205,13 @@ module _ (s : List ℕ) (p : SitePlace) (a : SiteAlleles) (v : SiteValues) (samp
                 (sym (right .has) ∙ h)
 
             module _ (there : has ≡ true) where
-              has-it : hasNonRef (refAltsSpelled (bytesOf s (a .refs)) (bytesOf s (a .alts))) ≡ true
+              has-it : hasNonRef (refAltsAsRead (bytesOf s (a .refs)) (fieldsOf comma (bytesOf s (a .alts)))) ≡ true
               has-it = sym (right .has) ∙ there
 
               abbrev fits : Bool
               fits = cond (eqb n 2) (eqb (length (bytesOf s (a .refs))) 1) (eqb (length (bytesOf s (a .refs))) (p .end .0 - p .start .0 + 1))
 
-              ends : endFits (refAltsSpelled (bytesOf s (a .refs)) (bytesOf s (a .alts))) (p .start .0) (p .end .0) ≡ fits
+              ends : endFits (refAltsAsRead (bytesOf s (a .refs)) (fieldsOf comma (bytesOf s (a .alts)))) (p .start .0) (p .end .0) ≡ fits
               ends = end-by _ _ n (right .number) has-it (p .start .0) (p .end .0) ordered
 
               pub end-wrong : fits ≡ false → SiteChecked s p a v samples before (check.Refused 7)
@@ -224,8 +224,8 @@ module _ (s : List ℕ) (p : SitePlace) (a : SiteAlleles) (v : SiteValues) (samp
                 counts = (eqb (v .pl .count) 0 || eqb (v .pl .count) (genotypeCount n)) && leb (v .ad .count) n
 
                 counted : Counted s (v .ad) → Counted s (v .pl)
-                    → (missingOr (plFits (refAltsSpelled (bytesOf s (a .refs)) (bytesOf s (a .alts)))) (numbersOf s (v .pl))
-                    && missingOr (adFits (refAltsSpelled (bytesOf s (a .refs)) (bytesOf s (a .alts)))) (numbersOf s (v .ad))) ≡ counts
+                    → (missingOr (plFits (refAltsAsRead (bytesOf s (a .refs)) (fieldsOf comma (bytesOf s (a .alts))))) (numbersOf s (v .pl))
+                    && missingOr (adFits (refAltsAsRead (bytesOf s (a .refs)) (fieldsOf comma (bytesOf s (a .alts))))) (numbersOf s (v .ad))) ≡ counts
                 counted ad pl = rw (pl-by (bytesOf s (a .refs)) _ n (right .number) _ _ pl, ad-by (bytesOf s (a .refs)) _ n (right .number) _ _ ad)
 
                 pub counts-wrong : counts ≡ false → SiteChecked s p a v samples before (check.Refused 8)

@@ -8,6 +8,7 @@ use mathlib.Core.Option.{Option, Option·getD, some}
 use mathlib.Core.Path.{_≡_}
 use Rattle.definitions.specs.Alleles.{isBlock}
 use Rattle.definitions.specs.Answers.{scratchAfter}
+use Rattle.definitions.specs.Bytes.{comma, fieldsOf}
 use Rattle.definitions.specs.Checked.{Checked, _>>=_, accepted, refused}
 use Rattle.definitions.specs.Cohort.{Site, SiteText, checkedSite, siteLines, siteTextOf}
 use Rattle.definitions.specs.Lines.{Line, lineAt, linesOf}
@@ -16,7 +17,8 @@ use Rattle.kv_text.specs.Fields.{between}
 use Rattle.kv_text.specs.Lines.{Behind, LineFound, lineNumbers, readTo, unread}
 use Rattle.kv_text.specs.declared.NumberAt.{NumberAt}
 use Rattle.kv_text.specs.declared.NumberAt.the-variants as one
-use Rattle.tables.specs.Tables.{codeOption, refAltsSpelled}
+use Rattle.laws.proofs.AllelesAsRead.{refAltsAsRead}
+use Rattle.tables.specs.Tables.{codeOption}
 use Rattle.site_groups.specs.declared.AllelesAt.{AllelesAt}
 use Rattle.site_groups.specs.declared.AllelesAt.the-variants as alleles
 use Rattle.site_groups.specs.declared.NumbersPart.{NumbersPart}
@@ -165,7 +167,7 @@ siteFrom s p a v = record {
   contig = bytesOf s (p .contig);
   start = p .start .0;
   end = p .end .0;
-  alleles = refAltsSpelled (bytesOf s (a .refs)) (bytesOf s (a .alts));
+  alleles = refAltsAsRead (bytesOf s (a .refs)) (fieldsOf comma (bytesOf s (a .alts)));
   gq = codeOption (v .gq);
   dp = codeOption (v .dp);
   ad = numbersOf s (v .ad);

@@ -8,12 +8,13 @@ use mathlib.Core.Bool.{Bool, _&&_, cond}
 use mathlib.Core.List.{List, _∷_, map}
 use mathlib.Core.Option.{Option, some}
 use mathlib.Core.Path.{_≡_}
-use Rattle.definitions.specs.Alleles.{Allele, RefAlts, isBlock, letters, nonRef, spanDel, spelled}
+use Rattle.definitions.specs.Alleles.{capital, isBlock}
 use Rattle.definitions.specs.Bytes.{comma, fieldsOf, sameBytes}
 use Rattle.definitions.specs.ClipAndReference.{ReferenceSegment}
 use Rattle.definitions.specs.Cohort.{Site}
 use Rattle.definitions.specs.Lists.{indexWhere, numbersFrom, onlyIf}
 use Rattle.definitions.specs.Numbers.{maxNumber, numberList}
+use Rattle.laws.proofs.AllelesAsRead.{refAltsAsRead}
 use Rattle.kv_text.specs.Fields.{between, firstNumbers}
 
 -- ---- names
@@ -91,22 +92,14 @@ withNumbers at words numbers count rows =
 
 -- ---- the site of a row
 
--- the allele that a field is, which is known to spell one
-unfoldable pub alleleSpelled : List ℕ → Allele
-alleleSpelled s = cond (sameBytes s (spelled spanDel)) spanDel (cond (sameBytes s (spelled nonRef)) nonRef (letters s))
-
--- REF and the ALTs that two values spell
-unfoldable pub refAltsSpelled : List ℕ → List ℕ → RefAlts
-refAltsSpelled ref alt = record { ref = ref; alts = map alleleSpelled (fieldsOf comma alt) }
-
--- the site that a row stands for
+-- the site that a row stands for: letters in either case are read as capitals, and the row keeps where the text has them
 unfoldable pub siteAt : List ℕ → List ℕ → ℕ → Site
 siteAt s rows site = record {
   sample = column 0 rows site;
   contig = partAt 7 8 s rows site;
   start = column 2 rows site;
   end = column 3 rows site;
-  alleles = refAltsSpelled (partAt 9 10 s rows site) (partAt 11 12 s rows site);
+  alleles = refAltsAsRead (partAt 9 10 s rows site) (fieldsOf comma (partAt 11 12 s rows site));
   gq = codeOption (column 5 rows site);
   dp = codeOption (column 6 rows site);
   ad = adAt s rows site;
@@ -145,10 +138,10 @@ segmentCount rows = getD rows countsAt 0
 abbrev pub segmentsNext : List ℕ → ℕ
 segmentsNext rows = getD rows (countsAt + 1) 0
 
--- the segment that a row stands for
+-- the segment that a row stands for, its bases read as capitals
 unfoldable pub segmentAt : List ℕ → List ℕ → ℕ → ReferenceSegment
 segmentAt reference rows segment = record {
   contig = between reference (segmentColumn 0 rows segment) (segmentColumn 1 rows segment);
   first = segmentColumn 2 rows segment;
-  bases = between reference (segmentColumn 3 rows segment) (segmentColumn 4 rows segment);
+  bases = map capital (between reference (segmentColumn 3 rows segment) (segmentColumn 4 rows segment));
 }

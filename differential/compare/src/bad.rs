@@ -9,24 +9,43 @@ use oracle::list::write_combined;
 use oracle::rng::{mix, Rng};
 
 /// Bytes that mean something in a text, so that a change often leaves it nearly right.
-const TELLING: &[u8] = b"\n\n==,,..0019ACGTN*<>sx \r\0\xff";
+const TELLING: &[u8] = b"\n\n==,,..0019ACGTNacgtn*<>sx \r\0\xff";
 
 fn changed(rng: &mut Rng, text: &[u8]) -> Vec<u8> {
     let mut text = text.to_vec();
     for _ in 0..rng.range(1, 2) {
         let at = rng.below(text.len() as u64 + 1) as usize;
         let byte = *rng.pick(TELLING);
-        match rng.below(7) {
+        match rng.below(8) {
             0 if at < text.len() => text[at] = byte,
             1 => text.insert(at, byte),
             2 if at < text.len() => drop(text.remove(at)),
             3 => text.truncate(at),
             4 if at < text.len() => text[at] = rng.any() as u8,
             5 => value_changed(rng, &mut text),
+            6 => case_changed(rng, &mut text),
             _ => lines_changed(rng, &mut text),
         }
     }
     text
+}
+
+/// A letter, or all of a line of alleles or bases, in the other case.
+fn case_changed(rng: &mut Rng, text: &mut [u8]) {
+    let other = |b: &mut u8| *b = if b.is_ascii_lowercase() { b.to_ascii_uppercase() } else { b.to_ascii_lowercase() };
+    let of_letters = |line: &&mut [u8]| [&b"ref="[..], b"alt=", b"bases="].iter().any(|key| line.starts_with(key));
+    let mut lines: Vec<&mut [u8]> = text.split_mut(|&b| b == b'\n').filter(of_letters).collect();
+    if lines.is_empty() {
+        return;
+    }
+    let at = rng.below(lines.len() as u64) as usize;
+    let key = lines[at].iter().take_while(|&&b| b != b'=').count() + 1;
+    let value = &mut lines[at][key..];
+    match rng.below(3) {
+        0 => value.iter_mut().for_each(other),
+        _ if value.is_empty() => {}
+        _ => other(&mut value[rng.below(value.len() as u64) as usize]),
+    }
 }
 
 /// The value of a line is that of another line, or one at the ends of a range.
@@ -35,8 +54,10 @@ fn value_changed(rng: &mut Rng, text: &mut Vec<u8>) {
     let (i, j) = (rng.below(lines.len() as u64) as usize, rng.below(lines.len() as u64) as usize);
     let key = lines[i].split(|&b| b == b'=').next().unwrap_or_default().to_vec();
     let other = lines[j].splitn(2, |&b| b == b'=').nth(1).unwrap_or_default().to_vec();
-    let values: [&[u8]; 9] =
-        [&other, b"0", b"2147483647", b"2147483648", b".", b"00", b"G,G", b"<NON_REF>", b"A,<NON_REF>,*"];
+    let values: [&[u8]; 14] = [
+        &other, b"0", b"2147483647", b"2147483648", b".", b"00", b"G,G", b"<NON_REF>", b"A,<NON_REF>,*", b"G,g,<NON_REF>", b"g,<NON_REF>",
+        b"<non_ref>", b"<NOn_REF>", b"a",
+    ];
     let value = *rng.pick::<&[u8]>(&values);
     lines[i] = [&key[..], b"=", value].concat();
     *text = lines.join(&b'\n');

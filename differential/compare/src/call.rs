@@ -8,7 +8,7 @@ use oracle::{generate, record};
 /// Each list is called with just enough output, and with one byte too few.
 pub fn compare(seed: u64, count: u64) -> Result<String, String> {
     let mut library = Library::new();
-    let (mut records, mut bytes) = (0, 0);
+    let (mut records, mut bytes, mut small) = (0, 0, 0);
     for i in 0..count {
         let list = generate::combined_list(mix(seed ^ mix(i)));
         let told = |what: &str| format!("seed {seed}, list {i}: {what}");
@@ -23,6 +23,7 @@ pub fn compare(seed: u64, count: u64) -> Result<String, String> {
         }
         records += list.records.len();
         bytes += n;
+        small += u64::from(list != list.capitals());
     }
-    Ok(format!("{count} combined lists, {records} records, {bytes} bytes of called lists: no difference\n"))
+    Ok(format!("{count} combined lists, {small} with small letters, {records} records, {bytes} bytes of called lists: no difference\n"))
 }

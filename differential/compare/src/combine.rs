@@ -51,13 +51,14 @@ pub fn sort_of(i: u64) -> &'static generate::Profile {
     profile
 }
 
-/// The i-th call: of the sort whose turn it is, and in every second round with reference groups that overlap and disagree.
+/// The i-th call: of the sort whose turn it is, and in every second round with reference groups that overlap and disagree. A third has small
+/// letters, in those groups too.
 pub fn lent_of(i: u64, seed: u64) -> Lent {
     let lent = generate::lent(sort_of(i), seed);
     if i / generate::PROFILES.len() as u64 % 2 == 0 {
         return lent;
     }
-    generate::patched(&lent, seed)
+    generate::lowered(generate::patched(&lent, seed), seed)
 }
 
 /// Numbers of scratch places for a contig with so many breakpoints: one, two, some between, as many as those, one less and one more, many.
@@ -98,17 +99,16 @@ pub fn hold(library: &mut Library, lent: &Lent, seed: u64) -> Result<(usize, usi
     Ok((list.records.len(), n))
 }
 
-/// The scope and the Rust part: sites of a sample overlap, or a letter is needed and no reference is lent.
+/// The scope and the Rust part: sites of a sample overlap, a letter is needed and no reference is lent, or letters are small.
 fn by_model(lent: &Lent) -> bool {
-    let fed = domain::fed(lent);
-    lent.cohort.overlaps_itself() || fed.reference != lent.reference
+    lent.cohort.overlaps_itself() || domain::lacks_letters(lent) || lent.has_small_letters()
 }
 
 /// Writes so many cohorts on which the Rust is met only as it is fed into a folder, each with the list that the library gives, for model.py.
 /// No list comes from the Rust.
 pub fn lists(seed: u64, count: u64, folder: &Path) -> Result<String, String> {
     let mut library = Library::new();
-    let (mut written, mut i) = (0, 0);
+    let (mut written, mut small, mut i) = (0, 0, 0);
     while written < count {
         let lent = lent_of(i, mix(seed ^ mix(i)));
         i += 1;
@@ -123,8 +123,9 @@ pub fn lists(seed: u64, count: u64, folder: &Path) -> Result<String, String> {
             record::write_file(&folder.join(format!("combine/{written:06}/{name}")), &text)?;
         }
         written += 1;
+        small += u64::from(lent.has_small_letters());
     }
-    Ok(format!("{count} cohorts with their lists in {}\n", folder.display()))
+    Ok(format!("{count} cohorts, {small} with small letters, with their lists in {}\n", folder.display()))
 }
 
 /// Each recorded case with 0, 1, 2, B - 1, B and B + 1 places, B the breakpoints of its busiest contig: the recorded list; without
@@ -151,13 +152,14 @@ pub fn recorded(folder: &Path) -> Result<String, String> {
 
 pub fn compare(seed: u64, count: u64) -> Result<String, String> {
     let mut library = Library::new();
-    let (mut records, mut bytes, mut windows, mut overlaps, mut referenced, mut letters) = (0, 0, 0, 0, 0, 0);
+    let (mut records, mut bytes, mut windows, mut overlaps, mut referenced, mut letters, mut small) = (0, 0, 0, 0, 0, 0, 0);
     for i in 0..count {
         let lent = lent_of(i, mix(seed ^ mix(i)));
         windows += u64::from(breakpoints(&lent) > 1024);
         overlaps += u64::from(lent.cohort.overlaps_itself());
         referenced += u64::from(lent.reference.is_some());
-        letters += u64::from(lent.reference.is_none() && domain::fed(&lent).reference.is_some());
+        letters += u64::from(domain::lacks_letters(&lent));
+        small += u64::from(lent.has_small_letters());
         let (r, n) = hold(&mut library, &lent, mix(seed.wrapping_add(i)))
             .map_err(|what| format!("seed {seed}, cohort {i}, sort {}: {what}", sort_of(i).name))?;
         records += r;
@@ -165,6 +167,7 @@ pub fn compare(seed: u64, count: u64) -> Result<String, String> {
     }
     Ok(format!(
         "{count} cohorts, {windows} with over 1,024 breakpoints on a contig, {overlaps} with overlapping sites of a sample, \
-         {referenced} with a reference, {letters} without one where a letter is needed, {records} records, {bytes} bytes of lists: no difference\n"
+         {referenced} with a reference, {letters} without one where a letter is needed, {small} with small letters, \
+         {records} records, {bytes} bytes of lists: no difference\n"
     ))
 }

@@ -102,7 +102,7 @@ fn written(library: &mut Library, lent: &Lent, places: usize) -> Result<Option<L
 
 pub fn check(seed: u64, count: u64) -> Result<String, String> {
     let mut library = Library::new();
-    let (mut pairs, mut records, mut overlaps, mut unreferenced, mut letters, mut i) = (0, 0, 0, 0, 0, 0);
+    let (mut pairs, mut records, mut overlaps, mut unreferenced, mut letters, mut small, mut i) = (0, 0, 0, 0, 0, 0, 0);
     while pairs < count {
         let mut rng = Rng::new(mix(seed ^ mix(i)));
         let second = lent_of(i, rng.any());
@@ -128,13 +128,14 @@ pub fn check(seed: u64, count: u64) -> Result<String, String> {
         pairs += 1;
         records += one.records.len();
         overlaps += u64::from(first.cohort.overlaps_itself());
+        small += u64::from(first.has_small_letters());
         if first.reference.is_none() {
             unreferenced += 1;
             letters += other_letters(&one, &two);
         }
     }
     Ok(format!(
-        "{pairs} pairs of cohorts, {overlaps} with overlapping sites of an old sample, {unreferenced} without a reference, {records} records of the first \
-         lists: all said again; without a reference {letters} of them begin with another letter in the second\n"
+        "{pairs} pairs of cohorts, {overlaps} with overlapping sites of an old sample, {unreferenced} without a reference, {small} with small \
+         letters, {records} records of the first lists: all said again; without a reference {letters} of them begin with another letter in the second\n"
     ))
 }

@@ -12,3 +12,4 @@ pub mod list_rows;
 pub mod looks;
 pub mod ours;
 pub mod rows;
+pub mod spelling;

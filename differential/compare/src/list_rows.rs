@@ -1,4 +1,4 @@
-//! Rows 1 to 8 for a combined list that is read back, once more, written from document 01 alone.
+//! Rows 1 to 8 for a combined list that is read back, once more, written from the documents alone.
 
 use crate::rows::{lines, name, number, numbers, or_missing, sample_names, spelled, value, Group, MOST_BYTES};
 

@@ -47,14 +47,14 @@ fn changed(lent: &Lent, rng: &mut Rng) -> Lent {
     let contig = any.contig.clone();
     match rng.below(6) {
         0 => call.reference = Some(vec![]),
-        1 => call.reference = Some(vec![Stretch { contig, first: any.start, bases: "A".into() }]),
+        1 => call.reference = Some(vec![Stretch { contig, first: any.start, bases: "a".into() }]),
         2 => {
             let sample = rng.below(call.cohort.samples.len() as u64) as usize;
-            let reference = *rng.pick(&["A", "C", "G", "T"]);
+            let reference = *rng.pick(&["A", "c", "G", "t"]);
             call.cohort.sites.insert(0, beside(&any, sample, reference, "N"));
         }
         3 => {
-            for (sample, letter) in ["A", "C", "G"].iter().enumerate().take(call.cohort.samples.len()) {
+            for (sample, letter) in ["A", "c", "G"].iter().enumerate().take(call.cohort.samples.len()) {
                 call.cohort.sites.insert(0, beside(&any, sample, &any.ref_allele[..1], letter));
             }
         }
@@ -128,7 +128,7 @@ fn hold_fault(library: &mut Library, lent: &Lent, rng: &mut Rng) -> Result<(), S
     let texts = Texts::of(lent);
     let mut cohort = texts.cohort.clone().into_bytes();
     let at = rng.below(cohort.len() as u64) as usize;
-    cohort[at] = *rng.pick(b"\n=,.0A ");
+    cohort[at] = *rng.pick(b"\n=,.0Aag ");
     let call = Call { cohort: &cohort, ..texts.call(2, 0) };
     let row = crate::rows::refusing(&cohort, call.clip, call.reference);
     let contig = lent.cohort.sites.first().map_or("c", |s| &s.contig);

@@ -1,6 +1,6 @@
 //! The commands: generated inputs from a seed, so many of them, and the borders of the domain.
 
-use compare::{bad, borders, call, combine, demand3, groups, looks};
+use compare::{bad, borders, call, combine, demand3, groups, looks, spelling};
 use std::path::Path;
 use std::process::ExitCode;
 
@@ -8,14 +8,16 @@ const USAGE: &str = "\
   compare combine SEED COUNT    COUNT cohorts of every sort through the Rust and through the library
   compare recorded FOLDER       the recorded cohorts, each with 0, 1, 2, B - 1, B and B + 1 places
   compare lists SEED COUNT FOLDER
-                                COUNT cohorts with overlapping sites of a sample, or with letters needed and no reference, and the
-                                library's lists, into FOLDER, for model.py
+                                COUNT cohorts with overlapping sites of a sample, with letters needed and no reference, or with small
+                                letters, and the library's lists, into FOLDER, for model.py
   compare looks SEED COUNT      COUNT cohorts, as they are and changed: the looks of every contig, counted once more
   compare call SEED COUNT       COUNT combined lists: the called list
   compare KIND SEED COUNT       COUNT groups; KIND is trim, likelihoods, gq, subset or unused_alts
   compare demand3 SEED COUNT    COUNT pairs of cohorts: what the first list says stands in the second
   compare bad SEED COUNT        COUNT texts with faults: rows 1 to 9, buffers, nothing touched outside
   compare bad_list SEED COUNT   COUNT combined lists with faults: rows 1 to 8
+  compare spelling              letters of either case, on purpose: lists
+  compare spelling_others       the same calls' looks, combined lists, trim and subsets
   compare borders               the ends of the domain: largest counts and lengths, and one more
 ";
 
@@ -23,6 +25,8 @@ fn run(words: &[&str]) -> Result<String, String> {
     let number = |word: &str| word.parse::<u64>().map_err(|_| format!("`{word}` is not a number"));
     match *words {
         ["borders"] => borders::check(),
+        ["spelling"] => spelling::check(),
+        ["spelling_others"] => spelling::check_others(),
         ["recorded", folder] => combine::recorded(Path::new(folder)),
         ["combine", seed, count] => combine::compare(number(seed)?, number(count)?),
         ["lists", seed, count, folder] => combine::lists(number(seed)?, number(count)?, Path::new(folder)),

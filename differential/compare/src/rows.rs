@@ -1,4 +1,4 @@
-//! Rows 1 to 9 of document 01's table once more, written from the document alone: which row refuses the texts of a call, if one does.
+//! Rows 1 to 9 of document 01's table once more, written from the documents alone: which row refuses the texts of a call, if one does.
 
 pub const MOST_BYTES: usize = 16_777_216;
 const MOST_NUMBER: u64 = 2_147_483_647;
@@ -76,15 +76,38 @@ pub fn numbers(value: &[u8]) -> Option<Vec<u64>> {
     value.split(|&b| b == b',').map(number).collect()
 }
 
-fn letters(value: &[u8], most: usize) -> bool {
-    (1..=most).contains(&value.len()) && value.iter().all(|b| b"ACGTN".contains(b))
+/// One byte of an allele or of bases, read: the small letters stand for the capitals.
+fn letter(byte: u8) -> Option<u8> {
+    match byte {
+        b'A' | b'a' => Some(b'A'),
+        b'C' | b'c' => Some(b'C'),
+        b'G' | b'g' => Some(b'G'),
+        b'T' | b't' => Some(b'T'),
+        b'N' | b'n' => Some(b'N'),
+        _ => None,
+    }
 }
 
-/// Whether REF and the ALTs are spelled right and are few enough, none twice: row 5.
+/// From one letter to so many, in either case, as capitals.
+fn letters(value: &[u8], most: usize) -> Option<Vec<u8>> {
+    (1..=most).contains(&value.len()).then_some(())?;
+    value.iter().map(|&b| letter(b)).collect()
+}
+
+/// An ALT as it is read: letters are capitals, `*` and `<NON_REF>` have this spelling alone.
+fn allele(value: &[u8], most: usize) -> Option<Vec<u8>> {
+    match value {
+        b"*" | b"<NON_REF>" => Some(value.to_vec()),
+        _ => letters(value, most),
+    }
+}
+
+/// Whether REF and the ALTs are spelled right and are few enough, none twice as they are read: row 5.
 pub fn spelled(reference: &[u8], alts: &[&[u8]], letters_most: usize, alleles_most: usize) -> bool {
-    let right = |a: &&[u8]| letters(a, letters_most) || **a == *b"*" || **a == *b"<NON_REF>";
-    let twice = (0..alts.len()).any(|i| alts[i] == reference || alts[..i].contains(&alts[i]));
-    letters(reference, letters_most) && alts.iter().all(right) && alts.len() < alleles_most && !twice
+    let Some(reference) = letters(reference, letters_most) else { return false };
+    let Some(read) = alts.iter().map(|a| allele(a, letters_most)).collect::<Option<Vec<_>>>() else { return false };
+    let twice = (0..read.len()).any(|i| read[i] == reference || read[..i].contains(&read[i]));
+    alts.len() < alleles_most && !twice
 }
 
 /// The names of the samples, or the row that refuses them.
@@ -176,6 +199,6 @@ fn reference_group(group: &Group) -> bool {
         Some((value(group, 1, "first").and_then(number)?, value(group, 2, "bases")?))
     };
     read().is_some_and(|(first, bases)| {
-        1 <= first && letters(bases, usize::MAX) && first + bases.len() as u64 - 1 <= MOST_NUMBER
+        1 <= first && letters(bases, usize::MAX).is_some() && first + bases.len() as u64 - 1 <= MOST_NUMBER
     })
 }

@@ -141,11 +141,12 @@ fn genotype_numbers(value: &str) -> Result<Vec<i32>, String> {
 }
 
 fn trim(inputs: &[String], rules: Rules) -> Result<Vec<String>, String> {
-    let alleles: Vec<String> = inputs[0].split(',').map(str::to_string).collect();
-    let (reference, alts) = (&alleles[0], &alleles[1..]);
+    let mut alleles: Vec<String> = inputs[0].split(',').map(str::to_string).collect();
     if rules == Rules::On {
-        check_trim(reference, alts)?;
+        check_trim(&alleles[0], &alleles[1..])?;
+        alleles = alleles.iter().map(|a| capitals(a)).collect();
     }
+    let (reference, alts) = (&alleles[0], &alleles[1..]);
     let (trimmed_ref, trimmed_alts) = reverse_trim_alleles(reference, alts);
     let mut trimmed = vec![trimmed_ref];
     trimmed.extend(trimmed_alts);

@@ -170,6 +170,101 @@ pub const LETTERS: &[HandCohort] = &[
     },
 ];
 
+/// Letters of either case, read as capitals.
+pub const SPELLINGS: &[HandCohort] = &[
+    HandCohort {
+        shows: "document 01's printed example with REF a and ALT g: the same list",
+        sites: &[
+            "0 c 10 11 a <NON_REF> 30 9 9,0 0,30,300",
+            "1 c 10 10 A g,<NON_REF> 40 8 4,4,0 40,0,50,60,70,80",
+        ],
+        heads: &["10 . A G,<NON_REF>", "11 . N <NON_REF>"],
+        ..NONE
+    },
+    HandCohort {
+        shows: "a to g and At to A: a is a prefix of At, and g grows by its t",
+        sites: &[
+            "0 c 5 5 a g,<NON_REF> 20 7 3,4,0 50,0,60,70,80,90",
+            "1 c 5 6 At A,<NON_REF> 30 8 5,3,0 55,0,65,75,85,95",
+        ],
+        heads: &["5 . AT A,GT,<NON_REF>", "6 . T *,<NON_REF>"],
+        ..NONE
+    },
+    HandCohort {
+        shows: "G and g of two samples are one allele, aT and At too",
+        sites: &[
+            "0 c 5 5 A T,g,aT,<NON_REF> 20 7 1,2,3,4,5 1,2,3,4,5,6,7,8,9,10,11,12,13,14,15",
+            "1 c 5 5 a At,G,<NON_REF> 30 8 5,6,7,8 21,22,23,24,25,26,27,28,29,30",
+        ],
+        heads: &["5 . A AT,G,T,<NON_REF>"],
+        ..NONE
+    },
+    HandCohort {
+        shows: "blocks alike but for the case of their letters join",
+        samples: 1,
+        sites: &[
+            "0 c 10 12 a <NON_REF> 30 9 9,0 0,30,300",
+            "0 c 13 15 A <NON_REF> 30 9 9,0 0,30,300",
+            "0 c 16 16 a <NON_REF> 30 9 9,0 0,30,300",
+            "0 c 17 17 c <NON_REF> 30 9 9,0 0,30,300",
+        ],
+        heads: &["10 16 A <NON_REF>", "17 . C <NON_REF>"],
+        ..NONE
+    },
+    HandCohort {
+        shows: "a reference of small letters: a joins A, c does not, of c and G over one position the first",
+        samples: 1,
+        sites: &["0 c 5 9 A <NON_REF> 1 2 3,4 0,20,30"],
+        clip: Some(&["c 5 6", "c 7 7", "c 8 8", "c 9 9"]),
+        reference: Some(&["c 8 c", "c 5 ttaGC"]),
+        heads: &["5 7 A <NON_REF>", "8 9 C <NON_REF>"],
+        ..NONE
+    },
+    HandCohort {
+        shows: "without a reference: a small letter of a REF that reaches, and an unknown letter joins a block whose REF is n",
+        samples: 1,
+        sites: &[
+            "0 c 1 3 acg a,<NON_REF> 12 6 1,2,3 11,12,13,14,15,16",
+            "0 c 4 6 T <NON_REF> 1 2 3,4 0,20,30",
+            "0 c 7 8 n <NON_REF> 1 2 3,4 0,20,30",
+        ],
+        clip: Some(&["c 1 4", "c 5 9"]),
+        heads: &["1 . ACG A,<NON_REF>", "2 . C *,<NON_REF>", "3 . G *,<NON_REF>", "4 . T <NON_REF>", "5 8 N <NON_REF>"],
+        ..NONE
+    },
+    HandCohort {
+        shows: "sixteen merged alleles, three of them in either case",
+        samples: 3,
+        sites: &[
+            "0 c 5 5 A C,G,T,AA,AC,<NON_REF> . . . .",
+            "1 c 5 5 a c,g,t,AG,aT,Ca,<NON_REF> . . . .",
+            "2 c 5 5 A cc,CG,cT,GA,Gc,gG,<NON_REF> . . . .",
+        ],
+        heads: &["5 . A CC,CG,CT,GA,GC,GG,C,G,T,AG,AT,CA,AA,AC,<NON_REF>"],
+        ..NONE
+    },
+    HandCohort {
+        shows: "* is not lengthened beside small letters; aTt to A is a deletion, aTt to GCA is none",
+        sites: &[
+            "0 c 5 5 a *,g,<NON_REF> 20 7 3,4,0,1 50,0,60,70,80,90,91,92,93,94",
+            "1 c 5 7 aTt A,gca,<NON_REF> 30 8 5,3,0,1 55,0,65,75,85,95,96,97,98,99",
+        ],
+        heads: &["5 . ATT A,GCA,GTT,*,<NON_REF>", "6 . T *,<NON_REF>", "7 . T *,<NON_REF>"],
+        ..NONE
+    },
+    HandCohort {
+        shows: "contigs keep their case: N, acgt, n",
+        samples: 1,
+        sites: &[
+            "0 n 7 7 n <NON_REF> 1 2 3,4 0,20,30",
+            "0 acgt 6 6 t <NON_REF> 1 2 3,4 0,20,30",
+            "0 N 5 5 N <NON_REF> 1 2 3,4 0,20,30",
+        ],
+        heads: &["5 . N <NON_REF>", "6 . T <NON_REF>", "7 . N <NON_REF>"],
+        ..NONE
+    },
+];
+
 /// Sites of one sample over each other: the one that starts last is taken, of equal starts the first in the file.
 pub const NESTED: &[HandCohort] = &[
     HandCohort {
@@ -599,6 +694,18 @@ pub const COMBINED_LISTS: &[(&str, &str)] = &[
     ),
 ];
 
+/// Combined lists with letters of either case, read as capitals: what it shows, and its text.
+pub const SPELLED_LISTS: &[(&str, &str)] = &[
+    (
+        "small letters: drop 90,80,70,10,20,30 of a to g",
+        "samples=1\nsample=S\nrecords=1\ncontig=c\npos=5\nend=.\nref=a\nalt=g,<NON_REF>\ngt=0/2\ngq=7\ndp=8\nad=1,2,3\npl=90,80,70,10,20,30\n",
+    ),
+    (
+        "small letters: contigs and names keep their case, * and <NON_REF> are themselves, a block of small letters is dropped",
+        "samples=2\nsample=s\nsample=S\nrecords=3\ncontig=N\npos=5\nend=9\nref=n\nalt=<NON_REF>\ngt=.\ngq=.\ndp=.\nad=1,2\npl=1,2,3\ngt=.\ngq=.\ndp=.\nad=.\npl=.\ncontig=a\npos=5\nend=.\nref=acgTN\nalt=*,<NON_REF>,Ac\ngt=.\ngq=.\ndp=.\nad=.\npl=9,8,7,6,5,4,3,2,1,0\ngt=.\ngq=.\ndp=.\nad=.\npl=.\ncontig=n\npos=1\nend=.\nref=N\nalt=nA,<NON_REF>\ngt=.\ngq=.\ndp=.\nad=.\npl=.\ngt=0/1\ngq=1\ndp=2\nad=3,4,5\npl=6,5,4,3,2,1\n",
+    ),
+];
+
 /// The kind and its inputs.
 pub const GROUPS: &[(&str, &[&str])] = &[
     ("trim", &["AAT,AT"]),
@@ -611,6 +718,9 @@ pub const GROUPS: &[(&str, &[&str])] = &[
     ("trim", &["AT,CAT"]),
     ("trim", &["CAT,AT"]),
     ("trim", &["A,<NON_REF>,*"]),
+    ("trim", &["AAt,aT"]),
+    ("trim", &["cAT,Gat,*,<NON_REF>"]),
+    ("trim", &["acgtn,tgCAn"]),
     ("likelihoods", &["0"]),
     ("likelihoods", &["2147483647"]),
     ("likelihoods", &["0,1,2,3,4,5,6,7,8,9,10,11,12,13,14"]),
@@ -652,6 +762,15 @@ pub const GROUPS: &[(&str, &[&str])] = &[
         &[
             "G,T",
             "-1,-1",
+            "c008000000000000,0000000000000000,c01e000000000000,c020000000000000,c022000000000000,c024000000000000",
+            "1,2,3",
+        ],
+    ),
+    (
+        "unused_alts",
+        &[
+            "g,T",
+            "0,1",
             "c008000000000000,0000000000000000,c01e000000000000,c020000000000000,c022000000000000,c024000000000000",
             "1,2,3",
         ],

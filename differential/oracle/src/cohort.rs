@@ -29,6 +29,11 @@ impl Site {
     pub fn covers(&self, position: u64) -> bool {
         self.start <= position && position <= self.end
     }
+
+    fn capitals(&self) -> Site {
+        let alts = self.alts.iter().map(|alt| capitals(alt)).collect();
+        Site { ref_allele: capitals(&self.ref_allele), alts, ..self.clone() }
+    }
 }
 
 #[derive(Debug, Clone, PartialEq, Eq, Default)]
@@ -112,6 +117,22 @@ impl Lent {
             lent.reference = Some(read_reference(&text).map_err(|r| at("reference.kv", r))?);
         }
         Ok(lent)
+    }
+
+    /// The call as it is read: alleles and bases in capitals, names and contigs as they are.
+    pub fn capitals(&self) -> Lent {
+        let sites = self.cohort.sites.iter().map(Site::capitals).collect();
+        let raised = |s: &Stretch| Stretch { bases: capitals(&s.bases), ..s.clone() };
+        Lent {
+            cohort: Cohort { sites, samples: self.cohort.samples.clone() },
+            clip: self.clip.clone(),
+            reference: self.reference.as_ref().map(|groups| groups.iter().map(raised).collect()),
+        }
+    }
+
+    /// Some letter of an allele or of the bases is small.
+    pub fn has_small_letters(&self) -> bool {
+        *self != self.capitals()
     }
 
     /// The files of this call, by name.

@@ -5,7 +5,7 @@ use crate::cohort::{Lent, Site, Stretch};
 use crate::text::*;
 use std::collections::BTreeSet;
 
-/// A kept interval with the site taken from each sample that has one, lowest sample first.
+/// A kept interval, as its call spells alleles, with the site taken from each sample that has one, lowest sample first.
 pub struct Interval<'a> {
     pub contig: &'a str,
     pub start: u64,
@@ -26,7 +26,7 @@ impl Interval<'_> {
     }
 }
 
-/// A reference for a call that is lent none, with the letters of Note 2 where one is needed and nothing else; neighbours stand in one group.
+/// A reference for a call in capitals that is lent none, with the letters of Note 2 where one is needed and nothing else; neighbours stand in one group.
 pub fn reached_letters(lent: &Lent) -> Vec<Stretch> {
     let mut found: Vec<Stretch> = Vec::new();
     for contig in contigs(lent) {
@@ -41,14 +41,20 @@ pub fn reached_letters(lent: &Lent) -> Vec<Stretch> {
     found
 }
 
-/// The call as the Rust is fed it. Where a sample's sites overlap, those that start later come first; where no reference is lent and a letter
-/// is needed, the reference has the letters of Note 2.
+/// The call as the Rust is fed it: alleles and bases in capitals. Where a sample's sites overlap, those that start later come first; where no
+/// reference is lent and a letter is needed, the reference has the letters of Note 2.
 pub fn fed(lent: &Lent) -> Lent {
-    let mut call = Lent { cohort: lent.cohort.for_the_rust(), ..lent.clone() };
-    if lent.reference.is_none() {
-        call.reference = Some(reached_letters(lent)).filter(|letters| !letters.is_empty());
+    let read = lent.capitals();
+    let mut call = Lent { cohort: read.cohort.for_the_rust(), ..read.clone() };
+    if read.reference.is_none() {
+        call.reference = Some(reached_letters(&read)).filter(|letters| !letters.is_empty());
     }
     call
+}
+
+/// No reference is lent, and a letter is needed.
+pub fn lacks_letters(lent: &Lent) -> bool {
+    lent.reference.is_none() && contigs(lent).into_iter().any(|c| intervals(lent, c).iter().any(Interval::needs_letter))
 }
 
 pub fn contigs(lent: &Lent) -> BTreeSet<&str> {
@@ -122,8 +128,9 @@ fn kept(lent: &Lent, contig: &str, start: u64, end: u64) -> bool {
     }
 }
 
-/// Refusals 11 to 13.
+/// Refusals 11 to 13, of the call as it is read.
 pub fn check(lent: &Lent) -> Result<(), Refusal> {
+    let lent = &lent.capitals();
     for contig in contigs(lent) {
         for interval in intervals(lent, contig) {
             check_letter(lent, &interval)?;

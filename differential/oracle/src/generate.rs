@@ -248,12 +248,61 @@ pub fn lent(profile: &Profile, seed: u64) -> Lent {
             continue;
         }
         if !profile.patched {
-            return drawn;
+            return lowered(drawn, seed);
         }
         let more = patched(&drawn, rng.any());
         if more != drawn {
-            return more;
+            return lowered(more, seed);
         }
+    }
+}
+
+/// The numbers that say which letters are small, in a third of all seeds. They are drawn apart, so that nothing else of a draw depends on them.
+fn small_letters(seed: u64) -> Option<Rng> {
+    let mut rng = Rng::new(mix(seed).rotate_left(17));
+    (rng.below(3) == 0).then_some(rng)
+}
+
+/// An allele or bases with all letters small, none, or single ones. `<NON_REF>` and `*` have one spelling.
+fn lower(rng: &mut Rng, spelling: &str) -> String {
+    if spelling == NON_REF || spelling == SPAN_DEL {
+        return spelling.to_string();
+    }
+    let percent = *rng.pick(&[0, 10, 50, 100]);
+    let letter = |c: char| if rng.chance(percent) { c.to_ascii_lowercase() } else { c };
+    spelling.chars().map(letter).collect()
+}
+
+/// The same call, in a third of all seeds with small letters in alleles and bases.
+pub fn lowered(mut lent: Lent, seed: u64) -> Lent {
+    if let Some(rng) = &mut small_letters(seed) {
+        for site in &mut lent.cohort.sites {
+            site.ref_allele = lower(rng, &site.ref_allele);
+            site.alts.iter_mut().for_each(|alt| *alt = lower(rng, alt));
+        }
+        for group in lent.reference.iter_mut().flatten() {
+            group.bases = lower(rng, &group.bases);
+        }
+    }
+    lent
+}
+
+/// The same list, likewise.
+fn lowered_list(mut list: List, seed: u64) -> List {
+    if let Some(rng) = &mut small_letters(seed) {
+        for record in &mut list.records {
+            record.ref_allele = lower(rng, &record.ref_allele);
+            record.alts.iter_mut().for_each(|alt| *alt = lower(rng, alt));
+        }
+    }
+    list
+}
+
+/// The same alleles between commas, likewise.
+fn lowered_alleles(alleles: String, seed: u64) -> String {
+    match &mut small_letters(seed) {
+        Some(rng) => alleles.split(',').map(|a| lower(rng, a)).collect::<Vec<_>>().join(","),
+        None => alleles,
     }
 }
 
@@ -742,7 +791,7 @@ fn runs(positions: &[u64]) -> Vec<(u64, u64)> {
 }
 
 /// A combined list that no program need have written: GT need not follow from PL, `<NON_REF>`
-/// may stand anywhere.
+/// may stand anywhere, letters may be small.
 pub fn combined_list(seed: u64) -> List {
     let mut rng = Rng::new(seed);
     let odd = rng.chance(25);
@@ -770,7 +819,7 @@ pub fn combined_list(seed: u64) -> List {
             list.records.push(record);
         }
     }
-    list
+    lowered_list(list, seed)
 }
 
 fn list_record(rng: &mut Rng, contig: &str, pos: u64, samples: usize, extreme: u64) -> ListRecord {
@@ -858,14 +907,18 @@ fn pair_at(place: usize) -> (usize, usize) {
 pub fn group(kind: &str, seed: u64) -> Vec<String> {
     let mut rng = Rng::new(seed);
     match kind {
-        "trim" => vec![trim_alleles(&mut rng)],
+        "trim" => vec![lowered_alleles(trim_alleles(&mut rng), seed)],
         "likelihoods" | "gq" => {
             let n = [1, 2, 3, 4, 5, 8, 16][rng.weighted(&[5, 30, 30, 15, 10, 8, 2])];
             let extreme = *rng.pick(&[0, 10, 80]);
             vec![comma(&pl(&mut rng, n, extreme))]
         }
         "subset" => subset_inputs(&mut rng),
-        _ => unused_alts_inputs(&mut rng),
+        _ => {
+            let mut inputs = unused_alts_inputs(&mut rng);
+            inputs[0] = lowered_alleles(inputs[0].clone(), seed);
+            inputs
+        }
     }
 }
 

@@ -34,6 +34,18 @@ pub struct List {
     pub records: Vec<ListRecord>,
 }
 
+impl List {
+    /// The list as it is read: alleles in capitals.
+    pub fn capitals(&self) -> List {
+        let raised = |r: &ListRecord| ListRecord {
+            ref_allele: capitals(&r.ref_allele),
+            alts: r.alts.iter().map(|alt| capitals(alt)).collect(),
+            ..r.clone()
+        };
+        List { samples: self.samples.clone(), records: self.records.iter().map(raised).collect() }
+    }
+}
+
 pub fn write_combined(list: &List) -> String {
     write_list(list, true)
 }

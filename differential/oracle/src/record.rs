@@ -1,7 +1,7 @@
 //! The recorded answers: made from a seed, and held against the Rust again.
 
 use crate::alleles::{answer_group, answer_text, KINDS};
-use crate::by_hand::{HandCohort, COHORTS, COMBINED_LISTS, GROUPS, LETTERS, NESTED};
+use crate::by_hand::{HandCohort, COHORTS, COMBINED_LISTS, GROUPS, LETTERS, NESTED, SPELLED_LISTS, SPELLINGS};
 use crate::call::{call, call_by_the_whole, sums_fit, without_depths};
 use crate::cohort::{read_cohort, Lent};
 use crate::combine::combine;
@@ -60,8 +60,9 @@ pub fn combined(lent: &Lent) -> Result<(List, String), String> {
     Ok((list, text))
 }
 
-/// The called list, the same from the single functions and from the Rust's whole.
+/// The called list, the same from the single functions and from the Rust's whole, fed the alleles in capitals.
 pub fn called(list: &List) -> Result<String, String> {
+    let list = &list.capitals();
     let called = call(list);
     let same = if sums_fit(list) {
         call_by_the_whole(list)? == called
@@ -96,7 +97,7 @@ fn record_combine(folder: &Path, seed: u64) -> Result<Vec<(usize, String)>, Stri
         write_folder(&folder.join(format!("combine/{number:03}")), &files)?;
         index.push_str(&format!("{number:03} {from}{}\n", by_model(lent)));
         // combined lists for `call` come from the other sorts
-        let others = ["nested", "letters"];
+        let others = ["nested", "letters", "spelling"];
         if !others.iter().any(|sort| from.starts_with(sort)) && !NESTED.iter().any(|hand| from.ends_with(hand.shows)) {
             lists.push((number, text));
         }
@@ -134,6 +135,10 @@ fn record_combine(folder: &Path, seed: u64) -> Result<Vec<(usize, String)>, Stri
         let (lent, text) = hand_list(hand)?;
         keep(&lent, text, format!("letters by hand: {}", hand.shows))?;
     }
+    for hand in SPELLINGS {
+        let (lent, text) = hand_list(hand)?;
+        keep(&lent, text, format!("spelling by hand: {}", hand.shows))?;
+    }
     write_file(&folder.join("combine/INDEX.txt"), &index)?;
     Ok(lists)
 }
@@ -144,8 +149,11 @@ fn by_model(lent: &Lent) -> String {
     if lent.cohort.overlaps_itself() {
         why.push("sites of a sample overlap");
     }
-    if domain::fed(lent).reference != lent.reference {
+    if domain::lacks_letters(lent) {
         why.push("letters without a reference");
+    }
+    if lent.has_small_letters() {
+        why.push("small letters");
     }
     match why.is_empty() {
         true => String::new(),
@@ -257,6 +265,9 @@ fn record_call(folder: &Path, seed: u64, lists: &[(usize, String)]) -> Result<()
             made += 1;
         }
     }
+    for (shows, text) in SPELLED_LISTS {
+        keep(text, format!("by hand: {shows}"))?;
+    }
     write_file(&folder.join("call/INDEX.txt"), &index)
 }
 
@@ -362,7 +373,7 @@ fn same(path: &Path, text: &str) -> Result<(), String> {
 
 /// Draws calls and lists that are not kept, and holds each answer to what a list must be.
 pub fn sweep(seed: u64, count: u64) -> Result<String, String> {
-    let (mut records, mut kept, mut referenced) = (0, 0, 0);
+    let (mut records, mut kept, mut referenced, mut small) = (0, 0, 0, 0);
     for case in 0..count {
         let profile = &generate::PROFILES[(case % generate::PROFILES.len() as u64) as usize];
         let case_seed = case_seed(seed, profile.name, case);
@@ -371,6 +382,7 @@ pub fn sweep(seed: u64, count: u64) -> Result<String, String> {
         let (list, _) = combined(&lent).map_err(|e| format!("{drawn}: {e}"))?;
         records += list.records.len();
         referenced += u64::from(lent.reference.is_some());
+        small += u64::from(lent.has_small_letters());
         called(&list).map_err(|e| format!("{drawn}: {e}"))?;
         let list = generate::combined_list(case_seed);
         kept += call(&list).records.len();
@@ -382,6 +394,6 @@ pub fn sweep(seed: u64, count: u64) -> Result<String, String> {
         }
     }
     Ok(format!(
-        "{count} calls, {referenced} with a reference, gave {records} records; {count} combined lists gave {kept} called records\n"
+        "{count} calls, {referenced} with a reference, {small} with small letters, gave {records} records; {count} combined lists gave {kept} called records\n"
     ))
 }

@@ -147,11 +147,21 @@ pub fn name(value: &str) -> Result<String, Refusal> {
     Ok(value.to_string())
 }
 
+/// Letters in either case (Note 6).
 pub fn is_letters(allele: &str, most: usize) -> bool {
-    (1..=most).contains(&allele.len()) && allele.bytes().all(|b| b"ACGTN".contains(&b))
+    (1..=most).contains(&allele.len()) && allele.bytes().all(|b| b"ACGTNacgtn".contains(&b))
 }
 
-/// REF and the ALTs, at most `count` of `letters` letters, none twice.
+/// An allele or bases as the scope reads them (Note 6): letters are capitals. What is no letters, `<NON_REF>` and `*` too, has one spelling.
+pub fn capitals(spelling: &str) -> String {
+    if is_letters(spelling, usize::MAX) {
+        spelling.to_ascii_uppercase()
+    } else {
+        spelling.to_string()
+    }
+}
+
+/// REF and the ALTs, at most `count` of `letters` letters, none twice, in whatever case.
 pub fn check_alleles(
     reference: &str,
     alts: &[String],
@@ -161,13 +171,15 @@ pub fn check_alleles(
     if !is_letters(reference, letters) {
         return refuse(5, format!("REF `{reference}`"));
     }
-    for (i, alt) in alts.iter().enumerate() {
+    let mut read = vec![capitals(reference)];
+    for alt in alts {
         if alt != NON_REF && alt != SPAN_DEL && !is_letters(alt, letters) {
             return refuse(5, format!("ALT `{alt}`"));
         }
-        if alt == reference || alts[..i].contains(alt) {
+        if read.contains(&capitals(alt)) {
             return refuse(5, format!("allele `{alt}` stands twice"));
         }
+        read.push(capitals(alt));
     }
     if !(2..=count).contains(&(1 + alts.len())) {
         return refuse(5, format!("{} alleles", 1 + alts.len()));

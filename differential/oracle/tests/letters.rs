@@ -1,5 +1,6 @@
 //! The reference that the Rust is fed where none is lent: at the first position of each kept interval where no taken site starts the letter of
-//! the lowest-numbered sample whose taken site's REF reaches it, or `N`; and at no other position a letter. The Rust gives that letter as REF.
+//! the lowest-numbered sample whose taken site's REF reaches it, as a capital, or `N`; and at no other position a letter. The Rust gives that
+//! letter as REF.
 
 use oracle::cohort::{Cohort, Lent, Site, Stretch};
 use oracle::rng::Rng;
@@ -41,7 +42,7 @@ fn expected(cohort: &Cohort, contig: &str, position: u64) -> Option<char> {
             letter = site.ref_allele.chars().rev().nth((last - position) as usize);
         }
     }
-    any.then_some(letter.unwrap_or('N'))
+    any.then_some(letter.unwrap_or('N').to_ascii_uppercase())
 }
 
 fn calls() -> Vec<Lent> {
@@ -70,7 +71,7 @@ fn the_letter_is_that_of_the_first_ref_which_reaches() {
                 assert_eq!(letter_in(&reference, contig, at), letter, "{lent:?} at {contig}:{at}");
                 count += usize::from(letter.is_some());
                 unknown += usize::from(letter == Some('N'));
-                later += usize::from(letter.is_some_and(|l| !interval.taken[0].ref_allele.starts_with(l)));
+                later += usize::from(letter.is_some_and(|l| !interval.taken[0].ref_allele.starts_with([l, l.to_ascii_lowercase()])));
             }
         }
         assert_eq!(reference.iter().map(|g| g.bases.len()).sum::<usize>(), count, "{lent:?}");
@@ -92,10 +93,12 @@ fn the_rust_gives_the_letter_that_it_is_fed() {
 }
 
 #[test]
-fn a_lent_reference_is_fed_as_it_stands() {
+fn a_lent_reference_is_fed_in_capitals() {
     let profile = generate::profile("referenced").expect("a sort");
     for seed in 0..100 {
         let lent = generate::lent(profile, seed);
-        assert_eq!(domain::fed(&lent).reference, lent.reference);
+        let mut groups = lent.reference.clone().expect("a reference");
+        groups.iter_mut().for_each(|g| g.bases.make_ascii_uppercase());
+        assert_eq!(domain::fed(&lent).reference, Some(groups));
     }
 }

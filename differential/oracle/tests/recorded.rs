@@ -1,6 +1,6 @@
-//! The recorded answers are the Rust's as it is fed, and the first is the scope's printed example with Note 2's letter.
+//! The recorded answers are the Rust's as it is fed, in capitals, and the first is the scope's printed example with Note 2's letter.
 
-use oracle::record::check;
+use oracle::record::{check, sorted_folders};
 use std::fs;
 use std::path::{Path, PathBuf};
 
@@ -53,4 +53,16 @@ pl=.
 ";
     let first = fs::read_to_string(recorded().join("combine/000/combined.kv"));
     assert_eq!(first.expect("combine/000"), printed);
+}
+
+#[test]
+fn what_is_written_is_capitals() {
+    for (part, answer) in [("combine", "combined.kv"), ("call", "called.kv")] {
+        for case in sorted_folders(&recorded().join(part)).expect("cases") {
+            let text = fs::read_to_string(case.join(answer)).expect("a list");
+            for line in text.lines().filter(|l| l.starts_with("ref=") || l.starts_with("alt=")) {
+                assert!(!line[4..].contains(|c: char| c.is_ascii_lowercase()), "{}: {line}", case.display());
+            }
+        }
+    }
 }

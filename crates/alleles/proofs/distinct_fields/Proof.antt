@@ -7,8 +7,9 @@ use mathlib.Core.List.{List}
 use mathlib.Core.Path.{_∙_, _≡_, refl, sym}
 use native.Mathlib.Omega.{arith}
 use Rattle.alleles.proofs.FieldLoop.{FieldsLeft, field-decides-with, field-ends, field-passed, fields-start}
-use Rattle.definitions.specs.Bytes.{comma, sameBytes}
+use Rattle.definitions.specs.Bytes.{comma}
 use Rattle.definitions.specs.Lists.{allDistinct, anyOf}
+use Rattle.laws.proofs.Capitals.{sameLetters}
 use Rattle.kv_text.proofs.Fields.{field-forward, field-within}
 use Rattle.kv_text.specs.Fields.{fieldLength}
 use Rattle.alleles.proofs.distinct_fields.Statement.{statement}
@@ -16,7 +17,7 @@ use Rattle.alleles.proofs.distinct_fields.Tie as tie
 
 -- the field from `at` on ends at `end`
 record Inv (list : List ℕ) (at end : ℕ) : Type 0 where
-  left : FieldsLeft (allDistinct sameBytes) list at
+  left : FieldsLeft (allDistinct sameLetters) list at
   ends : end ≡ at + fieldLength 44 (drop at list)
 
 rest : (s : List ℕ) (from : ℕ) → take (length s - from) (drop from s) ≡ drop from s
@@ -32,35 +33,35 @@ field-end-requires : tie.Need-field-end-requires Inv-loop μ-loop
 field-end-requires c κs = search needs
 
 loop-holds : tie.Need-loop-holds Inv-loop μ-loop
-loop-holds c = record { left = fields-start (allDistinct sameBytes) _; ends = (c .field-end .ensures) }
+loop-holds c = record { left = fields-start (allDistinct sameLetters) _; ends = (c .field-end .ensures) }
 
-sub-among-fields : tie.Need-sub-among-fields Inv-loop μ-loop
-sub-among-fields c = let h = field-forward _ _ _ _ ((c .before .loop .inv .ends)) in search needs
+sub-among-alleles : tie.Need-sub-among-alleles Inv-loop μ-loop
+sub-among-alleles c = let h = field-forward _ _ _ _ ((c .before .loop .inv .ends)) in search needs
 
-part-among-fields-start : tie.Need-part-among-fields-start Inv-loop μ-loop
-part-among-fields-start c = let h = field-forward _ _ _ _ ((c .before .loop .inv .ends)) in search needs
+part-among-alleles-start : tie.Need-part-among-alleles-start Inv-loop μ-loop
+part-among-alleles-start c = let h = field-forward _ _ _ _ ((c .before .loop .inv .ends)) in search needs
 
-part-among-fields-end : tie.Need-part-among-fields-end Inv-loop μ-loop
-part-among-fields-end c = search needs
+part-among-alleles-end : tie.Need-part-among-alleles-end Inv-loop μ-loop
+part-among-alleles-end c = search needs
 
-add-among-fields : tie.Need-add-among-fields Inv-loop μ-loop
-add-among-fields c = search needs
+add-among-alleles : tie.Need-add-among-alleles Inv-loop μ-loop
+add-among-alleles c = search needs
 
-sub-among-fields-2 : tie.Need-sub-among-fields-2 Inv-loop μ-loop
-sub-among-fields-2 c = search needs
+sub-among-alleles-2 : tie.Need-sub-among-alleles-2 Inv-loop μ-loop
+sub-among-alleles-2 c = search needs
 
-part-among-fields-start-2 : tie.Need-part-among-fields-start-2 Inv-loop μ-loop
-part-among-fields-start-2 c = search needs
+part-among-alleles-start-2 : tie.Need-part-among-alleles-start-2 Inv-loop μ-loop
+part-among-alleles-start-2 c = search needs
 
-part-among-fields-end-2 : tie.Need-part-among-fields-end-2 Inv-loop μ-loop
-part-among-fields-end-2 c = search needs
+part-among-alleles-end-2 : tie.Need-part-among-alleles-end-2 Inv-loop μ-loop
+part-among-alleles-end-2 c = search needs
 
-among-fields-requires : tie.Need-among-fields-requires Inv-loop μ-loop
-among-fields-requires c κs = search needs
+among-alleles-requires : tie.Need-among-alleles-requires Inv-loop μ-loop
+among-alleles-requires c κs = search needs
 
 returns : tie.Need-returns Inv-loop μ-loop
 unfolding allDistinct comma
-returns c = field-decides-with (allDistinct sameBytes) _ _ _ ((c .before .before .before .before .before .loop .inv .left)) ((c .before .before .before .before .before .loop .inv .ends)) _ (c .before .before .before .before .loop-test .taken) (rw (rw (rest ((c .before .before .before .before .before .before .before .before .args .list .now)) _, (c .if1 .taken)) at (sym ((c .before .among-fields .ensures)))))
+returns c = field-decides-with (allDistinct sameLetters) _ _ _ ((c .before .before .before .before .before .loop .inv .left)) ((c .before .before .before .before .before .loop .inv .ends)) _ (c .before .before .before .before .loop-test .taken) (rw (rw (rest ((c .before .before .before .before .before .before .before .before .args .list .now)) _, (c .if1 .taken)) at (sym ((c .before .among-alleles .ensures)))))
 
 add-at : tie.Need-add-at Inv-loop μ-loop
 add-at c = search needs
@@ -74,13 +75,13 @@ loop-less c = let h = field-forward _ _ _ _ ((c .before .before .before .before 
 loop-again : tie.Need-loop-again Inv-loop μ-loop
 unfolding allDistinct comma
 loop-again c = record {
-  left = field-passed (allDistinct sameBytes) _ _ _ ((c .before .before .before .before .before .before .loop .inv .left)) ((c .before .before .before .before .before .before .loop .inv .ends)) (c .before .before .before .before .before .loop-test .taken) (rw (rw (rest ((c .before .before .before .before .before .before .before .before .before .args .list .now)) _, (c .before .if1 .left)) at (sym ((c .before .before .among-fields .ensures)))));
+  left = field-passed (allDistinct sameLetters) _ _ _ ((c .before .before .before .before .before .before .loop .inv .left)) ((c .before .before .before .before .before .before .loop .inv .ends)) (c .before .before .before .before .before .loop-test .taken) (rw (rw (rest ((c .before .before .before .before .before .before .before .before .before .args .list .now)) _, (c .before .if1 .left)) at (sym ((c .before .before .among-alleles .ensures)))));
   ends = (c .field-end2 .ensures);
 }
 
 returns-2 : tie.Need-returns-2 Inv-loop μ-loop
 unfolding allDistinct anyOf
-returns-2 c = field-ends (allDistinct sameBytes) _ _ _ ((c .before .loop .inv .left)) ((c .before .loop .inv .ends)) (c .loop-test .left)
+returns-2 c = field-ends (allDistinct sameLetters) _ _ _ ((c .before .loop .inv .left)) ((c .before .loop .inv .ends)) (c .loop-test .left)
 
 pub distinct-fields-spec : {M : Type 1} → statement M
 distinct-fields-spec =
@@ -90,14 +91,14 @@ distinct-fields-spec =
     μ-loop
     field-end-requires
     loop-holds
-    sub-among-fields
-    part-among-fields-start
-    part-among-fields-end
-    add-among-fields
-    sub-among-fields-2
-    part-among-fields-start-2
-    part-among-fields-end-2
-    among-fields-requires
+    sub-among-alleles
+    part-among-alleles-start
+    part-among-alleles-end
+    add-among-alleles
+    sub-among-alleles-2
+    part-among-alleles-start-2
+    part-among-alleles-end-2
+    among-alleles-requires
     returns
     add-at
     field-end-requires-2

@@ -12,21 +12,21 @@ use Rattle.definitions.specs.Bytes.{comma, fieldsOf, text}
 use Rattle.definitions.specs.Lists.{indexWhere}
 use Rattle.kv_text.proofs.Fields.{field-within}
 use Rattle.sample_alleles.proofs.First.{Unread, all-read, alts-unread, next-unread, no-number, reading-found}
-use Rattle.tables.specs.Tables.{alleleSpelled, refAltsSpelled}
+use Rattle.laws.proofs.AllelesAsRead.{alleleAsRead, refAltsAsRead}
 use Rattle.called_lines.proofs.non_ref_number.Statement.{statement}
 use Rattle.called_lines.proofs.non_ref_number.Tie as tie
 
 -- the number that the function gives
 abbrev whole : List ℕ → ℕ
-whole alts = Option·getD (indexWhere (sameAllele nonRef) (take 256 (letters [] ∷ map alleleSpelled (fieldsOf comma alts)))) 0
+whole alts = Option·getD (indexWhere (sameAllele nonRef) (take 256 (letters [] ∷ map alleleAsRead (fieldsOf comma alts)))) 0
 
 -- whatever REF is
-any-ref : (alts ref : List ℕ) → whole alts ≡ Option·getD (indexWhere (sameAllele nonRef) (take 256 (allelesOf (refAltsSpelled ref alts)))) 0
-unfolding allelesOf refAltsSpelled sameAllele indexWhere
+any-ref : (alts ref : List ℕ) → whole alts ≡ Option·getD (indexWhere (sameAllele nonRef) (take 256 (allelesOf (refAltsAsRead ref (fieldsOf comma alts))))) 0
+unfolding allelesOf refAltsAsRead sameAllele indexWhere
 any-ref alts ref = refl
 
 abbrev Inv-loop : tie.InvT-loop
-Inv-loop alts at₀ number₀ t5 at number = Unread (sameAllele nonRef) alleleSpelled 0 alts (whole alts) at number
+Inv-loop alts at₀ number₀ t5 at number = Unread (sameAllele nonRef) alleleAsRead 0 alts (whole alts) at number
 
 abbrev μ-loop : tie.MeasureT-loop
 μ-loop alts at₀ number₀ t5 at number = length alts - at

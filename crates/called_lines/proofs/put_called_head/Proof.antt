@@ -42,12 +42,9 @@ put-number-line-requires c κs =
           (at-pre .args .pos .0) (at-pre .args .reference .now) (at-pre .args .alts .now),
     ))
 
-slice-aggregate-put-line-2 : tie.Need-slice-aggregate-put-line-2
-slice-aggregate-put-line-2 c = search needs
-
-put-line-requires-2 : tie.Need-put-line-requires-2
-put-line-requires-2 c κs =
-    let at-put-number-line = c .before .before .before .before in
+put-ref-line-requires : tie.Need-put-ref-line-requires
+put-ref-line-requires c κs =
+    let at-put-number-line = c .before .before .before in
     let at-put-line = at-put-number-line .before .before .before .before .before in
     let at-get = at-put-line .before .before .before in
     let at-pre = at-get .before .before .before .before .before in
@@ -62,8 +59,8 @@ put-line-requires-2 c κs =
 
 put-called-alts-requires : tie.Need-put-called-alts-requires
 put-called-alts-requires c κs =
-    let at-put-line2 = c .before .before .before in
-    let at-put-number-line = at-put-line2 .before .before .before .before .before in
+    let at-put-ref-line = c .before .before .before in
+    let at-put-number-line = at-put-ref-line .before .before .before .before in
     let at-put-line = at-put-number-line .before .before .before .before .before in
     let at-get = at-put-line .before .before .before in
     let at-pre = at-get .before .before .before .before .before in
@@ -72,7 +69,7 @@ put-called-alts-requires c κs =
       (at-pre .pre .fits),
       (at-put-line .put-line .ensures .next),
       pos .next,
-      (at-put-line2 .put-line2 .ensures .next),
+      (at-put-ref-line .put-ref-line .ensures .next),
       head-length
           (at-pre .args .contig .now) (at-pre .args .pos .0) (at-pre .args .reference .now) (at-pre .args .alts .now),
     )
@@ -83,13 +80,13 @@ same-length c = search needs
 returns : tie.Need-returns
 returns c =
     let at-put-called-alts = c .before .before in
-    let at-put-line2 = at-put-called-alts .before .before .before .before in
-    let at-put-number-line = at-put-line2 .before .before .before .before .before in
+    let at-put-ref-line = at-put-called-alts .before .before .before .before in
+    let at-put-number-line = at-put-ref-line .before .before .before .before in
     let at-put-line = at-put-number-line .before .before .before .before .before in
     let at-get = at-put-line .before .before .before in
     let at-args = at-get .before .before .before .before .before in
     head-laid (at-args .args .contig .now) (at-args .args .pos .0) (at-args .args .reference .now) (at-args .args .alts .now)
-    (at-put-line .put-line .ensures) (rw (at-get .get .ensures) at (at-put-number-line .put-number-line .ensures)) (at-put-line2 .put-line2 .ensures)
+    (at-put-line .put-line .ensures) (rw (at-get .get .ensures) at (at-put-number-line .put-number-line .ensures)) (at-put-ref-line .put-ref-line .ensures)
     (at-put-called-alts .put-called-alts .ensures)
 
 pub put-called-head-spec : {M : Type 1} → statement M
@@ -102,8 +99,7 @@ put-called-head-spec =
     put-line-requires
     slice-aggregate-put-number-line
     put-number-line-requires
-    slice-aggregate-put-line-2
-    put-line-requires-2
+    put-ref-line-requires
     put-called-alts-requires
     same-length
     returns)

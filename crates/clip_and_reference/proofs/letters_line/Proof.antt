@@ -1,23 +1,15 @@
 -- The value of the line, if it is letters.
-use Prim.Native.Nat.{ℕ}
 use borrow.Author.Needs.{needs}
-use mathlib.Core.Bool.{true}
-use mathlib.Core.List.{List}
 use mathlib.Core.Option.{some}
-use mathlib.Core.Path.{_∙_, _≡_, sym}
+use mathlib.Core.Path.{_∙_, sym}
 use native.Mathlib.Omega.{arith}
 use Rattle.definitions.specs.Alleles.{lettersOf}
-use Rattle.definitions.specs.Lists.{isThere}
 use Rattle.definitions.specs.Numbers.{maxNumber}
-use Rattle.laws.proofs.Tests.{not-there, only-if-there}
+use Rattle.laws.proofs.Capitals.{letters-raised}
+use Rattle.laws.proofs.Tests.{not-there}
 use Rattle.kv_text.proofs.Lines.{line-within, read-absent, read-right, read-wrong}
 use Rattle.clip_and_reference.proofs.letters_line.Statement.{statement}
 use Rattle.clip_and_reference.proofs.letters_line.Tie as tie
-
--- letters read as themselves
-letters-themselves : (s : List ℕ) → isThere (lettersOf maxNumber s) ≡ true → lettersOf maxNumber s ≡ some s
-unfolding lettersOf
-letters-themselves s h = only-if-there _ s h
 
 value-line-requires : tie.Need-value-line-requires
 value-line-requires c κs = search needs
@@ -46,7 +38,7 @@ is-letters-requires c κs = search needs
 returns-2 : tie.Need-returns-2
 unfolding maxNumber
 returns-2 c = let l = rw (c .before .before .before .before .v .given .1) at (c .before .before .before .before .before .before .value-line .ensures) in
-    (read-right _ _ _ (lettersOf maxNumber) _ _ _ (l .0) (letters-themselves _ (sym (c .before .is-letters .ensures) ∙ (c .if1 .taken))), l .1)
+    (read-right _ _ _ (lettersOf maxNumber) _ _ _ (l .0) (letters-raised _ _ (sym (c .before .is-letters .ensures) ∙ (c .if1 .taken))), l .1)
 
 returns-3 : tie.Need-returns-3
 unfolding maxNumber

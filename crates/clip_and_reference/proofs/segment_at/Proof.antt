@@ -1,13 +1,13 @@
 -- Three lines: a contig, a number and letters, the last of which stands at a position that is a number.
 use Prim.Native.Nat.{_+_, _-_, _<_, _≤_, ℕ}
 use borrow.Author.Needs.{needs}
-use lib.ListN.{length}
-use mathlib.Core.List.{List}
+use lib.ListN.{length, length-map}
+use mathlib.Core.List.{List, map}
 use mathlib.Core.Path.{_≡_}
 use native.Mathlib.Omega.{arith}
 use Rattle.clip_and_reference.proofs.ThreeLines.{first-unread, group-read, number-zero, out-of-order, part-read, referenceGroup, second-unread, third-start, third-unread, threeLines}
 use Rattle.clip_and_reference.specs.Groups.{SegmentRead}
-use Rattle.definitions.specs.Alleles.{lettersOf}
+use Rattle.definitions.specs.Alleles.{capital, lettersOf}
 use Rattle.definitions.specs.Bytes.{text}
 use Rattle.definitions.specs.ClipAndReference.{segmentOf}
 use Rattle.definitions.specs.Lines.{keyOf}
@@ -21,21 +21,23 @@ use Rattle.laws.proofs.Tests.{after-bind}
 use Rattle.clip_and_reference.proofs.segment_at.Statement.{statement}
 use Rattle.clip_and_reference.proofs.segment_at.Tie as tie
 
-module _ (s : List ℕ) (at : ℕ) (key : List ℕ) (a e : ℕ) (l : LineReads s at key (lettersOf maxNumber) (readTo (between s a e) e)) (h : a ≤ e) where
-  long : a + length (between s a e) ≡ e
-  long = part-long s a e h (omega (arith, line-within s at key (lettersOf maxNumber) _ e l))
+module _ (s : List ℕ) (at : ℕ) (key : List ℕ) (a e : ℕ) (l : LineReads s at key (lettersOf maxNumber) (readTo (map capital (between s a e)) e)) (h : a ≤ e) where
+  long : a + length (map capital (between s a e)) ≡ e
+  long =
+      rw (length-map (between s a e) capital)
+      (part-long s a e h (omega (arith, line-within s at key (lettersOf maxNumber) _ e l)))
 
   -- the letters are few enough that the sum fits
   few : e - a ≤ 2147483647
   unfolding LineReads lineValue maxNumber
-  few = after-bind _ _ (l .value) λ w p q. omega (arith, letters-sound 2147483647 w (between s a e) q .not-too-long, long)
+  few = after-bind _ _ (l .value) λ w p q. omega (arith, letters-sound 2147483647 w (map capital (between s a e)) q .not-too-long, long)
 
   -- where the last letter stands, by the code's sum
-  past-the-end : (first : ℕ) → 2147483648 < first + (e - a) → maxNumber < first + length (between s a e) - 1
+  past-the-end : (first : ℕ) → 2147483648 < first + (e - a) → maxNumber < first + length (map capital (between s a e)) - 1
   unfolding maxNumber
   past-the-end first k = omega (arith, long)
 
-  not-past : (first : ℕ) → first + (e - a) ≤ 2147483648 → first + length (between s a e) - 1 ≤ maxNumber
+  not-past : (first : ℕ) → first + (e - a) ≤ 2147483648 → first + length (map capital (between s a e)) - 1 ≤ maxNumber
   unfolding maxNumber
   not-past first k = omega (arith, long)
 

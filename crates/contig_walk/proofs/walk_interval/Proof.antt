@@ -1,6 +1,9 @@
 -- By what is found at the interval's first position.
 use borrow.Author.Needs.{needs}
+use mathlib.Core.List.{map}
+use mathlib.Core.Path.{ap}
 use Rattle.contig_walk.proofs.Turns.{front-within, lay-ready, own-asked, own-known, owners-exact, owners-front, turn-bare, turn-laid, turn-none}
+use Rattle.definitions.specs.Alleles.{capital}
 use Rattle.definitions.specs.MergedRef.{unknownBase}
 use Rattle.merged_records.specs.Found.{RecordFound}
 use Rattle.merged_ref.specs.Answers.{refBytes}
@@ -89,7 +92,7 @@ lay-record-requires c κs =
     let answer = at-merge .merge-reference-confidence .ensures in
     let f = rw (c .before .before .before .before .before .before .before .before .before .before .before .before .before .before .here2 .given .1) at (answer .0 (start .pre .0 .runs)) in
     let own = own-known (start .pre .0) _ _ _ _ _ _ f _ (answer .1 .0 (start .pre .0 .runs)) (answer .1 .1 (start .pre .0 .runs)) (c .before .before .before .before .before .before .before .before .before .own-sites .ensures) in
-    (lay-ready (start .pre .0) _ _ _ _ _ _ f _ (c .before .before .before .before .before .before .part .ensures) _ own _ (c .before .before .before .before .ref-bytes .ensures), start .pre .1)
+    (lay-ready (start .pre .0) _ _ _ _ _ _ f _ (c .before .before .before .before .before .before .part .ensures) _ own _ (ap (map capital) (c .before .before .before .before .ref-bytes .ensures)), start .pre .1)
 
 same-length : tie.Need-same-length
 same-length c = c .before .before .before .before .before .before .before .before .merge-reference-confidence .kept .1 .1 .1 .1 .1 .1 .1 .1 .1 .1 .0
@@ -150,10 +153,11 @@ returns-3 c = λ ready way.
     let f = rw (c .before .before .before .before .before .before .before .before .before .before .before .before .before .before .before .before .before .before .before .before .before .here2 .given .1) at (answer .0 (ready .runs)) in
     let at-allele = c .before .before .before .before .before .before .before .before .before .before .before in
     let at-part = at-allele .before .before in
+    let allele-is = ap (map capital) (at-allele .ref-bytes .ensures) in
     let own = own-known ready _ _ _ _ _ _ f _ (answer .1 .0 (ready .runs)) (answer .1 .1 (ready .runs)) (at-part .before .before .before .own-sites .ensures) in
     turn-laid ready (way .waiting) (way .begun .d₀) (way .begun .bytes) (way .begun .records) (way .holds)
-    _ _ _ _ _ _ f _ (at-part .part .ensures) _ own _ (at-allele .ref-bytes .ensures) _ _ _
-    (c .before .before .before .before .before .before .lay-record .ensures (lay-ready ready _ _ _ _ _ _ f _ (at-part .part .ensures) _ own _ (at-allele .ref-bytes .ensures)) way)
+    _ _ _ _ _ _ f _ (at-part .part .ensures) _ own _ allele-is _ _ _
+    (c .before .before .before .before .before .before .lay-record .ensures (lay-ready ready _ _ _ _ _ _ f _ (at-part .part .ensures) _ own _ allele-is) way)
 
 pub walk-interval-spec : {M : Type 1} → statement M
 walk-interval-spec =

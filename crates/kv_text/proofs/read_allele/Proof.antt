@@ -2,21 +2,18 @@
 use Prim.Native.Nat.{ℕ}
 use borrow.Author.Needs.{needs}
 use mathlib.Core.Bool.{false, true}
-use mathlib.Core.List.{List}
+use mathlib.Core.List.{List, map}
 use mathlib.Core.Option.{none, some}
 use mathlib.Core.Path.{_∙_, _≡_, sym}
-use Rattle.definitions.specs.Alleles.{alleleOf, letters, lettersOf, nonRef, spanDel, spelled}
+use Rattle.definitions.specs.Alleles.{alleleOf, capital, letters, lettersOf, nonRef, spanDel, spelled}
 use Rattle.definitions.specs.Bytes.{sameBytes, text}
 use Rattle.definitions.specs.Lists.{isThere}
-use Rattle.laws.proofs.Tests.{not-there, only-if-there}
+use Rattle.laws.proofs.Capitals.{letters-raised}
+use Rattle.laws.proofs.Tests.{not-there}
 use Rattle.kv_text.proofs.read_allele.Statement.{statement}
 use Rattle.kv_text.proofs.read_allele.Tie as tie
 
 module _ (s : List ℕ) (most : ℕ) where
-  letters-itself : isThere (lettersOf most s) ≡ true → lettersOf most s ≡ some s
-  unfolding lettersOf
-  letters-itself t = only-if-there _ s t
-
   span-del : sameBytes s (text "*") ≡ true → some spanDel ≡ alleleOf most s
   unfolding alleleOf spelled
   span-del h = rw h
@@ -27,9 +24,9 @@ module _ (s : List ℕ) (most : ℕ) where
     non-ref k = rw (h, k)
 
     module _ (k : sameBytes s (text "<NON_REF>") ≡ false) where
-      of-letters : isThere (lettersOf most s) ≡ true → some (letters s) ≡ alleleOf most s
+      of-letters : isThere (lettersOf most s) ≡ true → some (letters (map capital s)) ≡ alleleOf most s
       unfolding alleleOf spelled
-      of-letters t = rw (h, k, letters-itself t)
+      of-letters t = rw (h, k, letters-raised most s t)
 
       fault : isThere (lettersOf most s) ≡ false → none ≡ alleleOf most s
       unfolding alleleOf spelled

@@ -2,8 +2,9 @@
 use borrow.Author.Needs.{needs}
 use mathlib.Core.Path.{_∙_, sym}
 use Rattle.definitions.specs.MergedRef.{siteRef}
+use Rattle.laws.proofs.AllelesAsRead.{refAltsAsRead}
 use Rattle.merged_ref.proofs.Starting.{start-elsewhere, start-there, tested-elsewhere, tested-there}
-use Rattle.tables.specs.Tables.{refAltsSpelled, siteAt}
+use Rattle.tables.specs.Tables.{siteAt}
 use Rattle.merged_ref.proofs.ref_agrees.Statement.{statement}
 use Rattle.merged_ref.proofs.ref_agrees.Tie as tie
 
@@ -26,7 +27,7 @@ is-prefix-requires : tie.Need-is-prefix-requires
 is-prefix-requires c κs = search needs
 
 returns-2 : tie.Need-returns-2
-unfolding siteRef siteAt refAltsSpelled
+unfolding siteRef siteAt refAltsAsRead
 returns-2 c = (c .is-prefix .ensures) ∙ rw ((c .before .reference-allele .ensures)) (tested-there _ _ _ (start-there _ _ _ _ (sym (c .before .before .before .before .before .start-of .ensures) ∙ sym (c .before .before .before .before .get .ensures) ∙ (c .before .before .if1 .left) ∙ (c .before .before .before .get2 .ensures))))
 
 pub ref-agrees-spec : {M : Type 1} → statement M

@@ -5,9 +5,10 @@ use borrow.Author.Tests.{not-false, not-true}
 use lib.ListN.{drop, drop-of-length-le, getD, length}
 use lib.Seq.{drop-cons}
 use mathlib.Core.Bool.{Bool, _&&_, false, true}
-use mathlib.Core.List.{List, [], _∷_}
+use mathlib.Core.List.{List, [], _∷_, map}
 use mathlib.Core.Path.{_∙_, _≡_, refl, sym}
 use native.Mathlib.Numerals.{add-one}
+use Rattle.definitions.specs.Alleles.{capital}
 use Rattle.definitions.specs.Bytes.{isPrefix}
 use Rattle.definitions.specs.Lists.{allOf, filterBy}
 use Rattle.merged_ref.proofs.Starting.{tested}
@@ -17,14 +18,14 @@ use Rattle.merged_ref.proofs.refs_agree.Tie as tie
 
 module _ (s rows : List ℕ) (position : ℕ) (longest : List ℕ) where
   abbrev agree : List ℕ → Bool
-  agree found = allOf (λ ref. isPrefix ref longest) (startingRefs position (sitesAt s rows found))
+  agree found = allOf (λ ref. isPrefix ref (map capital longest)) (startingRefs position (sitesAt s rows found))
 
   record Inv (found : List ℕ) (i : ℕ) : Type 0 where
     left : agree (drop i found) ≡ agree found
 
   module _ (found : List ℕ) (i : ℕ) (inv : Inv found i) where
     one-more : i < length found → agree (getD found i 0 ∷ []) && agree (drop (i + 1) found) ≡ agree found
-    one-more h = sym (tested (λ ref. isPrefix ref longest) position _ _) ∙ rw (add-one i) (rw (drop-cons found i 0 h) at (inv .left))
+    one-more h = sym (tested (λ ref. isPrefix ref (map capital longest)) position _ _) ∙ rw (add-one i) (rw (drop-cons found i 0 h) at (inv .left))
 
     turn : {here : Bool} → i < length found → here ≡ agree (getD found i 0 ∷ []) → here ≡ true → Inv found (i + 1)
     turn h e t = record { left = rw (← e, t) at (one-more h) }

@@ -2,6 +2,8 @@
 use Prim.Native.Nat.{_-_}
 use borrow.Author.Needs.{needs}
 use lib.ListN.{drop}
+use mathlib.Core.List.{map}
+use Rattle.definitions.specs.Alleles.{capital}
 use Rattle.definitions.specs.Printed.{printedSampleData}
 use Rattle.kv_write.proofs.Laying.{Left, done, left-length, recast, room, several, start}
 use Rattle.laws.proofs.Every.{every-at}
@@ -11,7 +13,9 @@ use Rattle.record_lines.proofs.put_own_samples.Statement.{statement}
 use Rattle.record_lines.proofs.put_own_samples.Tie as tie
 
 abbrev Inv-loop : tie.InvT-loop
-Inv-loop s rows own position reference alts fields alt-count out₀ at next₀ i₀ i-end out next i = Left out₀ at (printedOwn s rows (position .0) reference alts own) out next (printedOwn s rows (position .0) reference alts (drop i own))
+Inv-loop s rows own position reference alts fields alt-count out₀ at next₀ i₀ i-end out next i =
+    let printed = printedOwn s rows (position .0) (map capital reference) alts in
+    Left out₀ at (printed own) out next (printed (drop i own))
 
 abbrev μ-loop : tie.MeasureT-loop
 μ-loop s rows own position reference alts fields alt-count out₀ at next₀ i₀ i-end out next i = i-end - i

@@ -1,85 +1,39 @@
 -- The lines one behind the other, each as long as its contract says.
 use borrow.Author.Needs.{needs}
 use native.Mathlib.Omega.{arith}
-use Rattle.definitions.specs.Numbers.{maxNumber}
-use Rattle.record_lines.proofs.Head.{head-laid, head-length}
+use Rattle.record_lines.proofs.Head.{head-laid, head-parts}
 use Rattle.record_lines.proofs.put_record_head.Statement.{statement}
 use Rattle.record_lines.proofs.put_record_head.Tie as tie
 
-get-requires : tie.Need-get-requires
-get-requires c κs = search needs
-
-cast-pos : tie.Need-cast-pos
-unfolding maxNumber
-cast-pos c = omega (arith, c .get .ensures, c .before .before .before .before .before .pre .pos)
-
-end-from-requires : tie.Need-end-from-requires
-end-from-requires c κs = c .before .before .before .before .before .pre .end
+put-place-requires : tie.Need-put-place-requires
+put-place-requires c κs =
+    let start = c .before .before .before .before .before in
+    let args = start .args in
+    record {
+      pos = start .pre .pos;
+      end = start .pre .end;
+      fits = omega (arith, start .pre .fits, head-parts (args .contig .now) (args .loc .start .0) (args .loc .end .0) (args .reference .now) (args .alts .now));
+    }
 
 slice-aggregate-put-line : tie.Need-slice-aggregate-put-line
 slice-aggregate-put-line c = search needs
 
 put-line-requires : tie.Need-put-line-requires
 put-line-requires c κs =
-    let start = c .before .before .before .before .before .before .before .before in
+    let start = c .before .before .before .before .before .before .before .before .before .before in
     let args = start .args in
-    let whole = head-length (args .contig .now) (args .loc .start .0) (args .loc .end .0) (args .reference .now) (args .alts .now) in
-    omega (arith, start .pre .fits, whole)
-
-slice-aggregate-put-number-line : tie.Need-slice-aggregate-put-number-line
-slice-aggregate-put-number-line c = search needs
-
-put-number-line-requires : tie.Need-put-number-line-requires
-put-number-line-requires c κs =
-    let at-contig = c .before .before .before .before in
-    let start = at-contig .before .before .before .before .before .before .before .before .before in
-    let args = start .args in
-    let whole = head-length (args .contig .now) (args .loc .start .0) (args .loc .end .0) (args .reference .now) (args .alts .now) in
-    rw (at-contig .before .before .before .before .get .ensures) (omega (arith, start .pre .fits, at-contig .put-line .ensures .next, whole))
-
-slice-aggregate-put-optional-number-line : tie.Need-slice-aggregate-put-optional-number-line
-slice-aggregate-put-optional-number-line c = search needs
-
-put-optional-number-line-requires : tie.Need-put-optional-number-line-requires
-put-optional-number-line-requires c κs =
-    let at-pos = c .before .before .before .before in
-    let at-contig = at-pos .before .before .before .before .before in
-    let start = at-contig .before .before .before .before .before .before .before .before .before in
-    let args = start .args in
-    let whole = head-length (args .contig .now) (args .loc .start .0) (args .loc .end .0) (args .reference .now) (args .alts .now) in
-    let pos = rw (at-contig .before .before .before .before .get .ensures) at (at-pos .put-number-line .ensures) in
-    rw (at-contig .before .before .before .end-from .ensures) (omega (arith, start .pre .fits, at-contig .put-line .ensures .next, pos .next, whole))
+    omega (arith, start .pre .fits, c .before .before .before .before .put-place .ensures .next, head-parts (args .contig .now) (args .loc .start .0) (args .loc .end .0) (args .reference .now) (args .alts .now))
 
 slice-aggregate-put-line-2 : tie.Need-slice-aggregate-put-line-2
 slice-aggregate-put-line-2 c = search needs
 
 put-line-requires-2 : tie.Need-put-line-requires-2
 put-line-requires-2 c κs =
-    let at-end = c .before .before .before .before in
-    let at-pos = at-end .before .before .before .before .before in
-    let at-contig = at-pos .before .before .before .before .before in
-    let start = at-contig .before .before .before .before .before .before .before .before .before in
-    let args = start .args in
-    let whole = head-length (args .contig .now) (args .loc .start .0) (args .loc .end .0) (args .reference .now) (args .alts .now) in
-    let pos = rw (at-contig .before .before .before .before .get .ensures) at (at-pos .put-number-line .ensures) in
-    let end = rw (at-contig .before .before .before .end-from .ensures) at (at-end .put-optional-number-line .ensures) in
-    omega (arith, start .pre .fits, at-contig .put-line .ensures .next, pos .next, end .next, whole)
-
-slice-aggregate-put-line-3 : tie.Need-slice-aggregate-put-line-3
-slice-aggregate-put-line-3 c = search needs
-
-put-line-requires-3 : tie.Need-put-line-requires-3
-put-line-requires-3 c κs =
     let at-ref = c .before .before .before .before in
-    let at-end = at-ref .before .before .before .before .before in
-    let at-pos = at-end .before .before .before .before .before in
-    let at-contig = at-pos .before .before .before .before .before in
-    let start = at-contig .before .before .before .before .before .before .before .before .before in
+    let at-place = at-ref .before .before .before .before .before in
+    let start = at-place .before .before .before .before .before .before in
     let args = start .args in
-    let whole = head-length (args .contig .now) (args .loc .start .0) (args .loc .end .0) (args .reference .now) (args .alts .now) in
-    let pos = rw (at-contig .before .before .before .before .get .ensures) at (at-pos .put-number-line .ensures) in
-    let end = rw (at-contig .before .before .before .end-from .ensures) at (at-end .put-optional-number-line .ensures) in
-    omega (arith, start .pre .fits, at-contig .put-line .ensures .next, pos .next, end .next, at-ref .put-line2 .ensures .next, whole)
+    omega (arith, start .pre .fits, at-place .put-place .ensures .next, at-ref .put-line .ensures .next, head-parts (args .contig .now) (args .loc .start .0) (args .loc .end .0) (args .reference .now) (args .alts .now))
 
 same-length : tie.Need-same-length
 same-length c = search needs
@@ -87,31 +41,19 @@ same-length c = search needs
 returns : tie.Need-returns
 returns c =
     let at-ref = c .before .before .before .before .before .before .before in
-    let at-end = at-ref .before .before .before .before .before in
-    let at-pos = at-end .before .before .before .before .before in
-    let at-contig = at-pos .before .before .before .before .before in
-    let args = at-contig .before .before .before .before .before .before .before .before .before .args in
-    let pos = rw (at-contig .before .before .before .before .get .ensures) at (at-pos .put-number-line .ensures) in
-    let end = rw (at-contig .before .before .before .end-from .ensures) at (at-end .put-optional-number-line .ensures) in
+    let at-place = at-ref .before .before .before .before .before in
+    let args = at-place .before .before .before .before .before .before .args in
     head-laid (args .contig .now) (args .loc .start .0) (args .loc .end .0) (args .reference .now) (args .alts .now)
-    (at-contig .put-line .ensures) pos end (at-ref .put-line2 .ensures) (c .before .before .put-line3 .ensures)
+    (at-place .put-place .ensures) (at-ref .put-line .ensures) (c .before .before .put-line2 .ensures)
 
 pub put-record-head-spec : {M : Type 1} → statement M
 put-record-head-spec =
     tie.close
     (tie.spec
-    get-requires
-    cast-pos
-    end-from-requires
+    put-place-requires
     slice-aggregate-put-line
     put-line-requires
-    slice-aggregate-put-number-line
-    put-number-line-requires
-    slice-aggregate-put-optional-number-line
-    put-optional-number-line-requires
     slice-aggregate-put-line-2
     put-line-requires-2
-    slice-aggregate-put-line-3
-    put-line-requires-3
     same-length
     returns)

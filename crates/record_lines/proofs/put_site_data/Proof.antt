@@ -1,6 +1,8 @@
 -- The map, AD and PL stand at the fronts of the arrays.
 use borrow.Author.Needs.{needs}
+use mathlib.Core.List.{map}
 use mathlib.Core.Path.{refl}
+use Rattle.definitions.specs.Alleles.{capital}
 use Rattle.record_lines.proofs.SiteValues.{ad-front, map-front, pl-front, printable, values-said}
 use Rattle.record_lines.proofs.put_site_data.Statement.{statement}
 use Rattle.record_lines.proofs.put_site_data.Tie as tie
@@ -29,7 +31,7 @@ array-share-prefix-map : tie.Need-array-share-prefix-map
 array-share-prefix-map c = search needs
 
 slice-aggregate-put-sample-data : tie.Need-slice-aggregate-put-sample-data
-slice-aggregate-put-sample-data c = let args = ((c .before .before .before .before .before .before .before .before .before .before .before .before .before .before .before .before .before .args)) in let m = map-front (args .s .now) (args .rows .now) (args .site) (((c .before .before .before .before .before .before .before .before .before .before .before .before .before .before .before .before .before .pre .0 .sound))) _ (args .position .0) (args .reference .now) (args .alts .now) refl (((c .before .before .before .before .before .before .before .before .before .before .before .before .before .before .before .before .before .pre .0 .few))) ((c .before .before .before .before .before .before .before .before .before .indexes-of-relevant-alleles-for-gvcf .ensures .0)) ((c .before .before .before .before .before .before .before .before .before .indexes-of-relevant-alleles-for-gvcf .ensures .1)) in m .long
+slice-aggregate-put-sample-data c = let args = ((c .before .before .before .before .before .before .before .before .before .before .before .before .before .before .before .before .before .args)) in let m = map-front (args .s .now) (args .rows .now) (args .site) (((c .before .before .before .before .before .before .before .before .before .before .before .before .before .before .before .before .before .pre .0 .sound))) _ (args .position .0) (map capital (args .reference .now)) (args .alts .now) refl (((c .before .before .before .before .before .before .before .before .before .before .before .before .before .before .before .before .before .pre .0 .few))) ((c .before .before .before .before .before .before .before .before .before .indexes-of-relevant-alleles-for-gvcf .ensures .0)) ((c .before .before .before .before .before .before .before .before .before .indexes-of-relevant-alleles-for-gvcf .ensures .1)) in m .long
 
 gq-of-requires : tie.Need-gq-of-requires
 gq-of-requires c κs = search needs
@@ -50,13 +52,13 @@ slice-aggregate-put-sample-data-3 : tie.Need-slice-aggregate-put-sample-data-3
 slice-aggregate-put-sample-data-3 c = let args = ((c .before .before .before .before .before .before .before .before .before .before .before .before .before .before .before .before .before .before .before .before .before .args)) in let p = pl-front (args .s .now) (args .rows .now) (args .site) (((c .before .before .before .before .before .before .before .before .before .before .before .before .before .before .before .before .before .before .before .before .before .pre .0 .sound))) _ refl ((c .before .before .before .before .before .before .before .pl-of .ensures .0)) ((c .before .before .before .before .before .before .before .pl-of .ensures .1)) in p .long
 
 put-sample-data-requires : tie.Need-put-sample-data-requires
-put-sample-data-requires c κs = let args = ((c .before .before .before .before .before .before .before .before .before .before .before .before .before .before .before .before .before .before .before .before .before .args)) in let m = map-front (args .s .now) (args .rows .now) (args .site) (((c .before .before .before .before .before .before .before .before .before .before .before .before .before .before .before .before .before .before .before .before .before .pre .0 .sound))) _ (args .position .0) (args .reference .now) (args .alts .now) refl (((c .before .before .before .before .before .before .before .before .before .before .before .before .before .before .before .before .before .before .before .before .before .pre .0 .few))) ((c .before .before .before .before .before .before .before .before .before .before .before .before .before .indexes-of-relevant-alleles-for-gvcf .ensures .0)) ((c .before .before .before .before .before .before .before .before .before .before .before .before .before .indexes-of-relevant-alleles-for-gvcf .ensures .1)) in let a = ad-front (args .s .now) (args .rows .now) (args .site) (((c .before .before .before .before .before .before .before .before .before .before .before .before .before .before .before .before .before .before .before .before .before .pre .0 .sound))) _ refl ((c .before .before .before .before .before .before .before .before .before .before .ad-of .ensures .0)) ((c .before .before .before .before .before .before .before .before .before .before .ad-of .ensures .1)) in let p = pl-front (args .s .now) (args .rows .now) (args .site) (((c .before .before .before .before .before .before .before .before .before .before .before .before .before .before .before .before .before .before .before .before .before .pre .0 .sound))) _ refl ((c .before .before .before .before .before .before .before .pl-of .ensures .0)) ((c .before .before .before .before .before .before .before .pl-of .ensures .1)) in printable (args .s .now) (args .rows .now) (args .site) (args .position .0) (args .reference .now) (args .alts .now) ((c .before .before .before .before .before .before .before .before .before .before .before .before .before .before .before .before .before .before .before .before .before .pre .0)) ((c .before .before .before .gq-of .ensures)) ((c .before .before .dp-of .ensures)) (m .front) (a .front) (p .front)
+put-sample-data-requires c κs = let args = ((c .before .before .before .before .before .before .before .before .before .before .before .before .before .before .before .before .before .before .before .before .before .args)) in let m = map-front (args .s .now) (args .rows .now) (args .site) (((c .before .before .before .before .before .before .before .before .before .before .before .before .before .before .before .before .before .before .before .before .before .pre .0 .sound))) _ (args .position .0) (map capital (args .reference .now)) (args .alts .now) refl (((c .before .before .before .before .before .before .before .before .before .before .before .before .before .before .before .before .before .before .before .before .before .pre .0 .few))) ((c .before .before .before .before .before .before .before .before .before .before .before .before .before .indexes-of-relevant-alleles-for-gvcf .ensures .0)) ((c .before .before .before .before .before .before .before .before .before .before .before .before .before .indexes-of-relevant-alleles-for-gvcf .ensures .1)) in let a = ad-front (args .s .now) (args .rows .now) (args .site) (((c .before .before .before .before .before .before .before .before .before .before .before .before .before .before .before .before .before .before .before .before .before .pre .0 .sound))) _ refl ((c .before .before .before .before .before .before .before .before .before .before .ad-of .ensures .0)) ((c .before .before .before .before .before .before .before .before .before .before .ad-of .ensures .1)) in let p = pl-front (args .s .now) (args .rows .now) (args .site) (((c .before .before .before .before .before .before .before .before .before .before .before .before .before .before .before .before .before .before .before .before .before .pre .0 .sound))) _ refl ((c .before .before .before .before .before .before .before .pl-of .ensures .0)) ((c .before .before .before .before .before .before .before .pl-of .ensures .1)) in printable (args .s .now) (args .rows .now) (args .site) (args .position .0) (map capital (args .reference .now)) (args .alts .now) ((c .before .before .before .before .before .before .before .before .before .before .before .before .before .before .before .before .before .before .before .before .before .pre .0)) ((c .before .before .before .gq-of .ensures)) ((c .before .before .dp-of .ensures)) (m .front) (a .front) (p .front)
 
 same-length : tie.Need-same-length
 same-length c = search needs
 
 returns : tie.Need-returns
-returns c = let args = ((c .before .before .before .before .before .before .before .before .before .before .before .before .before .before .before .before .before .before .before .before .before .before .before .before .args)) in let m = map-front (args .s .now) (args .rows .now) (args .site) (((c .before .before .before .before .before .before .before .before .before .before .before .before .before .before .before .before .before .before .before .before .before .before .before .before .pre .0 .sound))) _ (args .position .0) (args .reference .now) (args .alts .now) refl (((c .before .before .before .before .before .before .before .before .before .before .before .before .before .before .before .before .before .before .before .before .before .before .before .before .pre .0 .few))) ((c .before .before .before .before .before .before .before .before .before .before .before .before .before .before .before .before .indexes-of-relevant-alleles-for-gvcf .ensures .0)) ((c .before .before .before .before .before .before .before .before .before .before .before .before .before .before .before .before .indexes-of-relevant-alleles-for-gvcf .ensures .1)) in let a = ad-front (args .s .now) (args .rows .now) (args .site) (((c .before .before .before .before .before .before .before .before .before .before .before .before .before .before .before .before .before .before .before .before .before .before .before .before .pre .0 .sound))) _ refl ((c .before .before .before .before .before .before .before .before .before .before .before .before .before .ad-of .ensures .0)) ((c .before .before .before .before .before .before .before .before .before .before .before .before .before .ad-of .ensures .1)) in let p = pl-front (args .s .now) (args .rows .now) (args .site) (((c .before .before .before .before .before .before .before .before .before .before .before .before .before .before .before .before .before .before .before .before .before .before .before .before .pre .0 .sound))) _ refl ((c .before .before .before .before .before .before .before .before .before .before .pl-of .ensures .0)) ((c .before .before .before .before .before .before .before .before .before .before .pl-of .ensures .1)) in rw (values-said (args .s .now) (args .rows .now) (args .site) (args .position .0) (args .reference .now) (args .alts .now) ((c .before .before .before .before .before .before .gq-of .ensures)) ((c .before .before .before .before .before .dp-of .ensures)) (m .front) (a .front) (p .front)) at ((c .before .before .put-sample-data .ensures))
+returns c = let args = ((c .before .before .before .before .before .before .before .before .before .before .before .before .before .before .before .before .before .before .before .before .before .before .before .before .args)) in let m = map-front (args .s .now) (args .rows .now) (args .site) (((c .before .before .before .before .before .before .before .before .before .before .before .before .before .before .before .before .before .before .before .before .before .before .before .before .pre .0 .sound))) _ (args .position .0) (map capital (args .reference .now)) (args .alts .now) refl (((c .before .before .before .before .before .before .before .before .before .before .before .before .before .before .before .before .before .before .before .before .before .before .before .before .pre .0 .few))) ((c .before .before .before .before .before .before .before .before .before .before .before .before .before .before .before .before .indexes-of-relevant-alleles-for-gvcf .ensures .0)) ((c .before .before .before .before .before .before .before .before .before .before .before .before .before .before .before .before .indexes-of-relevant-alleles-for-gvcf .ensures .1)) in let a = ad-front (args .s .now) (args .rows .now) (args .site) (((c .before .before .before .before .before .before .before .before .before .before .before .before .before .before .before .before .before .before .before .before .before .before .before .before .pre .0 .sound))) _ refl ((c .before .before .before .before .before .before .before .before .before .before .before .before .before .ad-of .ensures .0)) ((c .before .before .before .before .before .before .before .before .before .before .before .before .before .ad-of .ensures .1)) in let p = pl-front (args .s .now) (args .rows .now) (args .site) (((c .before .before .before .before .before .before .before .before .before .before .before .before .before .before .before .before .before .before .before .before .before .before .before .before .pre .0 .sound))) _ refl ((c .before .before .before .before .before .before .before .before .before .before .pl-of .ensures .0)) ((c .before .before .before .before .before .before .before .before .before .before .pl-of .ensures .1)) in rw (values-said (args .s .now) (args .rows .now) (args .site) (args .position .0) (map capital (args .reference .now)) (args .alts .now) ((c .before .before .before .before .before .before .gq-of .ensures)) ((c .before .before .before .before .before .dp-of .ensures)) (m .front) (a .front) (p .front)) at ((c .before .before .put-sample-data .ensures))
 
 pub put-site-data-spec : {M : Type 1} → statement M
 put-site-data-spec =

@@ -1,27 +1,29 @@
 -- Field by field, each compared with REF.
 use Prim.Native.Nat.{_-_}
 use borrow.Author.Needs.{needs}
-use lib.ListN.{length}
+use lib.ListN.{length, length-map}
+use mathlib.Core.List.{map}
 use native.Mathlib.Omega.{arith}
+use Rattle.definitions.specs.Alleles.{capital}
 use Rattle.kv_text.proofs.Fields.{field-within}
 use Rattle.reverse_trim.proofs.ClipCount.{ClipLeft, clip-done, clip-more, clip-start, over-none}
 use Rattle.reverse_trim.proofs.common_clip.Statement.{statement}
 use Rattle.reverse_trim.proofs.common_clip.Tie as tie
 
 abbrev Inv-loop : tie.InvT-loop
-Inv-loop reference alts clip₀ at₀ clip at = ClipLeft reference alts clip at
+Inv-loop reference alts clip₀ at₀ clip at = ClipLeft (map capital reference) alts clip at
 
 abbrev μ-loop : tie.MeasureT-loop
 μ-loop reference alts clip₀ at₀ clip at = length alts - at
 
 returns : tie.Need-returns Inv-loop μ-loop
-returns c = over-none _ (c .if1 .taken) _
+returns c = over-none _ (simp length-map (c .if1 .taken)) _
 
 sub-clip : tie.Need-sub-clip Inv-loop μ-loop
 sub-clip c = search needs
 
 loop-holds : tie.Need-loop-holds Inv-loop μ-loop
-loop-holds c = clip-start _ _
+loop-holds c = clip-start _ _ (simp length-map)
 
 field-end-requires : tie.Need-field-end-requires Inv-loop μ-loop
 field-end-requires c κs = search needs

@@ -35,18 +35,18 @@ part-without-suffix-end c = let h = field-within _ _ _ _ ((c .field-end .ensures
 without-suffix-requires : tie.Need-without-suffix-requires Inv-loop μ-loop
 without-suffix-requires c κs = search needs
 
-put-bytes-requires : tie.Need-put-bytes-requires Inv-loop μ-loop
-put-bytes-requires c κs = rw ((c .before .without-suffix .ensures)) (field-room _ _ _ (c .before .before .before .before .loop .inv) _ ((c .before .before .before .field-end .ensures)))
+put-letters-requires : tie.Need-put-letters-requires Inv-loop μ-loop
+put-letters-requires c κs = rw ((c .before .without-suffix .ensures)) (field-room _ _ _ (c .before .before .before .before .loop .inv) _ ((c .before .before .before .field-end .ensures)))
 
 same-length : tie.Need-same-length Inv-loop μ-loop
-same-length c = (c .before .before .before .put-bytes .kept .0) ∙ left-length ((c .before .before .before .before .before .before .before .before .loop .inv .left))
+same-length c = (c .before .before .before .put-letters .kept .0) ∙ left-length ((c .before .before .before .before .before .before .before .before .loop .inv .left))
 
 returns : tie.Need-returns Inv-loop μ-loop
 unfolding allelesSpelled
-returns c = field-done _ _ _ (c .before .before .before .before .before .before .before .before .loop .inv) _ ((c .before .before .before .before .before .before .before .field-end .ensures)) (rw ((c .before .before .before .before .before .without-suffix .ensures)) at ((c .before .before .before .put-bytes .ensures))) (c .if1 .taken)
+returns c = field-done _ _ _ (c .before .before .before .before .before .before .before .before .loop .inv) _ ((c .before .before .before .before .before .before .before .field-end .ensures)) (rw ((c .before .before .before .before .before .without-suffix .ensures)) at ((c .before .before .before .put-letters .ensures))) (c .if1 .taken)
 
 put-byte-requires : tie.Need-put-byte-requires Inv-loop μ-loop
-put-byte-requires c κs = comma-room _ _ _ (c .before .before .before .before .before .before .before .before .before .loop .inv) _ ((c .before .before .before .before .before .before .before .before .field-end .ensures)) (rw ((c .before .before .before .before .before .before .without-suffix .ensures)) at ((c .before .before .before .before .put-bytes .ensures))) (c .before .if1 .left)
+put-byte-requires c κs = comma-room _ _ _ (c .before .before .before .before .before .before .before .before .before .loop .inv) _ ((c .before .before .before .before .before .before .before .before .field-end .ensures)) (rw ((c .before .before .before .before .before .before .without-suffix .ensures)) at ((c .before .before .before .before .put-letters .ensures))) (c .before .if1 .left)
 
 add-at : tie.Need-add-at Inv-loop μ-loop
 add-at c = search needs
@@ -55,7 +55,7 @@ loop-less : tie.Need-loop-less Inv-loop μ-loop
 loop-less c = omega (arith, (c .before .before .before .before .before .before .before .before .before .before .before .field-end .ensures))
 
 loop-again : tie.Need-loop-again Inv-loop μ-loop
-loop-again c = field-more _ _ _ (c .before .before .before .before .before .before .before .before .before .before .before .before .loop .inv) _ ((c .before .before .before .before .before .before .before .before .before .before .before .field-end .ensures)) (rw ((c .before .before .before .before .before .before .before .before .before .without-suffix .ensures)) at ((c .before .before .before .before .before .before .before .put-bytes .ensures))) (c .before .before .before .before .if1 .left) ((c .before .before .put-byte .ensures))
+loop-again c = field-more _ _ _ (c .before .before .before .before .before .before .before .before .before .before .before .before .loop .inv) _ ((c .before .before .before .before .before .before .before .before .before .before .before .field-end .ensures)) (rw ((c .before .before .before .before .before .before .before .before .before .without-suffix .ensures)) at ((c .before .before .before .before .before .before .before .put-letters .ensures))) (c .before .before .before .before .if1 .left) ((c .before .before .put-byte .ensures))
 
 pub put-trimmed-spec : {M : Type 1} → statement M
 put-trimmed-spec =
@@ -69,7 +69,7 @@ put-trimmed-spec =
     part-without-suffix-start
     part-without-suffix-end
     without-suffix-requires
-    put-bytes-requires
+    put-letters-requires
     same-length
     returns
     put-byte-requires

@@ -1,19 +1,21 @@
 -- Index by index.
 use Prim.Native.Nat.{_-_}
 use borrow.Author.Needs.{needs}
-use mathlib.Core.List.{_++_}
+use mathlib.Core.List.{_++_, map}
 use native.Mathlib.Omega.{arith}
-use Rattle.definitions.specs.Alleles.{letters, sameAllele}
+use Rattle.definitions.specs.Alleles.{capital, letters, sameAllele}
+use Rattle.laws.proofs.AllelesAsRead.{alleleAsRead}
 use Rattle.sample_alleles.proofs.Places.{Unput, all-put, all-unput, next-unput}
-use Rattle.tables.specs.Tables.{alleleSpelled, nameAt}
+use Rattle.tables.specs.Tables.{nameAt}
 use Rattle.sample_alleles.proofs.put_extended.Statement.{statement}
 use Rattle.sample_alleles.proofs.put_extended.Tie as tie
 
 abbrev Inv-loop : tie.InvT-loop
-Inv-loop bases tail index alts fields count map₀ i₀ map i = Unput (λ k. sameAllele (alleleSpelled (nameAt alts fields k)) (letters (bases ++ tail))) (index .0) count map₀ map i
+Inv-loop bases tail index alts fields count numbers₀ i₀ numbers i =
+    Unput (λ k. sameAllele (alleleAsRead (nameAt alts fields k)) (letters (map capital (bases ++ tail)))) (index .0) count numbers₀ numbers i
 
 abbrev μ-loop : tie.MeasureT-loop
-μ-loop bases tail index alts fields count map₀ i₀ map i = count - i
+μ-loop bases tail index alts fields count numbers₀ i₀ numbers i = count - i
 
 loop-holds : tie.Need-loop-holds Inv-loop μ-loop
 loop-holds c = all-unput _ _ _ _

@@ -1,11 +1,10 @@
 -- By whether the site starts at the position.
-use mathlib.Core.Path.{sym}
+use mathlib.Core.Path.{_∙_, refl, sym}
 use Rattle.definitions.specs.Lists.{onlyIf}
 use Rattle.definitions.specs.MergedAlleles.{extendedAllele, isAllele}
-use Rattle.sample_alleles.proofs.Places.{put-none}
-use Rattle.sample_alleles.proofs.Readings.{rest}
+use Rattle.sample_alleles.proofs.Places.{put-none, put-same}
+use Rattle.sample_alleles.proofs.Readings.{ref-as, rest}
 use Rattle.sample_alleles.specs.Readings.{refReading}
-use mathlib.Core.Path.{refl}
 use borrow.Author.Needs.{needs}
 use Rattle.sample_alleles.proofs.put_ref.Statement.{statement}
 use Rattle.sample_alleles.proofs.put_ref.Tie as tie
@@ -23,8 +22,12 @@ same-length : tie.Need-same-length
 same-length c = search needs
 
 returns : tie.Need-returns
-unfolding refReading isAllele onlyIf extendedAllele
-returns c = rw (c .before .before .before .before .before .before .if1 .taken) (rw ((c .before .before .before .before .before .part .ensures), rest ((c .before .before .before .before .before .before .before .before .before .before .before .before .args .reference .now)) _, (c .before .before .before .before .reference .ensures)) at ((c .before .before .put-extended .ensures)))
+returns c =
+    let at-part = c .before .before .before .before .before in
+    let reference = at-part .before .before .before .before .before .before .before .args .reference .now in
+    rw (at-part .before .if1 .taken)
+    (rw (at-part .part .ensures, rest reference _, c .before .before .before .before .reference .ensures) at (c .before .before .put-extended .ensures)
+    ∙ sym (put-same _ _ _ _ _ _ (λ k. ref-as reference _ _)))
 
 returns-2 : tie.Need-returns-2
 unfolding refReading isAllele onlyIf extendedAllele
