@@ -54,11 +54,12 @@ def value_faults(gl, alleles):
 
 def trim_faults(room, alleles):
     fields = alleles.split(",") if alleles != "." else [""]
-    letters = lambda a: re.fullmatch("[ACGTNacgtn]{1,255}", a)
+    letters = lambda a: re.fullmatch("[ACGTNacgtn]{1,255}", a)  # of either case, with one meaning (document 02, Note 6)
+    as_read = [a.upper() if letters(a) else a for a in fields]
     return {
         "5 no letters": not letters(fields[0]) or not all(letters(a) or a in ("*", "<NON_REF>") for a in fields[1:]),
         "5 count": len(fields) > 16,
-        "5 repeat": len({a.upper() if letters(a) else a for a in fields}) < len(fields),
+        "5 repeat": len(set(as_read)) < len(fields),
     }
 
 
@@ -200,21 +201,21 @@ def trim_cases():
     with_rooms("trim-AAT-AT", "trim", ["AAT,AT"], ["AA,A"])
     with_rooms("trim-CAT-GAT", "trim", ["CAT,GAT"], ["C,G"])
     with_rooms("trim-AT-T", "trim", ["AT,T"], ["AT,T"])
-    with_rooms("trim-AAt-aT", "trim", ["AAt,aT"], ["AA,A"])
-    with_rooms("trim-cAT-Gat", "trim", ["cAT,*,Gat,<NON_REF>"], ["C,*,G,<NON_REF>"])
-    with_rooms("trim-at-T", "trim", ["at,T"], ["AT,T"])
+    with_rooms("trim-255-letters", "trim", ["A" + "C" * 254 + ",G" + "C" * 254], ["A,G"])
+    for alleles, trimmed in (("aat,AT", "AA,A"), ("cAt,gaT", "C,G"), ("n", "N"), ("At,t,*,<NON_REF>", "AT,T,*,<NON_REF>"), ("a,c,g,t", "A,C,G,T")):
+        with_rooms(f"trim-{alleles}", "trim", [alleles], [trimmed])
     with_rooms("trim-acgtn", "trim", ["acgtn"], ["ACGTN"])
     with_rooms("trim-small-255-letters", "trim", ["a" + "cC" * 127 + ",g" + "C" * 254], ["A,G"])
     tight("trim-AAt-GaT", "trim", ["AAt,GaT"], ["A,G"])
-    with_rooms("trim-255-letters", "trim", ["A" + "C" * 254 + ",G" + "C" * 254], ["A,G"])
     sixteen = [letter * n for n in range(252, 256) for letter in "ACGT"]
     with_rooms("trim-16-alleles", "trim", [",".join(sixteen)], [",".join(sixteen)])
     for title, alleles in (
         ("repeated-ref", "AT,AT"), ("repeated-alt", "A,C,C"), ("repeated-star", "A,*,*"), ("repeated-non-ref", "A,<NON_REF>,<NON_REF>"),
-        ("ref-star", "*,A"), ("ref-non-ref", "<NON_REF>,A"), ("ref-other-small", "r,C"), ("empty-text", "."), ("empty-ref", ",A"), ("empty-alt", "A,"),
-        ("alt-other-small", "A,x"), ("alt-del", "AAT,AT,<DEL>"), ("17-alleles", ",".join(sixteen + ["N"])), ("ref-256-letters", "A" * 256),
-        ("alt-256-letters", "A," + "C" * 256), ("small-256-letters", "a" * 256), ("repeated-in-either-case", "A,G,g"),
-        ("repeated-ref-in-either-case", "aT,At"), ("small-non-ref", "A,<non_ref>"), ("non-ref-with-one-small-letter", "A,<NOn_REF>"),
+        ("ref-star", "*,A"), ("ref-non-ref", "<NON_REF>,A"), ("ref-small-other", "r,C"), ("empty-text", "."), ("empty-ref", ",A"), ("empty-alt", "A,"),
+        ("alt-small-other", "A,r"), ("alt-del", "AAT,AT,<DEL>"), ("17-alleles", ",".join(sixteen + ["N"])), ("ref-256-letters", "A" * 256),
+        ("alt-256-letters", "A," + "C" * 256), ("repeated-ref-in-either-case", "a,A"), ("repeated-alt-in-either-case", "A,C,c"),
+        ("small-non-ref", "A,<non_ref>"), ("non-ref-with-one-small-letter", "A,<NOn_REF>"), ("small-256-letters", "a" * 256),
+        ("repeated-long-ref-in-either-case", "aT,G,At"),
     ):
         case(f"trim-5-{title}", "trim", [BYTES, alleles], 5)
     case("trim-5-before-14", "trim", [0, "AT,AT"], 5)
@@ -249,7 +250,7 @@ def unused_cases():
     # no allele is read: ALTs stay as they are given
     with_rooms("unused-small-letters", "unused", ["g,aC", "0,2", six, "1,2,3"], ["aC", bits(0, -5, -7), "1,3"])
     with_rooms("unused-alts-alike-but-for-case", "unused", ["G,g", "2,1", six, "1,2,3"], ["G,g", six, "1,2,3"])
-    with_rooms("unused-other-letters", "unused", ["<non_ref>,x", "0,1", six, "1,2,3"], ["<non_ref>", bits(-3, 0, -7.5), "1,2"])
+    with_rooms("unused-other-letters", "unused", ["<non_ref>,x", "0,1", six, "1,2,3"], ["<non_ref>", three, "1,2"])
     call = lambda title, answer, *arguments, rooms=(PLACES, PLACES, AD_PLACES): case(f"unused-{title}", "unused", [*rooms, *arguments], answer)
     many = ",".join("A" * n for n in range(2, 18))
     call("15-17-alleles", 15, many, "0,1", bits(*range(-152, 1)), ",".join(map(str, range(17))))

@@ -16,7 +16,7 @@ fn changed(rng: &mut Rng, text: &[u8]) -> Vec<u8> {
     for _ in 0..rng.range(1, 2) {
         let at = rng.below(text.len() as u64 + 1) as usize;
         let byte = *rng.pick(TELLING);
-        match rng.below(8) {
+        match rng.below(9) {
             0 if at < text.len() => text[at] = byte,
             1 => text.insert(at, byte),
             2 if at < text.len() => drop(text.remove(at)),
@@ -24,15 +24,19 @@ fn changed(rng: &mut Rng, text: &[u8]) -> Vec<u8> {
             4 if at < text.len() => text[at] = rng.any() as u8,
             5 => value_changed(rng, &mut text),
             6 => case_changed(rng, &mut text),
+            7 => allele_repeated(rng, &mut text),
             _ => lines_changed(rng, &mut text),
         }
     }
     text
 }
 
+fn other_case(b: &mut u8) {
+    *b = if b.is_ascii_lowercase() { b.to_ascii_uppercase() } else { b.to_ascii_lowercase() };
+}
+
 /// A letter, or all of a line of alleles or bases, in the other case.
 fn case_changed(rng: &mut Rng, text: &mut [u8]) {
-    let other = |b: &mut u8| *b = if b.is_ascii_lowercase() { b.to_ascii_uppercase() } else { b.to_ascii_lowercase() };
     let of_letters = |line: &&mut [u8]| [&b"ref="[..], b"alt=", b"bases="].iter().any(|key| line.starts_with(key));
     let mut lines: Vec<&mut [u8]> = text.split_mut(|&b| b == b'\n').filter(of_letters).collect();
     if lines.is_empty() {
@@ -42,10 +46,26 @@ fn case_changed(rng: &mut Rng, text: &mut [u8]) {
     let key = lines[at].iter().take_while(|&&b| b != b'=').count() + 1;
     let value = &mut lines[at][key..];
     match rng.below(3) {
-        0 => value.iter_mut().for_each(other),
+        0 => value.iter_mut().for_each(other_case),
         _ if value.is_empty() => {}
-        _ => other(&mut value[rng.below(value.len() as u64) as usize]),
+        _ => other_case(&mut value[rng.below(value.len() as u64) as usize]),
     }
+}
+
+/// An ALT becomes REF or another ALT of its line, in the other case.
+fn allele_repeated(rng: &mut Rng, text: &mut Vec<u8>) {
+    let mut lines: Vec<Vec<u8>> = text.split(|&b| b == b'\n').map(<[u8]>::to_vec).collect();
+    let places: Vec<usize> = (1..lines.len()).filter(|&i| lines[i].starts_with(b"alt=") && lines[i - 1].starts_with(b"ref=")).collect();
+    if places.is_empty() {
+        return;
+    }
+    let at = *rng.pick(&places);
+    let mut alts: Vec<Vec<u8>> = lines[at][4..].split(|&b| b == b',').map(<[u8]>::to_vec).collect();
+    let (i, j) = (rng.below(alts.len() as u64) as usize, rng.below(alts.len() as u64) as usize);
+    alts[i] = if i == j { lines[at - 1][4..].to_vec() } else { alts[j].clone() };
+    alts[i].iter_mut().for_each(other_case);
+    lines[at] = [&b"alt="[..], &alts.join(&b',')].concat();
+    *text = lines.join(&b'\n');
 }
 
 /// The value of a line is that of another line, or one at the ends of a range.

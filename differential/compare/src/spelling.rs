@@ -8,7 +8,7 @@ use crate::ours::Library;
 use oracle::cohort::{ClipSpan, Cohort, Lent, Site, Stretch};
 use oracle::domain;
 use oracle::list::read_combined;
-use oracle::text::{comma, is_letters, or_dot, Rules};
+use oracle::text::{comma, is_letters, or_dot, pairs, Rules};
 use wintabol::Refused;
 
 /// What it shows, sites (sample, contig, start, end, ref, alt), clip spans and reference groups where they are lent, and the answer from reading the
@@ -99,9 +99,12 @@ const CASES: &[Case] = &[
 fn site(row: &str) -> Site {
     let part: Vec<&str> = row.split(' ').collect();
     let number = |i: usize| part[i].parse().expect("a number");
-    let alts = part[5].split(',').map(str::to_string).collect();
+    let alts: Vec<String> = part[5].split(',').map(str::to_string).collect();
     let (contig, ref_allele) = (part[1].to_string(), part[4].to_string());
-    Site { sample: number(0) as usize, contig, start: number(2), end: number(3), ref_allele, alts, gq: None, dp: None, ad: None, pl: None }
+    // numbers that say whose and which they are: a sample's sites with as many alleles have the same
+    let (sample, n) = (number(0), 1 + part[5].split(',').count());
+    let numbers = |count: usize| Some((0..count as u32).map(|i| 100 * (1 + sample as u32) + i).collect());
+    Site { sample: sample as usize, contig, start: number(2), end: number(3), ref_allele, alts, gq: Some(9), dp: None, ad: numbers(n), pl: numbers(pairs(n)) }
 }
 
 fn lent(case: &Case) -> Lent {
