@@ -12,7 +12,7 @@ ghost use Rattle.definitions.specs.Bytes.{comma, fieldsOf};
 ghost use Rattle.definitions.specs.Numbers.{numberList};
 ghost use Rattle.kv_text.specs.Fields.{between, firstNumbers};
 ghost use Rattle.kv_write.specs.Optional.{optionOf};
-ghost use Rattle.tables.specs.Tables.{adAt, codeOption, column, firstNumbersAt, halfAt, isStored, listColumns, numbersAt, partAt, plAt, segmentColumn, segmentCount, segmentsNext, storedNumbers, withNumbers, wordOf};
+ghost use Rattle.tables.specs.Tables.{adAt, codeOption, column, dpAt, firstNumbersAt, halfAt, isStored, listColumns, minDpAt, numbersAt, partAt, plAt, segmentColumn, segmentCount, segmentsNext, storedNumbers, withNumbers, wordOf};
 use bio_ids::GenomePosition;
 use bio_ids::SampleIndex;
 use kv_text::NumbersRead;
@@ -149,9 +149,18 @@ pub fn gq_of(rows: &[usize], site: usize) -> OptionalNumber
 
 // The site's DP.
 pub fn dp_of(rows: &[usize], site: usize) -> OptionalNumber
-    ensures { λ r. ⌜ optionOf r ≡ codeOption (column 6 (now (rows .entry)) site) ⌝ }
+    ensures { λ r. ⌜ optionOf r ≡ dpAt (now (rows .entry)) site ⌝ }
 {
-    optional(column(rows, site, 6))
+    let depths = column(rows, site, 6);
+    optional(half_at(depths, 0) as usize)
+}
+
+// The site's MIN_DP.
+pub fn min_dp_of(rows: &[usize], site: usize) -> OptionalNumber
+    ensures { λ r. ⌜ optionOf r ≡ minDpAt (now (rows .entry)) site ⌝ }
+{
+    let depths = column(rows, site, 6);
+    optional(half_at(depths, 1) as usize)
 }
 
 // The part of the text between the offsets in two columns.

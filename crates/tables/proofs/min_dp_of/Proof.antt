@@ -1,0 +1,24 @@
+-- The second half of its column.
+use borrow.Author.Needs.{needs}
+use Rattle.tables.specs.Tables.{minDpAt}
+use Rattle.tables.proofs.min_dp_of.Statement.{statement}
+use Rattle.tables.proofs.min_dp_of.Tie as tie
+
+column-requires : tie.Need-column-requires
+column-requires c κs = search needs
+
+half-at-requires : tie.Need-half-at-requires
+half-at-requires c κs = search needs
+
+cast-optional : tie.Need-cast-optional
+cast-optional c = search needs
+
+optional-requires : tie.Need-optional-requires
+optional-requires c κs = search needs
+
+returns : tie.Need-returns
+unfolding minDpAt
+returns c = rw (← (c .before .before .column .ensures), ← (c .before .half-at .ensures)) (c .optional .ensures)
+
+pub min-dp-of-spec : {M : Type 1} → statement M
+min-dp-of-spec = tie.close (tie.spec column-requires half-at-requires cast-optional optional-requires returns)
