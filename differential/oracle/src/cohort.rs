@@ -58,6 +58,10 @@ impl Cohort {
         false
     }
 
+    pub fn has_min_dp(&self) -> bool {
+        self.sites.iter().any(|s| s.min_dp.is_some())
+    }
+
     /// The same sites, those that start later first, equal starts in the file's order: where the Rust takes a sample's first site over a
     /// position, that is then the one with the greatest start, and of equal starts the first in the file.
     pub fn latest_first(&self) -> Cohort {

@@ -36,6 +36,16 @@ pub struct List {
 }
 
 impl List {
+    /// How many blocks agree with the block before them, which they touch, in all but MIN_DP.
+    pub fn parted_by_min_dp(&self) -> usize {
+        let values = |r: &ListRecord| r.samples.iter().map(|s| ListSample { min_dp: None, ..s.clone() }).collect::<Vec<_>>();
+        let alike = |a: &ListRecord, b: &ListRecord| {
+            let touch = (&a.contig, a.last() + 1) == (&b.contig, b.pos) && a.ref_allele == b.ref_allele;
+            touch && a.ref_allele.len() == 1 && is_block(&a.alts) && is_block(&b.alts) && values(a) == values(b)
+        };
+        self.records.windows(2).filter(|w| alike(&w[0], &w[1])).count()
+    }
+
     /// The list as it is read: alleles in capitals.
     pub fn capitals(&self) -> List {
         let raised = |r: &ListRecord| ListRecord {
