@@ -8,6 +8,7 @@ pub struct ListSample {
     pub gt: Option<(usize, usize)>,
     pub gq: Option<u32>,
     pub dp: Option<u32>,
+    pub min_dp: Option<u32>,
     pub ad: Option<Vec<u32>>,
     pub pl: Option<Vec<u32>>,
 }
@@ -50,7 +51,7 @@ pub fn write_combined(list: &List) -> String {
     write_list(list, true)
 }
 
-/// The lines of the combined list without `end` and `gt`.
+/// The lines of the combined list without `end`, `gt` and `mindp`.
 pub fn write_called(list: &List) -> String {
     write_list(list, false)
 }
@@ -76,6 +77,9 @@ fn write_list(list: &List, combined: bool) -> String {
             }
             line(&mut out, "gq", or_dot(s.gq));
             line(&mut out, "dp", or_dot(s.dp));
+            if combined {
+                line(&mut out, "mindp", or_dot(s.min_dp));
+            }
             line(&mut out, "ad", comma_or_dot(&s.ad));
             line(&mut out, "pl", comma_or_dot(&s.pl));
         }
@@ -129,6 +133,7 @@ fn read_record(lines: &mut Lines, samples: usize, rules: Rules) -> Result<ListRe
             gt: genotype(lines.value("gt")?, 1 + record.alts.len())?,
             gq: optional_number(lines.value("gq")?, rules)?,
             dp: optional_number(lines.value("dp")?, rules)?,
+            min_dp: optional_number(lines.value("mindp")?, rules)?,
             ad: optional_numbers(lines.value("ad")?, rules)?,
             pl: optional_numbers(lines.value("pl")?, rules)?,
         });
