@@ -30,7 +30,9 @@ unfolding keyOf text
 returns c = (gq-wrong _ _ (rw (c .enum-told .given .1) at (c .before .before .code-line .ensures)), (none-stored _, none-stored _))
 
 add-code-line : tie.Need-add-code-line
-add-code-line c = let h = line-within _ _ _ (orMissing number) _ _ (rw (c .before .quality .given .1) at (c .before .before .before .code-line .ensures)) in omega arith
+add-code-line c =
+    let code-line = c .before .before .before .code-line in
+    let h = line-within _ _ _ (orMissing number) _ _ (rw (c .before .quality .given .1) at (code-line .ensures)) in omega arith
 
 slice-aggregate-code-line-2 : tie.Need-slice-aggregate-code-line-2
 slice-aggregate-code-line-2 c = search needs
@@ -46,10 +48,19 @@ enum-told-2 c = search needs
 
 returns-2 : tie.Need-returns-2
 unfolding keyOf text
-returns-2 c = (dp-wrong _ _ _ _ (rw (c .before .before .before .before .before .quality .given .1) at (c .before .before .before .before .before .before .before .code-line .ensures)) (rw (c .enum-told2 .given .1) at (c .before .before .code-line2 .ensures)), (none-stored _, none-stored _))
+returns-2 c =
+    let at-code-line2 = c .before .before in
+    let at-quality = at-code-line2 .before .before .before in
+    let at-code-line = at-quality .before .before in (
+      dp-wrong _ _ _ _ (rw (at-quality .quality .given .1) at (at-code-line .code-line .ensures))
+          (rw (c .enum-told2 .given .1) at (at-code-line2 .code-line2 .ensures)),
+      (none-stored _, none-stored _),
+    )
 
 add-code-line-2 : tie.Need-add-code-line-2
-add-code-line-2 c = let h = line-within _ _ _ (orMissing number) _ _ (rw (c .before .depth .given .1) at (c .before .before .before .code-line2 .ensures)) in omega arith
+add-code-line-2 c =
+    let code-line2 = c .before .before .before .code-line2 in
+    let h = line-within _ _ _ (orMissing number) _ _ (rw (c .before .depth .given .1) at (code-line2 .ensures)) in omega arith
 
 slice-aggregate-code-line-3 : tie.Need-slice-aggregate-code-line-3
 slice-aggregate-code-line-3 c = search needs
@@ -77,7 +88,9 @@ returns-3 c =
     )
 
 add-part-line : tie.Need-add-part-line
-add-part-line c = let h = line-within _ _ _ (orMissing number) _ _ (rw (c .before .least .given .1) at (c .before .before .before .code-line3 .ensures)) in omega arith
+add-part-line c =
+    let code-line3 = c .before .before .before .code-line3 in
+    let h = line-within _ _ _ (orMissing number) _ _ (rw (c .before .least .given .1) at (code-line3 .ensures)) in omega arith
 
 slice-aggregate-part-line : tie.Need-slice-aggregate-part-line
 slice-aggregate-part-line c = search needs
@@ -112,8 +125,11 @@ returns-4 c =
     )
 
 add-part-line-2 : tie.Need-add-part-line-2
-add-part-line-2 c = let h = line-within _ _ _ (orMissing numberList) _ _ ((rw (c .before .depths .given .1) at (c .before .before .before .before .before .part-line .ensures)) .0) in
-    omega (arith, h, c .before .before .before .before .before .before .before .before .before .before .before .before .before .before .before .before .before .before .before .before .before .before .before .before .before .before .good)
+add-part-line-2 c =
+    let at-part-line = c .before .before .before .before .before in
+    let at-good = at-part-line .before .before .before .before .before .before .before .before .before .before .before .before .before .before .before .before .before .before .before .before .before in
+    let h = line-within _ _ _ (orMissing numberList) _ _ ((rw (c .before .depths .given .1) at (at-part-line .part-line .ensures)) .0) in
+    omega (arith, h, at-good .good)
 
 slice-aggregate-part-line-2 : tie.Need-slice-aggregate-part-line-2
 slice-aggregate-part-line-2 c = search needs
@@ -161,8 +177,11 @@ returns-5 c =
     )
 
 add-t29 : tie.Need-add-t29
-add-t29 c = let h = line-within _ _ _ (orMissing numberList) _ _ ((rw (c .before .likelihoods .given .1) at (c .before .before .before .before .before .part-line2 .ensures)) .0) in
-    omega (arith, h, c .before .before .before .before .before .before .before .before .before .before .before .before .before .before .before .before .before .before .before .before .before .before .before .before .before .before .before .before .before .before .before .before .before .before .good)
+add-t29 c =
+    let at-part-line2 = c .before .before .before .before .before in
+    let at-good = at-part-line2 .before .before .before .before .before .before .before .before .before .before .before .before .before .before .before .before .before .before .before .before .before .before .before .before .before .before .before .before .before in
+    let h = line-within _ _ _ (orMissing numberList) _ _ ((rw (c .before .likelihoods .given .1) at (at-part-line2 .part-line2 .ensures)) .0) in
+    omega (arith, h, at-good .good)
 
 same-length-4 : tie.Need-same-length-4
 same-length-4 c = search needs
