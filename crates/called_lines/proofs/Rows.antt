@@ -13,7 +13,7 @@ use Rattle.definitions.specs.Lists.{numbersFrom}
 use Rattle.laws.proofs.Every.{every-member, if-there}
 use Rattle.laws.proofs.Members.{numbers-member}
 use Rattle.record_lines.proofs.SiteValues.{Front, first-read, numbers-front, numbers-present, numbersOf}
-use Rattle.tables.specs.Tables.{adAt, codeOption, column, firstNumbersAt, plAt}
+use Rattle.tables.specs.Tables.{adAt, dpAt, firstNumbersAt, plAt}
 use Rattle.called_lines.specs.Rows.{Entries, SamplePrintable, SamplesPrintable, calledSample, calledSamples, rowData}
 use Rattle.called_lines.specs.SampleValues.{CalledPrintable, ownValues}
 
@@ -40,7 +40,7 @@ module _ (s rows : List ℕ) (sample : ℕ) where
     unfolding rowData
     pl-front long = numbers-front (plAt s rows sample) _ before (first-read 16 10 s rows sample) (rw long (entries .pl))
 
-  module _ (n x : ℕ) {dp : Option ℕ} {ad pl : List ℕ} (d : dp ≡ codeOption (column 6 rows sample)) (a : ad ≡ adOf) (p : pl ≡ plOf) where
+  module _ (n x : ℕ) {dp : Option ℕ} {ad pl : List ℕ} (d : dp ≡ dpAt rows sample) (a : ad ≡ adOf) (p : pl ≡ plOf) where
     -- what is said by these values is what is said by the row
     pub row-called : calledData n x (ownValues dp ad pl) ≡ calledData n x (rowData s rows sample)
     unfolding calledData ownValues rowData

@@ -19,8 +19,8 @@ use Rattle.definitions.specs.Limits.{maxAlleles, maxSamples}
 use Rattle.definitions.specs.Lines.{keyOf, line}
 use Rattle.definitions.specs.ListReader.{countsFit}
 use Rattle.definitions.specs.Lists.{allOf, filterBy, numbersFrom}
-use Rattle.definitions.specs.Numbers.{decimal, maxNumber, writtenOrMissing}
-use Rattle.definitions.specs.Printed.{printedSampleData, printedValues, writtenGenotype}
+use Rattle.definitions.specs.Numbers.{decimal, maxNumber}
+use Rattle.definitions.specs.Printed.{printedValues}
 use Rattle.definitions.specs.Records.{Record}
 use Rattle.laws.proofs.Decimals.{InRange}
 use Rattle.laws.proofs.Every.{Every, IfThere, also, every-all, every-append, every-drop, every-filter, every-map, every-of-map, every-or, flatMap-few, if-there, missing-or, nothing, passes-every}
@@ -29,7 +29,7 @@ use Rattle.laws.proofs.Members.{filter-few}
 use Rattle.laws.proofs.SoundRecords.{SoundRecord, SoundSampleData}
 use Rattle.laws.proofs.SoundValues.{Counted}
 use Rattle.laws.proofs.Tests.{both}
-use Rattle.record_laws.proofs.Lengths.{alleles-few, data-few, decimal-few, mostData, mostRecord}
+use Rattle.record_laws.proofs.Lengths.{alleles-few, data-few, decimal-few, mostData, mostRecord, values-shorter}
 use Rattle.laws.proofs.AllelesAsRead.{refAltsAsRead}
 use Rattle.called_lines.specs.Rows.{CalledRecordFits, RecordRows, rowData, rowRecord, withoutGt}
 use Rattle.called_genotypes.specs.Values.{foldedPl, retainedAllele, retainedPlAt}
@@ -86,6 +86,7 @@ called-sound n x v below s = record {
   gt = tt;
   gq = if-made InRange gqFromPl (Option·map (plWithoutAllele n x) (v .pl)) (λ pl h. gq-range pl) (if-made (λ pl. Unit {0}) (plWithoutAllele n x) (v .pl) (λ pl h. tt) (s .pl));
   dp = s .dp;
+  mindp = tt;
   ad = if-made (Counted (n - 1)) (withoutIndex x) (v .ad) entries (s .ad);
   pl = if-made (Counted (genotypeCount (n - 1))) (plWithoutAllele n x) (v .pl) values (s .pl);
 }
@@ -102,8 +103,7 @@ called-sound n x v below s = record {
 -- ---- how long it is printed
 
 values-few : (n : ℕ) (v : SampleData) → 0 < n → n ≤ maxAlleles → SoundSampleData n v → length (printedValues v) ≤ mostData
-unfolding printedSampleData
-values-few n v h few s = omega (arith, data-few n v h few s, length-append (line "gt" (writtenOrMissing writtenGenotype (v .gt))) (printedValues v))
+values-few n v h few s = omega (arith, data-few n v h few s, values-shorter v)
 
 all-values-few : (n x : ℕ) {vs : List SampleData} → 2 ≤ n → n ≤ maxAlleles → x < n → Every (SoundSampleData n) vs
     → length (flatMap printedValues (map (calledData n x) vs)) ≤ mostData * length vs

@@ -18,7 +18,7 @@ use Rattle.definitions.specs.Records.{Record}
 use Rattle.laws.proofs.AllelesAsRead.{refAltsAsRead}
 use Rattle.laws.proofs.Every.{Every, IfThere}
 use Rattle.sample_alleles.specs.Readings.{allelesIn}
-use Rattle.tables.specs.Tables.{adAt, codeOption, column, plAt}
+use Rattle.tables.specs.Tables.{adAt, codeOption, column, dpAt, minDpAt, plAt}
 
 -- ---- a record in a table
 
@@ -27,14 +27,15 @@ unfoldable pub rowData : List ℕ → List ℕ → ℕ → SampleData
 rowData s rows sample = record {
   gt = none;
   gq = codeOption (column 5 rows sample);
-  dp = codeOption (column 6 rows sample);
+  dp = dpAt rows sample;
+  mindp = minDpAt rows sample;
   ad = adAt s rows sample;
   pl = plAt s rows sample;
 }
 
 -- a sample's data but GT
 unfoldable pub withoutGt : SampleData → SampleData
-withoutGt v = record { gt = none; gq = v .gq; dp = v .dp; ad = v .ad; pl = v .pl }
+withoutGt v = record { gt = none; gq = v .gq; dp = v .dp; mindp = v .mindp; ad = v .ad; pl = v .pl }
 
 -- the record with these alleles, as a text spells them, ALTs with commas, whose samples' data are in the first rows; a called record has neither END nor GT
 unfoldable pub rowRecord : List ℕ → List ℕ → ℕ → List ℕ → List ℕ → List ℕ → ℕ → Record

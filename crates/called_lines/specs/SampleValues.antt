@@ -11,13 +11,13 @@ use Rattle.definitions.specs.Printed.{printedValues}
 use Rattle.genotype_values.specs.Values.{present}
 use Rattle.laws.proofs.Every.{IfThere}
 
--- what a record says of a sample with these values; an empty list stands for a missing one. (`calledData` uses neither GT nor GQ.)
+-- what a record says of a sample with these values; an empty list stands for a missing one. (`calledData` uses neither GT, GQ nor MIN_DP.)
 unfoldable pub ownValues : Option ℕ → List ℕ → List ℕ → SampleData
-ownValues dp ad pl = record { gt = none; gq = none; dp = dp; ad = present ad; pl = present pl }
+ownValues dp ad pl = record { gt = none; gq = none; dp = dp; mindp = none; ad = present ad; pl = present pl }
 
 -- what is said of a sample whose values are without x already
 unfoldable pub calledValues : Option ℕ → List ℕ → List ℕ → SampleData
-calledValues dp ad pl = record { gt = none; gq = Option·map gqFromPl (present pl); dp = dp; ad = present ad; pl = present pl }
+calledValues dp ad pl = record { gt = none; gq = Option·map gqFromPl (present pl); dp = dp; mindp = none; ad = present ad; pl = present pl }
 
 -- what `put_called_data` asks: x is one of 2 to 16 alleles, AD is missing or has an entry for each, and the offset behind the lines
 -- fits a usize. (A place that PL does not have counts 0.)

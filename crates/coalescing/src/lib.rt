@@ -35,7 +35,7 @@ pub fn put_pending(contig: &[u8], held: &[u8], pending: Pending, out: &mut [u8],
     }
 }
 
-// Whether two blocks agree in PL, AD, DP and GQ of all samples: the lines of their samples are the same bytes.
+// Whether two blocks agree in PL, AD, DP, MIN_DP and GQ of all samples: the lines of their samples are the same bytes.
 fn samples_pl_ad_eq(held: &[u8], len: usize, fresh: &[u8]) -> bool
     ensures { λ r. ⌜ r ≡ sameBytes (take len (now (held .entry))) (now (fresh .entry)) ⌝ }
 {

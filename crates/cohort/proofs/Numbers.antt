@@ -94,7 +94,7 @@ module _ {samples : ℕ} {s : List ℕ} {at₀ : ℕ} {rows₀ rows : List ℕ} 
   after-long = length-sets rows (count * 22) (rowOf p contig a v block)
 
   site-is : siteAt s after count ≡ siteFrom s p a v
-  site-is = site-here s rows count p contig a v block fits
+  site-is = site-here s rows count p contig a v block fits (to .dp-small)
 
   ad-same : SameRows s after with-ad (count * 22 + 22)
   unfolding siteAt

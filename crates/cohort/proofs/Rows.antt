@@ -25,7 +25,8 @@ use Rattle.site_groups.specs.declared.SiteValues.{SiteValues}
 use Rattle.tables.proofs.NumberLists.{in-text}
 use Rattle.tables.proofs.SameSites.{same-columns}
 use Rattle.tables.proofs.Stored.{drop-sets, get-before, get-here, map-same, one-more}
-use Rattle.tables.specs.Tables.{SiteRows, column, isStored, numbersAt, partAt, siteAt}
+use Rattle.tables.proofs.StoredLists.{first-half, second-half}
+use Rattle.tables.specs.Tables.{SiteRows, codeOption, column, depthAt, dpAt, halfAt, isStored, minDpAt, numbersAt, partAt, siteAt}
 use Rattle.cohort.proofs.Contigs.{names-length}
 use Rattle.cohort.specs.Cohort.{ContigsNumbered, contigNames, firstOn, rowOf, sitesIn}
 
@@ -132,14 +133,23 @@ module _ (s rows : List ℕ) (count : ℕ) (p : SitePlace) (contig : ℕ) (a : S
       in-text k most s after count (rw (here k (omega arith), none-stored) (unfold isStored in refl))
       ∙ rw (part-here (k + 1) (k + 2) (omega arith) h)
 
-  pub site-here : siteAt s after count ≡ siteFrom s p a v
+  -- DP and MIN_DP share a column
+  depths-here : v .dp < 4294967296 → (dpAt after count ≡ codeOption (v .dp)) × (minDpAt after count ≡ codeOption (v .mindp))
+  unfolding depthAt
+  depths-here small = (
+    ap codeOption (ap (halfAt 0) (here 6 (omega arith)) ∙ first-half (v .dp) (v .mindp) small),
+    ap codeOption (ap (halfAt 1) (here 6 (omega arith)) ∙ second-half (v .dp) (v .mindp) small),
+  )
+
+  pub site-here : v .dp < 4294967296 → siteAt s after count ≡ siteFrom s p a v
   unfolding siteAt
-  site-here = rw (
+  site-here small = rw (
     here 0 (omega arith),
     here 2 (omega arith),
     here 3 (omega arith),
     here 5 (omega arith),
-    here 6 (omega arith),
+    depths-here small .0,
+    depths-here small .1,
     part-here 7 8 (omega arith) (omega arith),
     part-here 9 10 (omega arith) (omega arith),
     part-here 11 12 (omega arith) (omega arith),
@@ -147,10 +157,10 @@ module _ (s rows : List ℕ) (count : ℕ) (p : SitePlace) (contig : ℕ) (a : S
     list-here 16 10 (omega arith) refl,
   )
 
-  pub sites-more : sitesIn s after (count + 1) ≡ sitesIn s rows count ++ (siteFrom s p a v ∷ [])
+  pub sites-more : v .dp < 4294967296 → sitesIn s after (count + 1) ≡ sitesIn s rows count ++ (siteFrom s p a v ∷ [])
   unfolding sitesIn
-  sites-more = one-more (siteAt s after) count
-      ∙ rw (map-same (siteAt s after) (siteAt s rows) 0 count (λ i h. site-before rows row count refl room s i (omega arith)), site-here)
+  sites-more small = one-more (siteAt s after) count
+      ∙ rw (map-same (siteAt s after) (siteAt s rows) 0 count (λ i h. site-before rows row count refl room s i (omega arith)), site-here small)
 
   names-more : contigNames s after (count + 1) ≡ contigNames s rows count ++ (partAt 7 8 s after count ∷ [])
   unfolding contigNames
@@ -158,7 +168,7 @@ module _ (s rows : List ℕ) (count : ℕ) (p : SitePlace) (contig : ℕ) (a : S
       ∙ rw (map-same (partAt 7 8 s after) (partAt 7 8 s rows) 0 count
       (λ i h. part-before rows row count refl room s 7 8 i (omega arith) (omega arith) (omega arith)))
 
-  module _ (numbered : Numbered s rows count) (first : contig ≡ firstOn s rows count (between s (p .contig .at) (p .contig .end)))
+  module _ (small : v .dp < 4294967296) (numbered : Numbered s rows count) (first : contig ≡ firstOn s rows count (between s (p .contig .at) (p .contig .end)))
       (is-block : block ≡ isBlock (siteFrom s p a v .alleles)) where
     contigs-more : ContigsNumbered s after (count + 1)
     contigs-more site h = rw names-more (go (ℕ-discrete site count))
@@ -184,7 +194,7 @@ module _ (s rows : List ℕ) (count : ℕ) (p : SitePlace) (contig : ℕ) (a : S
         flag false = refl
 
         go : Dec (site ≡ count) → eqb (column 4 after site) 1 ≡ isBlock (siteAt s after site .alleles)
-        go (yes q) = rw (q, here 4 (omega arith), site-here, ← is-block) (flag block)
+        go (yes q) = rw (q, here 4 (omega arith), site-here small, ← is-block) (flag block)
         go (no q) =
             let b : site < count = omega arith in
             rw (column-before rows row count refl room 4 site (omega arith) b, site-before rows row count refl room s site b) (numbered .blocks site b)

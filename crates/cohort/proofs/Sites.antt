@@ -80,7 +80,7 @@ module _ (samples : ℕ) (s : List ℕ) (at₀ : ℕ) (rows₀ : List ℕ) where
     first-refused row e names n m =
         sym (inv .whole names n (suc m))
         ∙ ap (continued (reverse (sitesIn s rows count)))
-        (some-refused 10 (omega arith) (siteOf names) (reverse (sitesIn s rows count)) s next row m more (same-group rows next count names n ∙ e))
+        (some-refused 11 (omega arith) (siteOf names) (reverse (sitesIn s rows count)) s next row m more (same-group rows next count names n ∙ e))
         ∙ continued-refused (reverse (sitesIn s rows count)) row
 
     pub site-refused : (row : ℕ) → siteGroupOf s next samples count ≡ refused row → SitesRead samples s at₀ rows₀ rows (sites.Refused row)
@@ -109,7 +109,7 @@ module _ (samples : ℕ) (s : List ℕ) (at₀ : ℕ) (rows₀ : List ℕ) where
           rw (reverse-append (sitesIn s rows count) (siteFrom s p a v ∷ []))
           (sym (continued-next (reverse (sitesIn s rows count)) (siteFrom s p a v) _)
           ∙ ap (continued (reverse (sitesIn s rows count)))
-          (sym (some-accepted 10 (omega arith) (siteOf names) (reverse (sitesIn s rows count)) s next (siteFrom s p a v) (v .next) m more
+          (sym (some-accepted 11 (omega arith) (siteOf names) (reverse (sitesIn s rows count)) s next (siteFrom s p a v) (v .next) m more
           (to .behind) (same-group rows next count names n ∙ to .value)))
           ∙ inv .whole names n (suc m))
 
@@ -133,13 +133,13 @@ module _ (samples : ℕ) (s : List ℕ) (at₀ : ℕ) (rows₀ : List ℕ) where
             → Reading after (v .next) (count + 1)
         site-read after same e = record {
           long = same ∙ inv .long;
-          numbered = rw e (numbered-more s rows count p contig a v block fits (inv .numbered) first (to .is-block));
+          numbered = rw e (numbered-more s rows count p contig a v block fits (to .dp-small) (inv .numbered) first (to .is-block));
           few = omega (arith, few-before s next samples count (to .value));
           room = omega (arith, inv .long);
           rest = rw e (rest-more rows (rowOf p contig a v block) count refl fits rows₀ (inv .rest));
           whole = λ names n m.
               let there : count + 1 + m ≡ count + suc m = omega arith in
-              rw (e, sites-more s rows count p contig a v block fits, there) (first-accepted names n m);
+              rw (e, sites-more s rows count p contig a v block fits (to .dp-small), there) (first-accepted names n m);
         }
 
   module _ (rows : List ℕ) (next count : ℕ) (inv : Reading rows next count) (past : length s ≤ next) where
@@ -148,7 +148,7 @@ module _ (samples : ℕ) (s : List ℕ) (at₀ : ℕ) (rows₀ : List ℕ) where
     all-first names n m =
         sym (inv .whole names n m)
         ∙ ap (continued (reverse (sitesIn s rows count)))
-        (none-left 10 (omega arith) (siteOf names) (reverse (sitesIn s rows count)) s next m past)
+        (none-left 11 (omega arith) (siteOf names) (reverse (sitesIn s rows count)) s next m past)
         ∙ continued-end (reverse (sitesIn s rows count))
         ∙ ap {B = Checked (List Site)} accepted (reverse-reverse (sitesIn s rows count))
 

@@ -1,5 +1,5 @@
 -- What reading cohort.kv into tables finds.
-use Prim.Native.Nat.{_*_, _/_, _<_, _≤_, suc, ℕ}
+use Prim.Native.Nat.{_*_, _+_, _/_, _<_, _≤_, suc, ℕ}
 use lib.Dec.{leb, ltb}
 use lib.ListN.{drop, length, take}
 use mathlib.Core.Bool.{Bool, cond}
@@ -26,10 +26,10 @@ use Rattle.cohort.specs.declared.SitesAt.the-variants as sites
 
 -- ---- a row
 
--- the numbers of a site's row, in the order of the table's columns; AD and PL stand in the text
+-- the numbers of a site's row, in the order of the table's columns; DP and MIN_DP share one, AD and PL stand in the text
 abbrev pub rowOf : SitePlace → ℕ → SiteAlleles → SiteValues → Bool → List ℕ
 rowOf p contig a v block =
-    p .sample .0 ∷ contig ∷ p .start .0 ∷ p .end .0 ∷ cond block 1 0 ∷ v .gq ∷ v .dp
+    p .sample .0 ∷ contig ∷ p .start .0 ∷ p .end .0 ∷ cond block 1 0 ∷ v .gq ∷ (v .dp + v .mindp * 4294967296)
     ∷ p .contig .at ∷ p .contig .end ∷ a .refs .at ∷ a .refs .end ∷ a .alts .at ∷ a .alts .end
     ∷ 0 ∷ v .ad .at ∷ v .ad .end ∷ 0 ∷ v .pl .at ∷ v .pl .end ∷ 0 ∷ 0 ∷ 0 ∷ []
 

@@ -42,7 +42,7 @@ pub fn put_site(
         place.end.get() as usize,
         flag(block),
         values.gq as usize,
-        values.dp as usize,
+        values.dp as usize + values.mindp as usize * 4294967296,
         place.contig.at,
         place.contig.end,
         alleles.refs.at,

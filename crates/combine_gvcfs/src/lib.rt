@@ -297,16 +297,16 @@ fn combine_long<'a>(
 
 // Whether cohort and reference are so short that small tables are tried first. What is answered here changes no list.
 fn is_small(cohort: &[u8], referenced: bool, reference: &[u8]) -> bool
-    ensures { λ r. ⌜ r ≡ leb (length (now (cohort .entry))) 16384 && atMost 1024 (onlyIf referenced (now (reference .entry))) ⌝ }
+    ensures { λ r. ⌜ r ≡ leb (length (now (cohort .entry))) 19968 && atMost 1024 (onlyIf referenced (now (reference .entry))) ⌝ }
 {
-    if 16384 < cohort.len() {
+    if 19968 < cohort.len() {
         return false;
     }
     has_at_most(referenced, reference, 1024)
 }
 
-// Writes the list of short texts by way of small tables: a site group has at least 70 bytes, so 4,480 bytes hold at most 64, and
-// 16,384 at most 234. For other texts they have no room.
+// Writes the list of short texts by way of small tables: a site group has at least 78 bytes, so 4,992 bytes hold at most 64, and
+// 19,968 at most 256. For other texts they have no room.
 fn combine_small<'a>(
     cohort: &'a [u8],
     clipped: bool,
@@ -322,7 +322,7 @@ fn combine_small<'a>(
     if !is_small(cohort, referenced, reference) {
         return Tried::NoRoom;
     }
-    if cohort.len() <= 4480 {
+    if cohort.len() <= 4992 {
         return combine_tiny(cohort, clipped, clip, referenced, reference, scratch, out);
     }
     combine_short(cohort, clipped, clip, referenced, reference, scratch, out)

@@ -30,21 +30,25 @@ use Rattle.definitions.proofs.Evaluated.{evaluated}
 -- ---- texts, written shortly
 
 -- a site group on contig c with no GQ and AD
-abbrev siteGroup : String → String → String → String → String → String → String → List ℕ
-siteGroup sample start end ref alt dp pl =
+abbrev siteGroup : String → String → String → String → String → String → String → String → List ℕ
+siteGroup sample start end ref alt dp mindp pl =
     line "site" (text sample) ++ line "contig" (text "c") ++ line "start" (text start) ++ line "end" (text end)
     ++ line "ref" (text ref) ++ line "alt" (text alt)
-    ++ line "gq" (text ".") ++ line "dp" (text dp) ++ line "ad" (text ".") ++ line "pl" (text pl)
+    ++ line "gq" (text ".") ++ line "dp" (text dp) ++ line "mindp" (text mindp) ++ line "ad" (text ".") ++ line "pl" (text pl)
 
 -- a site with PL alone; a site, and a block, with no values
 abbrev withPl : String → String → String → String → String → String → List ℕ
-withPl sample start end ref alt pl = siteGroup sample start end ref alt "." pl
+withPl sample start end ref alt pl = siteGroup sample start end ref alt "." "." pl
 
 abbrev bare : String → String → String → String → String → List ℕ
 bare sample start end ref alt = withPl sample start end ref alt "."
 
 abbrev block : String → String → String → List ℕ
 block start end ref = bare "0" start end ref "<NON_REF>"
+
+-- a block with DP 7 and this MIN_DP
+abbrev withMinDp : String → String → String → String → List ℕ
+withMinDp sample start end mindp = siteGroup sample start end "A" "<NON_REF>" "7" mindp "."
 
 abbrev one : List ℕ
 one = text "samples=1\nsample=S0\n"
@@ -102,7 +106,7 @@ trimmed alleles = printedAnswer (trimmedAlleles (text alleles) 65536)
 
 -- a sample with this PL and AD and no more
 abbrev withValues : List ℕ → List ℕ → SampleData
-withValues ad pl = record { gt = none; gq = none; dp = none; ad = some ad; pl = some pl }
+withValues ad pl = record { gt = none; gq = none; dp = none; mindp = none; ad = some ad; pl = some pl }
 
 -- ---- the tables
 
@@ -174,13 +178,13 @@ abbrev pub slips : List Row
 slips =
     (allelesIn (two ++ bare "0" "10" "10" "A" "*,<NON_REF>" ++ bare "1" "10" "11" "AT" "A,<NON_REF>") gives "AT,A,*,<NON_REF>;T,*,<NON_REF>")
     ∷ (decimal (gqFromPl (30 ∷ 0 ∷ 20 ∷ [])) gives "20")
-    ∷ (spans (one ++ siteGroup "0" "10" "12" "A" "<NON_REF>" "7" "." ++ siteGroup "0" "13" "15" "A" "<NON_REF>" "8" ".") gives "10-12;13-15")
+    ∷ (spans (one ++ siteGroup "0" "10" "12" "A" "<NON_REF>" "7" "." "." ++ siteGroup "0" "13" "15" "A" "<NON_REF>" "8" "." ".") gives "10-12;13-15")
     ∷ (shown (λ (x : Float). decimal (toBits binary64 x)) (likelihoodSubset (map log10FromPl (40 ∷ 0 ∷ 50 ∷ 60 ∷ 70 ∷ 80 ∷ [])) 3 (2 ∷ 0 ∷ []) 136)
     gives "13839561654909534208;13835058055282163712;0")
     ∷ (refsIn (one ++ block "10" "19" "A") "contig=c\nstart=13\nend=13\ncontig=c\nstart=14\nend=14\n"
     "contig=c\nfirst=15\nbases=T\ncontig=c\nfirst=13\nbases=g\ncontig=c\nfirst=10\nbases=AAAAaAAAAA\n" gives "G;A")
     ∷ (answerWithin 1 65536 (alone (one ++ block "10" "19" "A"))
-    gives "samples=1\nsample=S0\nrecords=1\ncontig=c\npos=10\nend=19\nref=A\nalt=<NON_REF>\ngt=.\ngq=.\ndp=.\nad=.\npl=.\n")
+    gives "samples=1\nsample=S0\nrecords=1\ncontig=c\npos=10\nend=19\nref=A\nalt=<NON_REF>\ngt=.\ngq=.\ndp=.\nmindp=.\nad=.\npl=.\n")
     ∷ (answerWithin 0 65536 (alone one) gives "samples=1\nsample=S0\nrecords=0\n")
     ∷ (allelesIn (one ++ bare "0" "10" "13" "ACGT" "A,<NON_REF>" ++ bare "0" "12" "12" "G" "T,<NON_REF>" ++ bare "0" "12" "12" "G" "C,<NON_REF>")
     gives "ACGT,A,<NON_REF>;C,*,<NON_REF>;G,T,<NON_REF>;T,*,<NON_REF>")
@@ -188,6 +192,13 @@ slips =
     gives "GAT,G,<NON_REF>;A,*,<NON_REF>;T,*,<NON_REF>;N,<NON_REF>")
     ∷ (allelesIn (two ++ bare "0" "10" "11" "AC" "A,<NON_REF>" ++ bare "1" "9" "11" "GAT" "G,<NON_REF>")
     gives "GAT,G,<NON_REF>;AC,A,*,<NON_REF>;C,*,<NON_REF>")
+    ∷ (spans (one ++ withMinDp "0" "10" "12" "5" ++ withMinDp "0" "13" "15" "6") gives "10-12;13-15")
+    ∷ (spans (one ++ withMinDp "0" "10" "12" "5" ++ withMinDp "0" "13" "15" "5") gives "10-15")
+    ∷ (spans (two ++ withMinDp "0" "10" "12" "9" ++ withMinDp "0" "13" "15" "9" ++ bare "1" "10" "12" "A" "<NON_REF>") gives "10-15")
+    ∷ (answer (one ++ withMinDp "0" "10" "10" "5")
+    gives "samples=1\nsample=S0\nrecords=1\ncontig=c\npos=10\nend=.\nref=A\nalt=<NON_REF>\ngt=.\ngq=.\ndp=7\nmindp=5\nad=.\npl=.\n")
+    ∷ (answer (one ++ text "site=0\ncontig=c\nstart=10\nend=9\nref=A\nalt=<NON_REF>\ngq=.\ndp=.\nad=.\npl=.\n") gives "refused=1\n")
+    ∷ (answer (one ++ withMinDp "0" "10" "9" "05") gives "refused=1\n")
     ∷ (answerToSite "10" "9" "A" "G,G" "." gives "refused=4\n")
     ∷ (answerToSite "10" "10" "A" "G,g,<NON_REF>" "." gives "refused=5\n")
     ∷ (answerToSite "10" "10" "a" "A,<NON_REF>" "." gives "refused=5\n")
@@ -196,8 +207,10 @@ slips =
     ∷ (allelesIn (one ++ bare "0" "10" "10" "n" "c,<NON_REF>") gives "N,C,<NON_REF>")
     ∷ (trimmed "aaT,At" gives "AA,A")
     ∷ (callProgram (some (text "samples=1\nsample=S0\nrecords=1\ncontig=c\npos=10\nend=.\nref=a\nalt=t,<NON_REF>\n"
-    ++ text "gt=0/1\ngq=40\ndp=8\nad=.\npl=40,0,50,60,70,80\n"))
+    ++ text "gt=0/1\ngq=40\ndp=8\nmindp=6\nad=.\npl=40,0,50,60,70,80\n"))
     gives "samples=1\nsample=S0\nrecords=1\ncontig=c\npos=10\nref=A\nalt=T\ngq=40\ndp=8\nad=.\npl=40,0,50\n")
+    ∷ (callProgram (some (text "samples=1\nsample=S0\nrecords=1\ncontig=c\npos=10\nend=.\nref=A\nalt=<NON_REF>\ngt=.\ngq=.\ndp=.\nad=.\npl=.\n"))
+    gives "refused=1\n")
     ∷ (answerToSite "10" "12" "A" "G,<NON_REF>" "0,30" gives "refused=7\n")
     ∷ (answer (one ++ withPl "0" "10" "10" "A" "<NON_REF>" "0,30" ++ bare "0" "010" "10" "A" "<NON_REF>") gives "refused=8\n")
     ∷ []
@@ -261,18 +274,18 @@ looks-right = tt
 abbrev pub exampleCohort : List ℕ
 exampleCohort =
     text "samples=2\nsample=S0\nsample=S1\n"
-    ++ text "site=0\ncontig=c\nstart=10\nend=11\nref=A\nalt=<NON_REF>\ngq=30\ndp=9\nad=9,0\npl=0,30,300\n"
-    ++ text "site=1\ncontig=c\nstart=10\nend=10\nref=A\nalt=G,<NON_REF>\ngq=40\ndp=8\nad=4,4,0\npl=40,0,50,60,70,80\n"
+    ++ text "site=0\ncontig=c\nstart=10\nend=11\nref=A\nalt=<NON_REF>\ngq=30\ndp=9\nmindp=.\nad=9,0\npl=0,30,300\n"
+    ++ text "site=1\ncontig=c\nstart=10\nend=10\nref=A\nalt=G,<NON_REF>\ngq=40\ndp=8\nmindp=.\nad=4,4,0\npl=40,0,50,60,70,80\n"
 
 abbrev pub exampleList : List ℕ
 exampleList =
     text "samples=2\nsample=S0\nsample=S1\nrecords=2\n"
     ++ text "contig=c\npos=10\nend=.\nref=A\nalt=G,<NON_REF>\n"
-    ++ text "gt=0/0\ngq=30\ndp=9\nad=9,0,0\npl=0,30,300,30,300,300\n"
-    ++ text "gt=0/1\ngq=40\ndp=8\nad=4,4,0\npl=40,0,50,60,70,80\n"
+    ++ text "gt=0/0\ngq=30\ndp=9\nmindp=.\nad=9,0,0\npl=0,30,300,30,300,300\n"
+    ++ text "gt=0/1\ngq=40\ndp=8\nmindp=.\nad=4,4,0\npl=40,0,50,60,70,80\n"
     ++ text "contig=c\npos=11\nend=.\nref=N\nalt=<NON_REF>\n"
-    ++ text "gt=0/0\ngq=30\ndp=9\nad=9,0\npl=0,30,300\n"
-    ++ text "gt=.\ngq=.\ndp=.\nad=.\npl=.\n"
+    ++ text "gt=0/0\ngq=30\ndp=9\nmindp=.\nad=9,0\npl=0,30,300\n"
+    ++ text "gt=.\ngq=.\ndp=.\nmindp=.\nad=.\npl=.\n"
 
 pub printed : combineProgram (some exampleCohort) none none ≡ exampleList
 unfolding evaluated

@@ -28,10 +28,11 @@ unfoldable pub withoutIndex : {A : Type 0} → ℕ → List A → List A
 withoutIndex i xs = take i xs ++ drop (suc i) xs
 
 -- what is said of a sample of n alleles without x, `<NON_REF>`: PL and then GQ from it, AD without its entry, DP as it was, no GT
+-- and no MIN_DP
 unfoldable pub calledData : ℕ → ℕ → SampleData → SampleData
 calledData n x v =
     let pl = Option·map (plWithoutAllele n x) (v .pl) in
-    record { gt = none; gq = Option·map gqFromPl pl; dp = v .dp; ad = Option·map (withoutIndex x) (v .ad); pl = pl }
+    record { gt = none; gq = Option·map gqFromPl pl; dp = v .dp; mindp = none; ad = Option·map (withoutIndex x) (v .ad); pl = pl }
 
 -- the record without `<NON_REF>`
 unfoldable pub calledRecord : Record → Record
@@ -49,7 +50,7 @@ calledRecord r =
 unfoldable pub calledRecords : List Record → List Record
 calledRecords records = map calledRecord (filterBy isCalled records)
 
--- the lines of a called record: those of a combined one without `end` and `gt`
+-- the lines of a called record: those of a combined one without `end`, `gt` and `mindp`
 unfoldable pub printedCalledRecord : Record → List ℕ
 printedCalledRecord r =
     line "contig" (r .contig)

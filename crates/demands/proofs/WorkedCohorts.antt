@@ -17,24 +17,24 @@ use Rattle.demands.proofs.WorkedCall.{CalledAs, called-as}
 abbrev cohort : List String → List (List ℕ) → List ℕ
 cohort names sites = line "samples" (decimal (length names)) ++ flatMap (λ n. line "sample" (text n)) names ++ flatten sites
 
--- a site on contig c: start, end, REF, ALT, GQ, DP, AD, PL, and last the sample's number
-abbrev site : String → String → String → String → String → String → String → String → String → List ℕ
-site start end ref alt gq dp ad pl sample =
+-- a site on contig c: start, end, REF, ALT, GQ, DP, MIN_DP, AD, PL, and last the sample's number
+abbrev site : String → String → String → String → String → String → String → String → String → String → List ℕ
+site start end ref alt gq dp mindp ad pl sample =
     line "site" (text sample) ++ text "contig=c\n" ++ line "start" (text start) ++ line "end" (text end)
     ++ line "ref" (text ref) ++ line "alt" (text alt)
-    ++ line "gq" (text gq) ++ line "dp" (text dp) ++ line "ad" (text ad) ++ line "pl" (text pl)
+    ++ line "gq" (text gq) ++ line "dp" (text dp) ++ line "mindp" (text mindp) ++ line "ad" (text ad) ++ line "pl" (text pl)
 
 abbrev snp : String → List ℕ
-snp = site "10" "10" "A" "G,<NON_REF>" "40" "8" "4,4,0" "40,0,50,60,70,80"
+snp = site "10" "10" "A" "G,<NON_REF>" "40" "8" "." "4,4,0" "40,0,50,60,70,80"
 
 abbrev deletion : String → List ℕ
-deletion = site "10" "11" "AT" "A,<NON_REF>" "30" "." "." "9,0,7,6,5,4"
+deletion = site "10" "11" "AT" "A,<NON_REF>" "30" "." "." "." "9,0,7,6,5,4"
 
 abbrev block : String → List ℕ
-block = site "10" "16" "A" "<NON_REF>" "30" "9" "9,0" "0,30,300"
+block = site "10" "16" "A" "<NON_REF>" "30" "9" "7" "9,0" "0,30,300"
 
 abbrev insideBlock : String → List ℕ
-insideBlock = site "12" "12" "C" "T,<NON_REF>" "20" "6" "3,3,0" "20,0,20,40,40,60"
+insideBlock = site "12" "12" "C" "T,<NON_REF>" "20" "6" "." "3,3,0" "20,0,20,40,40,60"
 
 -- ---- REF grows: the new sample's deletion has a longer REF, so the old ALT, G, is followed as GT
 
@@ -88,13 +88,13 @@ on-all-sides-called : CalledAs onAllSides "10-10:AT,GT,A 11-11:T,* 12-12:C,T"
 unfolding computed
 on-all-sides-called = called-as onAllSides tt tt refl
 
--- ---- values of the old samples are missing: GQ and AD of S0, DP and PL of S1
+-- ---- values of the old samples are missing: GQ and AD of S0, DP, MIN_DP and PL of S1
 
 abbrev snpOfSome : String → List ℕ
-snpOfSome = site "10" "10" "A" "G,<NON_REF>" "." "8" "." "40,0,50,60,70,80"
+snpOfSome = site "10" "10" "A" "G,<NON_REF>" "." "8" "8" "." "40,0,50,60,70,80"
 
 abbrev blockOfSome : String → List ℕ
-blockOfSome = site "10" "16" "A" "<NON_REF>" "30" "." "9,0" "."
+blockOfSome = site "10" "16" "A" "<NON_REF>" "30" "." "." "9,0" "."
 
 abbrev missingValues : TwoCalls
 missingValues = record {

@@ -18,10 +18,10 @@ use Rattle.genotype_values.specs.Values.{leastPair, present, saidOf, val
 use Rattle.genotype_values.proofs.Best.{best-is, present-some}
 use Rattle.genotype_values.proofs.Mapped.{ad-length, pl-length}
 
--- a site's data are the values of its own map, GQ, DP, AD and PL
+-- a site's data are the values of its own map, GQ, DP, MIN_DP, AD and PL
 pub site-values : (ref : List ℕ) (alts : List Allele) (position : ℕ) (s : Site)
     → siteData ref alts position s
-    ≡ valuesOf (perSampleMap (remappedAlleles ref position s) alts) (s .gq) (s .dp) (s .ad) (s .pl)
+    ≡ valuesOf (perSampleMap (remappedAlleles ref position s) alts) (s .gq) (s .dp) (s .mindp) (s .ad) (s .pl)
 unfolding siteData valuesOf
 site-values ref alts position s = refl
 
@@ -47,14 +47,14 @@ module _ (alleleMap : List ℕ) (alleles : 0 < length alleleMap) where
       best-is (length alleleMap) (remappedPl alleleMap (x ∷ pl)) alleles few (pl-length alleleMap (x ∷ pl))
       ∙ ap (λ (o : Option (List ℕ)). Option·map (bestGenotype (length alleleMap)) (Option·map (remappedPl alleleMap) o)) (sym (present-some (x ∷ pl) (omega arith)))
 
-  pub said-values : (gq dp : Option ℕ) (ad pl : List ℕ) → length alleleMap ≤ 16
-      → saidOf gq dp (ofPresent (remappedAd alleleMap) ad) (ofPresent (remappedPl alleleMap) pl)
-      ≡ valuesOf alleleMap gq dp (present ad) (present pl)
+  pub said-values : (gq dp mindp : Option ℕ) (ad pl : List ℕ) → length alleleMap ≤ 16
+      → saidOf gq dp mindp (ofPresent (remappedAd alleleMap) ad) (ofPresent (remappedPl alleleMap) pl)
+      ≡ valuesOf alleleMap gq dp mindp (present ad) (present pl)
   unfolding saidOf valuesOf
-  said-values gq dp ad pl few = rw (said-gt pl few, said-ad ad, said-pl pl)
+  said-values gq dp mindp ad pl few = rw (said-gt pl few, said-ad ad, said-pl pl)
 
   -- the lines of the values that stand at the fronts of two arrays
-  pub fronts-printed : (gq dp : Option ℕ) (ad pl : List ℕ) {ads pls : List ℕ} → length alleleMap ≤ 16
+  pub fronts-printed : (gq dp mindp : Option ℕ) (ad pl : List ℕ) {ads pls : List ℕ} → length alleleMap ≤ 16
       → ads ≡ ofPresent (remappedAd alleleMap) ad → pls ≡ ofPresent (remappedPl alleleMap) pl
-      → printedSampleData (saidOf gq dp ads pls) ≡ printedSampleData (valuesOf alleleMap gq dp (present ad) (present pl))
-  fronts-printed gq dp ad pl few e f = rw (e, f, said-values gq dp ad pl few)
+      → printedSampleData (saidOf gq dp mindp ads pls) ≡ printedSampleData (valuesOf alleleMap gq dp mindp (present ad) (present pl))
+  fronts-printed gq dp mindp ad pl few e f = rw (e, f, said-values gq dp mindp ad pl few)

@@ -26,27 +26,28 @@ unfoldable pub leastPair : List ℕ → Option AllelePair
 leastPair pl = bind (present pl) λ there. getElem? (genotypePairs 16) (leastPlace there)
 
 -- what is said of a sample with this map and these values: `siteData` of a site is that (`site-values` of proofs/Said.antt)
-unfoldable pub valuesOf : List ℕ → Option ℕ → Option ℕ → Option (List ℕ) → Option (List ℕ) → SampleData
-valuesOf alleleMap gq dp ad pl =
+unfoldable pub valuesOf : List ℕ → Option ℕ → Option ℕ → Option ℕ → Option (List ℕ) → Option (List ℕ) → SampleData
+valuesOf alleleMap gq dp mindp ad pl =
     let recordPl = Option·map (remappedPl alleleMap) pl in
     record {
       gt = Option·map (bestGenotype (length alleleMap)) recordPl;
       gq = gq;
       dp = dp;
+      mindp = mindp;
       ad = Option·map (remappedAd alleleMap) ad;
       pl = recordPl;
     }
 
 -- what is said of a sample whose values are over the record's alleles already
-unfoldable pub saidOf : Option ℕ → Option ℕ → List ℕ → List ℕ → SampleData
-saidOf gq dp ad pl = record { gt = leastPair pl; gq = gq; dp = dp; ad = present ad; pl = present pl }
+unfoldable pub saidOf : Option ℕ → Option ℕ → Option ℕ → List ℕ → List ℕ → SampleData
+saidOf gq dp mindp ad pl = record { gt = leastPair pl; gq = gq; dp = dp; mindp = mindp; ad = present ad; pl = present pl }
 
 -- the GT line of the genotype of two alleles
 abbrev pub genotypeLine : ℕ → ℕ → List ℕ
 genotypeLine low high = line "gt" (writtenGenotype (record { low = low; high = high }))
 
 -- what `put_sample_data` asks: the record has 1 to 16 alleles, and the offset behind the lines fits a usize
-pub record Printable (alleleMap : List ℕ) (gq dp : Option ℕ) (ad pl : List ℕ) (at : ℕ) : Type 0 where
+pub record Printable (alleleMap : List ℕ) (gq dp mindp : Option ℕ) (ad pl : List ℕ) (at : ℕ) : Type 0 where
   pub alleles : 0 < length alleleMap
   pub atMost : length alleleMap ≤ 16
-  pub fits : at + length (printedSampleData (valuesOf alleleMap gq dp (present ad) (present pl))) < 2 ^ 64
+  pub fits : at + length (printedSampleData (valuesOf alleleMap gq dp mindp (present ad) (present pl))) < 2 ^ 64

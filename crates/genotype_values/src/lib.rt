@@ -215,25 +215,40 @@ fn put_genotype_line(out: &mut [u8], at: usize, gt: PairAt) -> usize
     }
 }
 
+// DP and MIN_DP of a sample.
+pub struct Depths {
+    pub dp: OptionalNumber,
+    pub mindp: OptionalNumber,
+}
+
 // Lays the lines of a sample whose AD and PL are over the record's alleles; an empty one is missing.
 fn put_values(
     out: &mut [u8],
     at: usize,
     gq: OptionalNumber,
-    dp: OptionalNumber,
+    depths: Depths,
     ad: &[u32],
     pl: &[u32],
 ) -> usize
-    requires { ⌜ at + length (printedSampleData (saidOf (optionOf gq) (optionOf dp) (now ad) (now pl))) < 2 ^ 64 ⌝ }
+    requires { ⌜ at + length (printedSampleData (saidOf (optionOf gq) (optionOf (depths .dp)) (optionOf (depths .mindp)) (now ad) (now pl))) < 2 ^ 64 ⌝ }
     ensures { λ r. ⌜ Laid (now (out .entry)) at
-        (printedSampleData (saidOf (optionOf gq) (optionOf dp) (now (ad .entry)) (now (pl .entry))))
+        (printedSampleData (saidOf (optionOf gq) (optionOf (depths .dp)) (optionOf (depths .mindp)) (now (ad .entry)) (now (pl .entry))))
         (now (out .exit)) r ⌝ }
 {
+    let dp = depths.dp;
+    let mindp = depths.mindp;
     let gt = best_diploid_gt_from_pl(pl);
     let behind_gt = put_genotype_line(out, at, gt);
     let behind_gq = kv_write::put_optional_number_line(out, behind_gt, b"gq=", gq);
     let behind_dp = kv_write::put_optional_number_line(out, behind_gq, b"dp=", dp);
-    let behind_ad = kv_write::put_optional_numbers_line(out, behind_dp, b"ad=", 0 < ad.len(), ad);
+    let behind_mindp = kv_write::put_optional_number_line(out, behind_dp, b"mindp=", mindp);
+    let behind_ad = kv_write::put_optional_numbers_line(
+        out,
+        behind_mindp,
+        b"ad=",
+        0 < ad.len(),
+        ad,
+    );
     kv_write::put_optional_numbers_line(out, behind_ad, b"pl=", 0 < pl.len(), pl)
 }
 
@@ -243,13 +258,13 @@ pub fn put_sample_data(
     at: usize,
     map: &[u8],
     gq: OptionalNumber,
-    dp: OptionalNumber,
+    depths: Depths,
     ad: &[u32],
     pl: &[u32],
 ) -> usize
-    requires { ⌜ Printable (now map) (optionOf gq) (optionOf dp) (now ad) (now pl) at ⌝ }
+    requires { ⌜ Printable (now map) (optionOf gq) (optionOf (depths .dp)) (optionOf (depths .mindp)) (now ad) (now pl) at ⌝ }
     ensures { λ r. ⌜ Laid (now (out .entry)) at
-        (printedSampleData (valuesOf (now (map .entry)) (optionOf gq) (optionOf dp) (present (now (ad .entry))) (present (now (pl .entry)))))
+        (printedSampleData (valuesOf (now (map .entry)) (optionOf gq) (optionOf (depths .dp)) (optionOf (depths .mindp)) (present (now (ad .entry))) (present (now (pl .entry)))))
         (now (out .exit)) r ⌝ }
 {
     let mut record_pl = [0u32; 136];
@@ -260,7 +275,7 @@ pub fn put_sample_data(
         out,
         at,
         gq,
-        dp,
+        depths,
         &record_ad[..ad_count],
         &record_pl[..pl_count],
     )
@@ -271,5 +286,5 @@ pub fn put_missing_data(out: &mut [u8], at: usize) -> usize
     requires { ⌜ at + length (printedSampleData missingData) < 2 ^ 64 ⌝ }
     ensures { λ r. ⌜ Laid (now (out .entry)) at (printedSampleData missingData) (now (out .exit)) r ⌝ }
 {
-    kv_write::put_bytes(out, at, b"gt=.\ngq=.\ndp=.\nad=.\npl=.\n")
+    kv_write::put_bytes(out, at, b"gt=.\ngq=.\ndp=.\nmindp=.\nad=.\npl=.\n")
 }

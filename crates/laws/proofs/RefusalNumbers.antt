@@ -115,7 +115,8 @@ text-numbered group =
     then-numbered (line-numbered group 2 "start" _) λ _. then-numbered (line-numbered group 3 "end" _) λ _.
     then-numbered (line-numbered group 4 "ref" _) λ _. then-numbered (line-numbered group 5 "alt" _) λ _.
     then-numbered (line-numbered group 6 "gq" _) λ _. then-numbered (line-numbered group 7 "dp" _) λ _.
-    then-numbered (line-numbered group 8 "ad" _) λ _. then-numbered (line-numbered group 9 "pl" _) λ _. well _
+    then-numbered (line-numbered group 8 "mindp" _) λ _. then-numbered (line-numbered group 9 "ad" _) λ _.
+    then-numbered (line-numbered group 10 "pl" _) λ _. well _
 
 site-numbered : (samples before : ℕ) (t : SiteText) → ByReading (checkedSite samples before t)
 unfolding checkedSite
@@ -223,8 +224,8 @@ data-numbered : (group : List Line) (n sample : ℕ) → ByReading (sampleDataRe
 unfolding sampleDataRead
 data-numbered group n sample =
     then-numbered (line-numbered group _ "gt" _) λ _. then-numbered (line-numbered group _ "gq" _) λ _.
-    then-numbered (line-numbered group _ "dp" _) λ _. then-numbered (line-numbered group _ "ad" _) λ _.
-    then-numbered (line-numbered group _ "pl" _) λ _. well _
+    then-numbered (line-numbered group _ "dp" _) λ _. then-numbered (line-numbered group _ "mindp" _) λ _.
+    then-numbered (line-numbered group _ "ad" _) λ _. then-numbered (line-numbered group _ "pl" _) λ _. well _
 
 alts-data-numbered : (group : List Line) (alt : List ℕ) (samples : ℕ)
     → ByReading (inOrder (map (sampleDataRead group (suc (length (fieldsOf comma alt)))) (numbersFrom 0 samples)))

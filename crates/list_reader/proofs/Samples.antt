@@ -135,7 +135,7 @@ counts-by s a g v ad pl = rw (pl-by (bytesOf s (a .refs)) (bytesOf s (a .alts)) 
 
 -- what a row of the table says of a sample
 abbrev siteSample : Site → SampleData
-siteSample x = record { gt = none; gq = x .gq; dp = x .dp; ad = x .ad; pl = x .pl }
+siteSample x = record { gt = none; gq = x .gq; dp = x .dp; mindp = x .mindp; ad = x .ad; pl = x .pl }
 
 in-table : (s rows : List ℕ) (n : ℕ) → map siteSample (sitesIn s rows n) ≡ map (sampleAt s rows) (numbersFrom 0 n)
 unfolding sitesIn siteAt sampleAt
@@ -208,7 +208,7 @@ module _ (s : List ℕ) (at samples : ℕ) (rows₀ : List ℕ) (h : RecordHead)
                   map-append withoutGt (inv .sampleData) (sampleFrom s (to .gt) v ∷ [])
                   ∙ ap (λ (l : List SampleData). l ++ (withoutGt (sampleFrom s (to .gt) v) ∷ [])) (inv .table)
                   ∙ sym (map-append siteSample (sitesIn s rows i) (siteFrom s p (h .alleles) v ∷ []))
-                  ∙ rw (e, sites-more s rows i p 0 (h .alleles) v false fits);
+                  ∙ rw (e, sites-more s rows i p 0 (h .alleles) v false fits (to .dp-small));
               rest = rw e (rest-more rows (rowOf p 0 (h .alleles) v false) i refl fits rows₀ (inv .rest));
               some-pl =
                   e₁ ∙ rw (any-more (λ (w : SampleData). isThere (w .pl)) (inv .sampleData) (sampleFrom s (to .gt) v), ← inv .some-pl, pl-there _ _ (to .pl-count));

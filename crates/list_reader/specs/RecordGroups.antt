@@ -24,7 +24,7 @@ use Rattle.site_groups.specs.declared.Part.{Part}
 use Rattle.site_groups.specs.declared.SiteAlleles.{SiteAlleles}
 use Rattle.site_groups.specs.declared.SiteValues.{SiteValues}
 use Rattle.laws.proofs.AllelesAsRead.{refAltsAsRead}
-use Rattle.tables.specs.Tables.{adAt, codeOption, column, plAt, rowLength}
+use Rattle.tables.specs.Tables.{adAt, codeOption, column, dpAt, minDpAt, plAt, rowLength}
 use Rattle.list_reader.specs.declared.EndAt.{EndAt}
 use Rattle.list_reader.specs.declared.EndAt.the-variants as end
 use Rattle.list_reader.specs.declared.GtAt.{GtAt}
@@ -56,16 +56,17 @@ recordGroup s at samples = take (groupLines samples) (linesOf (drop at s))
 
 -- ---- a sample
 
--- what a sample has besides its genotype: GQ, DP, AD and PL
+-- what a sample has besides its genotype: GQ, DP, MIN_DP, AD and PL
 unfoldable pub withoutGt : SampleData → SampleData
-withoutGt v = record { gt = none; gq = v .gq; dp = v .dp; ad = v .ad; pl = v .pl }
+withoutGt v = record { gt = none; gq = v .gq; dp = v .dp; mindp = v .mindp; ad = v .ad; pl = v .pl }
 
 -- the same from the sample's row in a table
 unfoldable pub sampleAt : List ℕ → List ℕ → ℕ → SampleData
 sampleAt s rows i = record {
   gt = none;
   gq = codeOption (column 5 rows i);
-  dp = codeOption (column 6 rows i);
+  dp = dpAt rows i;
+  mindp = minDpAt rows i;
   ad = adAt s rows i;
   pl = plAt s rows i;
 }
@@ -79,9 +80,16 @@ unfoldable pub GtRead : List ℕ → ℕ → ℕ → GtAt → Type 0
 GtRead s at alts (gt.End e) = GtTo s at alts e
 GtRead s at alts gt.Wrong = LineReads s at (keyOf "gt") (orMissing (gtOf (suc alts))) unread
 
--- the data of a genotype and of the other four lines
+-- the data of a genotype and of the other five lines
 abbrev pub sampleFrom : List ℕ → Option AllelePair → SiteValues → SampleData
-sampleFrom s g v = record { gt = g; gq = codeOption (v .gq); dp = codeOption (v .dp); ad = numbersOf s (v .ad); pl = numbersOf s (v .pl) }
+sampleFrom s g v = record {
+  gt = g;
+  gq = codeOption (v .gq);
+  dp = codeOption (v .dp);
+  mindp = codeOption (v .mindp);
+  ad = numbersOf s (v .ad);
+  pl = numbersOf s (v .pl);
+}
 
 -- the sample with this number reads, in the group with so many samples that begins at `first`, and the next one's lines begin behind it
 pub record SampleLines (s : List ℕ) (first samples i alts : ℕ) (g : Option AllelePair) (v : SiteValues) : Type 0 where
@@ -91,6 +99,7 @@ pub record SampleLines (s : List ℕ) (first samples i alts : ℕ) (g : Option A
 pub record SampleTo (s : List ℕ) (at alts : ℕ) (v : SiteValues) : Type 0 where
   pub gt : Option AllelePair
   pub lines : (first samples i : ℕ) → i < samples → Behind s first (groupLines i) at → SampleLines s first samples i alts gt v
+  pub dp-small : v .dp < 4294967296
   pub ad-count : Counted s (v .ad)
   pub pl-count : Counted s (v .pl)
   pub forward : at < v .next

@@ -96,7 +96,7 @@ enum SampleAt {
     Wrong,
 }
 
-// The five lines of a sample at an offset, in a record with so many ALTs. `next` of the values is where the next sample begins.
+// The six lines of a sample at an offset, in a record with so many ALTs. `next` of the values is where the next sample begins.
 fn sample_lines(s: &[u8], at: usize, alts: usize) -> SampleAt
     ensures { λ r. ⌜ SampleRead (now (s .entry)) at alts r ⌝ }
 {
@@ -112,28 +112,33 @@ fn sample_lines(s: &[u8], at: usize, alts: usize) -> SampleAt
     let NumberAt::Found(dp, e2) = depth else {
         return SampleAt::Wrong;
     };
-    let depths = part_line(s, e2 + 1, b"ad=");
-    let PartAt::Part(a3, e3, n3) = depths else {
+    let least = site_groups::code_line(s, e2 + 1, b"mindp=");
+    let NumberAt::Found(mindp, e3) = least else {
         return SampleAt::Wrong;
     };
-    let likelihoods = part_line(s, e3 + 1, b"pl=");
-    let PartAt::Part(a4, e4, n4) = likelihoods else {
+    let depths = part_line(s, e3 + 1, b"ad=");
+    let PartAt::Part(a4, e4, n4) = depths else {
+        return SampleAt::Wrong;
+    };
+    let likelihoods = part_line(s, e4 + 1, b"pl=");
+    let PartAt::Part(a5, e5, n5) = likelihoods else {
         return SampleAt::Wrong;
     };
     let ad = NumbersPart {
-        at: a3,
-        end: e3,
-        count: n3,
-    };
-    let pl = NumbersPart {
         at: a4,
         end: e4,
         count: n4,
     };
-    let next = e4 + 1;
+    let pl = NumbersPart {
+        at: a5,
+        end: e5,
+        count: n5,
+    };
+    let next = e5 + 1;
     SampleAt::Sample(SiteValues {
         gq,
         dp,
+        mindp,
         ad,
         pl,
         next,
@@ -436,7 +441,7 @@ fn read_record(
 }
 
 // The record group at an offset, of a list with so many samples, after the record before it: a row of the table for each sample,
-// with GQ, DP, AD and PL, and behind them the table as it was; or the row, 1 to 8, that refuses it, and a table of zeros. Asks that the
+// with GQ, DP, MIN_DP, AD and PL, and behind them the table as it was; or the row, 1 to 8, that refuses it, and a table of zeros. Asks that the
 // table has a row for each sample.
 pub fn record_at(
     s: &[u8],

@@ -66,11 +66,13 @@ pub decimals-few : {ns : List ℕ} → Every InRange ns → length (decimals ns)
 unfolding decimals
 decimals-few {ns} h = omega (arith, joined-few comma 10 (every-of-map decimal (every-map decimal-few h)), length-map ns decimal)
 
-genotype-few : (n : ℕ) (p : AllelePair) → n ≤ maxNumber → GenotypeBelow n p → length (writtenGenotype p) ≤ 21
+-- of alleles whose numbers have at most so many digits
+genotype-few : (digits n : ℕ) (p : AllelePair) → ((a : ℕ) → a < n → length (decimal a) ≤ digits) → GenotypeBelow n p
+    → length (writtenGenotype p) ≤ suc (2 * digits)
 unfolding writtenGenotype joinedBy
-genotype-few n p few h =
-    let low : length (decimal (p .low)) ≤ 10 = decimal-few (p .low) (omega arith) in
-    let high : length (decimal (p .high)) ≤ 10 = decimal-few (p .high) (omega arith) in
+genotype-few digits n p few h =
+    let low : length (decimal (p .low)) ≤ digits = few (p .low) (omega arith) in
+    let high : length (decimal (p .high)) ≤ digits = few (p .high) (omega arith) in
     omega (arith, length-append (decimal (p .low)) (slash ∷ decimal (p .high)))
 
 -- ---- a sample's data
@@ -83,17 +85,20 @@ numbers-few {count} o h k = missing-few decimals (11 * count) o (omega arith) (i
     few : (ns : List ℕ) → Counted count ns → length (decimals ns) ≤ 11 * count
     few ns c = omega (arith, decimals-few (c .in-range), c .how-many)
 
--- by the number of alleles
-data-few-by : (n : ℕ) (v : SampleData) → 0 < n → n ≤ maxNumber → SoundSampleData n v
-    → length (printedSampleData v) ≤ 61 + 11 * n + 11 * genotypeCount n
-unfolding printedSampleData printedValues keyOf text
-data-few-by n v h few s =
-    let gt : length (writtenOrMissing writtenGenotype (v .gt)) ≤ 21 =
-    missing-few writtenGenotype 21 (v .gt) (omega arith) (if-there (v .gt) (λ p. genotype-few n p few) (s .gt)) in
+-- by the number of alleles, and of the digits that their numbers have
+data-few-by : (digits n : ℕ) (v : SampleData) → 0 < n → ((a : ℕ) → a < n → length (decimal a) ≤ digits) → SoundSampleData n v
+    → length (printedSampleData v) ≤ 58 + 2 * digits + 11 * n + 11 * genotypeCount n
+unfolding printedSampleData keyOf text
+data-few-by digits n v h few s =
+    let gt : length (writtenOrMissing writtenGenotype (v .gt)) ≤ suc (2 * digits) =
+    missing-few writtenGenotype (suc (2 * digits)) (v .gt) (omega arith)
+    (if-there (v .gt) (λ p. genotype-few digits n p few) (s .gt)) in
     let gq : length (writtenOrMissing decimal (v .gq)) ≤ 10 =
     missing-few decimal 10 (v .gq) (omega arith) (if-there (v .gq) decimal-few (s .gq)) in
     let dp : length (writtenOrMissing decimal (v .dp)) ≤ 10 =
     missing-few decimal 10 (v .dp) (omega arith) (if-there (v .dp) decimal-few (s .dp)) in
+    let mindp : length (writtenOrMissing decimal (v .mindp)) ≤ 10 =
+    missing-few decimal 10 (v .mindp) (omega arith) (if-there (v .mindp) decimal-few (s .mindp)) in
     let ad : length (writtenOrMissing decimals (v .ad)) ≤ 11 * n = numbers-few (v .ad) h (s .ad) in
     let pl : length (writtenOrMissing decimals (v .pl)) ≤ 11 * genotypeCount n =
     numbers-few (v .pl) (genotype-count-some n h) (s .pl) in
@@ -103,11 +108,20 @@ pub data-few : (n : ℕ) (v : SampleData) → 0 < n → n ≤ maxAlleles → Sou
 unfolding maxNumber genotypeCount
 data-few n v h few s =
     let square : n * suc n ≤ 16 * 17 = mul-le-mul {n₂ = 16} {m₂ = 17} few (omega arith) in
-    omega (arith, data-few-by n v h (omega arith) s)
+    omega (arith, data-few-by 10 n v h (λ a l. decimal-few a (omega arith)) s)
+
+-- its lines in a called record are not longer
+pub values-shorter : (v : SampleData) → length (printedValues v) ≤ length (printedSampleData v)
+unfolding printedSampleData printedValues
+values-shorter v =
+    two-more (line "gt" _) (line "gq" _) (line "dp" _) (line "mindp" _) (line "ad" _) (line "pl" _)
+  where
+    two-more : (a b c d e f : List ℕ) → length (b ++ c ++ e ++ f) ≤ length (a ++ b ++ c ++ d ++ e ++ f)
+    two-more a b c d e f = simp length-append (omega arith)
 
 -- a sample with no site
-pub missing-data-length : length (printedSampleData missingData) ≡ 25
-unfolding printedSampleData printedValues missingData writtenOrMissing line keyOf text
+pub missing-data-length : length (printedSampleData missingData) ≡ 33
+unfolding printedSampleData missingData writtenOrMissing line keyOf text
 missing-data-length = refl
 
 -- all samples
@@ -115,10 +129,10 @@ pub all-data-few : (n : ℕ) {vs : List SampleData} → 0 < n → n ≤ maxAllel
     → length (flatMap printedSampleData vs) ≤ mostData * length vs
 all-data-few n h few s = flatMap-few printedSampleData mostData (every-map (λ v. data-few n v h few) s)
 
--- in a block
+-- in a block: its alleles have numbers of one digit
 pub block-data-few : (v : SampleData) → SoundSampleData 2 v → length (printedSampleData v) ≤ mostBlockData
-unfolding maxNumber genotypeCount
-block-data-few v s = omega (arith, data-few-by 2 v (omega arith) (omega arith) s)
+unfolding genotypeCount
+block-data-few v s = omega (arith, data-few-by 1 2 v (omega arith) (λ a l. decimal-length 0 a (omega arith)) s)
 
 pub all-block-data-few : {vs : List SampleData} → Every (SoundSampleData 2) vs
     → length (flatMap printedSampleData vs) ≤ mostBlockData * length vs

@@ -38,12 +38,14 @@ data-is n v w a b h =
     let first = both-of _ _ h in
     let second = both-of _ _ (first .0) in
     let third = both-of _ _ (second .0) in
-    let pl : v .pl ≡ w .pl = same-option sameBytes same-is _ _ (third .0) in
-    let ad : v .ad ≡ w .ad = same-option sameBytes same-is _ _ (third .1) in
-    let dp : v .dp ≡ w .dp = same-option eqb eqb-true _ _ (second .1) in
+    let fourth = both-of _ _ (third .0) in
+    let pl : v .pl ≡ w .pl = same-option sameBytes same-is _ _ (fourth .0) in
+    let ad : v .ad ≡ w .ad = same-option sameBytes same-is _ _ (fourth .1) in
+    let dp : v .dp ≡ w .dp = same-option eqb eqb-true _ _ (third .1) in
+    let mindp : v .mindp ≡ w .mindp = same-option eqb eqb-true _ _ (second .1) in
     let gq : v .gq ≡ w .gq = same-option eqb eqb-true _ _ (first .1) in
     let gt : v .gt ≡ w .gt = a .gt ∙ ap (Option·map (bestGenotype n)) pl ∙ sym (b .gt) in
-    λ i. record { gt = gt i; gq = gq i; dp = dp i; ad = ad i; pl = pl i }
+    λ i. record { gt = gt i; gq = gq i; dp = dp i; mindp = mindp i; ad = ad i; pl = pl i }
 
 all-data-is : (n : ℕ) (vs ws : List SampleData) → Every (Derived n) vs → Every (Derived n) ws
     → sameEach sameSampleData vs ws ≡ true → vs ≡ ws
@@ -75,7 +77,7 @@ same-lines n [] [] h a b e = refl
 same-lines n [] (w ∷ ws) h a b e = let z : _≡_ {A = ℕ} 0 1 = cc in absurd (omega arith)
 same-lines n (v ∷ vs) [] h a b e = let z : _≡_ {A = ℕ} 0 1 = cc in absurd (omega arith)
 same-lines n (v ∷ vs) (w ∷ ws) h (also a as′) (also b bs) e =
-    both (same-written n v w h (a .sound) (b .sound) ∙ values) (same-lines n vs ws h as′ bs (ap (drop 5) e))
+    both (same-written n v w h (a .sound) (b .sound) ∙ values) (same-lines n vs ws h as′ bs (ap (drop 6) e))
   where
     line : (k : ℕ) → getD (linesOfAll (v ∷ vs)) k none ≡ getD (linesOfAll (w ∷ ws)) k none
     line k = ap (λ (l : List Line). getD l k none) e
@@ -83,12 +85,14 @@ same-lines n (v ∷ vs) (w ∷ ws) h (also a as′) (also b bs) e =
     values : (sameBytes (writtenOrMissing decimals (v .pl)) (writtenOrMissing decimals (w .pl))
         && sameBytes (writtenOrMissing decimals (v .ad)) (writtenOrMissing decimals (w .ad))
         && sameBytes (writtenOrMissing decimal (v .dp)) (writtenOrMissing decimal (w .dp))
+        && sameBytes (writtenOrMissing decimal (v .mindp)) (writtenOrMissing decimal (w .mindp))
         && sameBytes (writtenOrMissing decimal (v .gq)) (writtenOrMissing decimal (w .gq))) ≡ true
     values =
-        both (both (both
-        (same-value "pl" _ _ (line 4))
-        (same-value "ad" _ _ (line 3)))
+        both (both (both (both
+        (same-value "pl" _ _ (line 5))
+        (same-value "ad" _ _ (line 4)))
         (same-value "dp" _ _ (line 2)))
+        (same-value "mindp" _ _ (line 3)))
         (same-value "gq" _ _ (line 1))
 
 -- ---- both ways

@@ -55,7 +55,7 @@ module _ (s rows : List ℕ) (position : ℕ) (ref alts : List ℕ) where
     where
       go : (t : Bool) → ltb own (length rows) ≡ t → SoundSampleData (suc (length (allelesIn alts))) (dataOwn s rows position ref alts own)
       go true e = let r = ltb-true own (length rows) e in rw (data-of-row r) (site-data-sound ref (allelesIn alts) position (siteAt s rows own) (h r))
-      go false e = rw (data-of-no-row (ltb-false own (length rows) e)) (record { gt = tt; gq = tt; dp = tt; ad = tt; pl = tt })
+      go false e = rw (data-of-no-row (ltb-false own (length rows) e)) (record { gt = tt; gq = tt; dp = tt; mindp = tt; ad = tt; pl = tt })
 
 -- ---- some samples by the rows of their sites
 

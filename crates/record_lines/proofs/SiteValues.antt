@@ -27,7 +27,7 @@ use Rattle.laws.proofs.SoundValues.{Numbers, numbers-sound}
 use Rattle.sample_alleles.proofs.Readings.{few-alleles}
 use Rattle.sample_alleles.specs.Readings.{allelesIn}
 use Rattle.tables.proofs.NumberLists.{first-in-row, first-in-text, in-row, in-text, stored-length, stored-some}
-use Rattle.tables.specs.Tables.{adAt, codeOption, column, firstNumbersAt, isStored, numbersAt, partAt, plAt, siteAt, storedNumbers}
+use Rattle.tables.specs.Tables.{adAt, codeOption, column, dpAt, firstNumbersAt, isStored, minDpAt, numbersAt, partAt, plAt, siteAt, storedNumbers}
 use Rattle.record_lines.specs.Samples.{SitePrintable}
 
 -- ---- numbers of a list
@@ -134,28 +134,28 @@ module _ (s rows : List ℕ) (site : ℕ) where
 
   by-row : (position : ℕ) (ref alts : List ℕ)
       → siteData ref (allelesIn alts) position (siteAt s rows site)
-      ≡ valuesOf (mapOf position ref alts) (codeOption (column 5 rows site)) (codeOption (column 6 rows site))
+      ≡ valuesOf (mapOf position ref alts) (codeOption (column 5 rows site)) (dpAt rows site) (minDpAt rows site)
       (adAt s rows site) (plAt s rows site)
   unfolding siteAt
   by-row position ref alts = site-values ref (allelesIn alts) position (siteAt s rows site)
 
   -- what these values say of the sample is what the site says
-  pub values-said : (position : ℕ) (ref alts : List ℕ) {gq dp : Option ℕ} {m ad pl : List ℕ} → gq ≡ codeOption (column 5 rows site)
-      → dp ≡ codeOption (column 6 rows site) → m ≡ mapOf position ref alts → ad ≡ adOf → pl ≡ plOf
-      → valuesOf m gq dp (present ad) (present pl) ≡ siteData ref (allelesIn alts) position (siteAt s rows site)
-  values-said position ref alts g d m a p =
-      rw (g, d, m, a, p, numbers-present 13 4 s rows site, numbers-present 16 10 s rows site)
+  pub values-said : (position : ℕ) (ref alts : List ℕ) {gq dp mindp : Option ℕ} {m ad pl : List ℕ} → gq ≡ codeOption (column 5 rows site)
+      → dp ≡ dpAt rows site → mindp ≡ minDpAt rows site → m ≡ mapOf position ref alts → ad ≡ adOf → pl ≡ plOf
+      → valuesOf m gq dp mindp (present ad) (present pl) ≡ siteData ref (allelesIn alts) position (siteAt s rows site)
+  values-said position ref alts g d l m a p =
+      rw (g, d, l, m, a, p, numbers-present 13 4 s rows site, numbers-present 16 10 s rows site)
       (sym (by-row position ref alts))
 
   -- what `put_sample_data` asks
-  pub printable : (position : ℕ) (ref alts : List ℕ) {gq dp : Option ℕ} {m ad pl : List ℕ} {at : ℕ} → SitePrintable s rows site position ref alts at
-      → gq ≡ codeOption (column 5 rows site) → dp ≡ codeOption (column 6 rows site) → m ≡ mapOf position ref alts → ad ≡ adOf → pl ≡ plOf
-      → Printable m gq dp ad pl at
-  printable position ref alts pre g d m a p =
+  pub printable : (position : ℕ) (ref alts : List ℕ) {gq dp mindp : Option ℕ} {m ad pl : List ℕ} {at : ℕ} → SitePrintable s rows site position ref alts at
+      → gq ≡ codeOption (column 5 rows site) → dp ≡ dpAt rows site → mindp ≡ minDpAt rows site → m ≡ mapOf position ref alts → ad ≡ adOf → pl ≡ plOf
+      → Printable m gq dp mindp ad pl at
+  printable position ref alts pre g d l m a p =
       let n = length-map (fieldsOf comma alts) alleleAsRead in
       let k = ap length m ∙ map-length (remappedAlleles ref position (siteAt s rows site)) (allelesIn alts) in
       record {
         alleles = omega arith;
         atMost = omega (arith, pre .few);
-        fits = rw (values-said position ref alts g d m a p) (pre .fits);
+        fits = rw (values-said position ref alts g d l m a p) (pre .fits);
       }

@@ -18,6 +18,7 @@ ghost use Rattle.record_lines.specs.Records.{RecordFits, recordBytes};
 ghost use Rattle.record_lines.specs.Samples.{OwnPrintable, SamplePrintable, SamplesPrintable, SitePrintable, dataOwn, printedOwn, printedSamples, printedSite};
 use bio_ids::GenomeLoc;
 use bio_ids::GenomePosition;
+use genotype_values::Depths;
 use kv_write::OptionalNumber;
 
 // END of a record: its last position, if that is past its first.
@@ -108,12 +109,16 @@ pub fn put_site_data(
     let ad_count = tables::ad_of(s, rows, site, &mut ad);
     let mut pl = [0u32; 36];
     let pl_count = tables::pl_of(s, rows, site, &mut pl);
+    let depths = Depths {
+        dp: tables::dp_of(rows, site),
+        mindp: tables::min_dp_of(rows, site),
+    };
     genotype_values::put_sample_data(
         out,
         at,
         &map[..alleles],
         tables::gq_of(rows, site),
-        tables::dp_of(rows, site),
+        depths,
         &ad[..ad_count],
         &pl[..pl_count],
     )

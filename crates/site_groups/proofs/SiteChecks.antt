@@ -38,6 +38,7 @@ withAlleles t r = record {
   alleles = r;
   gq = t .gq;
   dp = t .dp;
+  mindp = t .mindp;
   ad = t .ad;
   pl = t .pl;
 }

@@ -109,15 +109,17 @@ pub record SomeStored (before after : List ℕ) : Type 0 where
   pub numbers : List ℕ
   pub stored : after ≡ sets before 0 numbers
 
--- the last four lines
+-- the last five lines
 pub record ValueLines (s : List ℕ) (first : ℕ) (v : SiteValues) : Type 0 where
   pub gq : lineAt (siteGroup s first) 6 "gq" (orMissing number) ≡ accepted (codeOption (v .gq))
   pub dp : lineAt (siteGroup s first) 7 "dp" (orMissing number) ≡ accepted (codeOption (v .dp))
-  pub ad : lineAt (siteGroup s first) 8 "ad" (orMissing numberList) ≡ accepted (numbersOf s (v .ad))
-  pub pl : lineAt (siteGroup s first) 9 "pl" (orMissing numberList) ≡ accepted (numbersOf s (v .pl))
+  pub mindp : lineAt (siteGroup s first) 8 "mindp" (orMissing number) ≡ accepted (codeOption (v .mindp))
+  pub ad : lineAt (siteGroup s first) 9 "ad" (orMissing numberList) ≡ accepted (numbersOf s (v .ad))
+  pub pl : lineAt (siteGroup s first) 10 "pl" (orMissing numberList) ≡ accepted (numbersOf s (v .pl))
+  pub dp-small : v .dp < 4294967296
   pub ad-count : Counted s (v .ad)
   pub pl-count : Counted s (v .pl)
-  pub behind : Behind s first 10 (v .next)
+  pub behind : Behind s first 11 (v .next)
   pub forward : first < v .next
   pub within : v .next ≤ length s
 
@@ -130,7 +132,7 @@ abbrev pub ValuesStored : List ℕ → List ℕ → List ℕ → List ℕ → Li
 ValuesStored s ad₀ ad pl₀ pl (values.Values v) = Stored s (v .ad) ad₀ ad × Stored s (v .pl) pl₀ pl
 ValuesStored s ad₀ ad pl₀ pl values.Wrong = SomeStored ad₀ ad × SomeStored pl₀ pl
 
--- what the ten lines say
+-- what the eleven lines say
 abbrev pub siteTextAt : List ℕ → SitePlace → SiteAlleles → SiteValues → SiteText
 siteTextAt s p a v = record {
   sample = p .sample .0;
@@ -141,6 +143,7 @@ siteTextAt s p a v = record {
   alt = bytesOf s (a .alts);
   gq = codeOption (v .gq);
   dp = codeOption (v .dp);
+  mindp = codeOption (v .mindp);
   ad = numbersOf s (v .ad);
   pl = numbersOf s (v .pl);
 }
@@ -155,7 +158,7 @@ unfoldable pub TextRead : List ℕ → ℕ → TextAt → Type 0
 TextRead s at (text.Text p a v) = TextLines s at p a v
 TextRead s at text.Wrong = siteTextOf (siteGroup s at) ≡ refused 1
 
--- the same after the ten lines
+-- the same after the eleven lines
 abbrev pub TextStored : List ℕ → List ℕ → List ℕ → List ℕ → List ℕ → TextAt → Type 0
 TextStored s ad₀ ad pl₀ pl (text.Text p a v) = Stored s (v .ad) ad₀ ad × Stored s (v .pl) pl₀ pl
 TextStored s ad₀ ad pl₀ pl text.Wrong = SomeStored ad₀ ad × SomeStored pl₀ pl
@@ -170,6 +173,7 @@ siteFrom s p a v = record {
   alleles = refAltsAsRead (bytesOf s (a .refs)) (fieldsOf comma (bytesOf s (a .alts)));
   gq = codeOption (v .gq);
   dp = codeOption (v .dp);
+  mindp = codeOption (v .mindp);
   ad = numbersOf s (v .ad);
   pl = numbersOf s (v .pl);
 }
@@ -186,13 +190,14 @@ SiteChecked s p a v samples before (check.Right block) =
 SiteChecked s p a v samples before (check.Refused row) =
     Counted s (v .ad) → Counted s (v .pl) → checkedSite samples before (siteTextAt s p a v) ≡ refused row
 
--- the ten lines at an offset as a site, with so many samples and after so many sites
+-- the eleven lines at an offset as a site, with so many samples and after so many sites
 unfoldable pub siteGroupOf : List ℕ → ℕ → ℕ → ℕ → Checked Site
 siteGroupOf s at samples before = siteTextOf (siteGroup s at) >>= checkedSite samples before
 
 pub record SiteTo (s : List ℕ) (at samples before : ℕ) (p : SitePlace) (a : SiteAlleles) (v : SiteValues) (block : Bool) : Type 0 where
   pub value : siteGroupOf s at samples before ≡ accepted (siteFrom s p a v)
   pub is-block : block ≡ isBlock (siteFrom s p a v .alleles)
+  pub dp-small : v .dp < 4294967296
   pub ad-count : Counted s (v .ad)
   pub pl-count : Counted s (v .pl)
   pub behind : Behind s at siteLines (v .next)

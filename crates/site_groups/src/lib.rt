@@ -131,10 +131,11 @@ pub struct NumbersPart {
     pub count: usize,
 }
 
-// The last four lines: GQ, DP, AD and PL. `next` is where the next group begins.
+// The last five lines: GQ, DP, MIN_DP, AD and PL. `next` is where the next group begins.
 pub struct SiteValues {
     pub gq: u32,
     pub dp: u32,
+    pub mindp: u32,
     pub ad: NumbersPart,
     pub pl: NumbersPart,
     pub next: usize,
@@ -156,32 +157,37 @@ fn site_values(s: &[u8], at: usize, ad: &mut [u32], pl: &mut [u32]) -> ValuesAt
     let NumberAt::Found(dp, e7) = depth else {
         return ValuesAt::Wrong;
     };
-    let depths = part_line(s, e7 + 1, b"ad=", ad);
-    let PartAt::Part(a8, e8, n8) = depths else {
+    let least = code_line(s, e7 + 1, b"mindp=");
+    let NumberAt::Found(mindp, e8) = least else {
         return ValuesAt::Wrong;
     };
-    let likelihoods = part_line(s, e8 + 1, b"pl=", pl);
-    let PartAt::Part(a9, e9, n9) = likelihoods else {
+    let depths = part_line(s, e8 + 1, b"ad=", ad);
+    let PartAt::Part(a9, e9, n9) = depths else {
+        return ValuesAt::Wrong;
+    };
+    let likelihoods = part_line(s, e9 + 1, b"pl=", pl);
+    let PartAt::Part(a10, e10, n10) = likelihoods else {
         return ValuesAt::Wrong;
     };
     ValuesAt::Values(SiteValues {
         gq,
         dp,
+        mindp,
         ad: NumbersPart {
-            at: a8,
-            end: e8,
-            count: n8,
-        },
-        pl: NumbersPart {
             at: a9,
             end: e9,
             count: n9,
         },
-        next: e9 + 1,
+        pl: NumbersPart {
+            at: a10,
+            end: e10,
+            count: n10,
+        },
+        next: e10 + 1,
     })
 }
 
-// The ten lines of a site group.
+// The eleven lines of a site group.
 enum TextAt {
     Text(SitePlace, SiteAlleles, SiteValues),
     Wrong,

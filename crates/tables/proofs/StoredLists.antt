@@ -27,6 +27,20 @@ Small numbers = (i : ℕ) → getD numbers i 0 < 4294967296
 
 -- ---- two numbers in one
 
+low-part : (a b : ℕ) → a < 4294967296 → (a + b * 4294967296) % 4294967296 ≡ a
+low-part a b small = add-mul-mod-self-right a b 4294967296 ∙ mod-eq-of-lt small
+
+high-part : (a b : ℕ) → a < 4294967296 → (a + b * 4294967296) / 4294967296 ≡ b
+high-part a b small = add-mul-div-right a b {z = 4294967296} (omega arith) ∙ rw (div-eq-of-lt small, zero-add)
+
+pub first-half : (a b : ℕ) → a < 4294967296 → halfAt 0 (a + b * 4294967296) ≡ a
+unfolding halfAt
+first-half a b small = low-part a b small
+
+pub second-half : (a b : ℕ) → a < 4294967296 → halfAt 1 (a + b * 4294967296) ≡ b
+unfolding halfAt
+second-half a b small = high-part a b small
+
 half-of-word : (numbers : List ℕ) (i : ℕ) → Small numbers → halfAt i (wordOf numbers (i / 2)) ≡ getD numbers i 0
 unfolding halfAt wordOf
 half-of-word numbers i small = go (eqb (i % 2) 0) refl
@@ -38,13 +52,11 @@ half-of-word numbers i small = go (eqb (i % 2) 0) refl
     go true e =
         let even : i % 2 ≡ 0 = eqb-true _ _ e in
         let place : 2 * (i / 2) ≡ i = omega arith in
-        add-mul-mod-self-right (getD numbers (2 * (i / 2)) 0) (getD numbers (2 * (i / 2) + 1) 0) 4294967296
-        ∙ mod-eq-of-lt (small (2 * (i / 2))) ∙ rw place
+        low-part (getD numbers (2 * (i / 2)) 0) (getD numbers (2 * (i / 2) + 1) 0) (small (2 * (i / 2))) ∙ rw place
     go false e =
         let odd : (i % 2 ≡ 0 → ⊥) = eqb-false _ _ e in
         let place : 2 * (i / 2) + 1 ≡ i = omega arith in
-        add-mul-div-right (getD numbers (2 * (i / 2)) 0) (getD numbers (2 * (i / 2) + 1) 0) {z = 4294967296} (omega arith)
-        ∙ rw (div-eq-of-lt (small (2 * (i / 2))), zero-add) (rw place)
+        high-part (getD numbers (2 * (i / 2)) 0) (getD numbers (2 * (i / 2) + 1) 0) (small (2 * (i / 2))) ∙ rw place
 
 -- ---- the columns
 

@@ -29,7 +29,7 @@ namesIn s names count = map (nameAt s names) (numbersFrom 0 count)
 -- ---- sites
 
 -- a row has so many numbers: 0 sample, 1 contig, by the number of the first site with that name, 2 start, 3 end, 4 whether the
--- site is a block, 5 GQ, 6 DP, where the text has (7, 8) the contig, (9, 10) REF, (11, 12) the ALTs, and from 13 on AD and from 16 on PL
+-- site is a block, 5 GQ, 6 DP and MIN_DP, where the text has (7, 8) the contig, (9, 10) REF, (11, 12) the ALTs, and from 13 on AD and from 16 on PL
 abbrev pub rowLength : ℕ
 rowLength = 22
 
@@ -40,7 +40,7 @@ column k rows site = getD rows (site * rowLength + k) 0
 unfoldable pub partAt : ℕ → ℕ → List ℕ → List ℕ → ℕ → List ℕ
 partAt from to s rows site = between s (column from rows site) (column to rows site)
 
--- GQ or DP as a number of the table: one past the greatest of a text is missing
+-- GQ, DP or MIN_DP as a number of the table: one past the greatest of a text is missing
 unfoldable pub codeOption : ℕ → Option ℕ
 codeOption c = onlyIf (leb c maxNumber) c
 
@@ -49,6 +49,16 @@ codeOption c = onlyIf (leb c maxNumber) c
 -- One number of a table holds two of a list, each below 2^32: the one at an even place of the list and the one behind it.
 unfoldable pub halfAt : ℕ → ℕ → ℕ
 halfAt i n = cond (eqb (i % 2) 0) (n % 4294967296) (n / 4294967296)
+
+-- DP and MIN_DP share a number of the row in the same way
+unfoldable pub depthAt : ℕ → List ℕ → ℕ → Option ℕ
+depthAt half rows site = codeOption (halfAt half (column 6 rows site))
+
+abbrev pub dpAt : List ℕ → ℕ → Option ℕ
+dpAt = depthAt 0
+
+abbrev pub minDpAt : List ℕ → ℕ → Option ℕ
+minDpAt = depthAt 1
 
 -- the numbers that stand in the row: the column has how many they are, and those behind it hold two each
 unfoldable pub storedNumber : ℕ → List ℕ → ℕ → ℕ → ℕ
@@ -101,7 +111,8 @@ siteAt s rows site = record {
   end = column 3 rows site;
   alleles = refAltsAsRead (partAt 9 10 s rows site) (fieldsOf comma (partAt 11 12 s rows site));
   gq = codeOption (column 5 rows site);
-  dp = codeOption (column 6 rows site);
+  dp = dpAt rows site;
+  mindp = minDpAt rows site;
   ad = adAt s rows site;
   pl = plAt s rows site;
 }

@@ -21,6 +21,15 @@ cast-t15 c = search needs
 cast-t16 : tie.Need-cast-t16
 cast-t16 c = search needs
 
+cast-t17 : tie.Need-cast-t17
+cast-t17 c = search needs
+
+mul-t18 : tie.Need-mul-t18
+mul-t18 c = search needs
+
+add-t19 : tie.Need-add-t19
+add-t19 c = search needs
+
 mul-store-row : tie.Need-mul-store-row
 mul-store-row c = search needs
 
@@ -36,7 +45,7 @@ same-length c = search needs
 returns : tie.Need-returns
 returns c =
     let at-store-row = c .before .before in
-    let at-flag = at-store-row .before .before .before .before .before in
+    let at-flag = at-store-row .before .before .before .before .before .before in
     let at-get3 = at-flag .before in
     let at-get2 = at-get3 .before in
     let at-get = at-get2 .before in
@@ -52,6 +61,9 @@ put-site-spec =
     flag-requires
     cast-t15
     cast-t16
+    cast-t17
+    mul-t18
+    add-t19
     mul-store-row
     slice-aggregate-store-row
     store-row-requires

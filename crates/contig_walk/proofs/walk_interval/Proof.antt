@@ -28,7 +28,8 @@ slice-reshare-prefix-own-sites : tie.Need-slice-reshare-prefix-own-sites
 unfolding RecordFound
 slice-reshare-prefix-own-sites c =
     let at-merge = c .before .before .before .before .before .before .before .before .before in
-    let start = at-merge .before .before .before .before .before .before .before .before .before .before .before .before .before .before .before .before .before in
+    let start = at-merge .before .before .before .before .before .before .before .before .before .before .before .before .before .before .before .before .before
+    in
     let answer = at-merge .merge-reference-confidence .ensures in
     let f = rw (c .before .here2 .given .1) at (answer .0 (start .pre .0 .runs)) in
     front-within _ (f .all)
@@ -36,28 +37,34 @@ slice-reshare-prefix-own-sites c =
 slice-aggregate-own-sites : tie.Need-slice-aggregate-own-sites
 unfolding RecordFound
 slice-aggregate-own-sites c =
+    let here2 = c .before .before .here2 in
     let at-merge = c .before .before .before .before .before .before .before .before .before .before in
-    let start = at-merge .before .before .before .before .before .before .before .before .before .before .before .before .before .before .before .before .before in
+    let start = at-merge .before .before .before .before .before .before .before .before .before .before .before .before .before .before .before .before .before
+    in
     let answer = at-merge .merge-reference-confidence .ensures in
-    let f = rw (c .before .before .here2 .given .1) at (answer .0 (start .pre .0 .runs)) in
+    let f = rw (here2 .given .1) at (answer .0 (start .pre .0 .runs)) in
     f .all
 
 slice-reshare-prefix-own-sites-2 : tie.Need-slice-reshare-prefix-own-sites-2
 unfolding RecordFound
 slice-reshare-prefix-own-sites-2 c =
+    let here2 = c .before .before .here2 in
     let at-merge = c .before .before .before .before .before .before .before .before .before .before in
-    let start = at-merge .before .before .before .before .before .before .before .before .before .before .before .before .before .before .before .before .before in
+    let start = at-merge .before .before .before .before .before .before .before .before .before .before .before .before .before .before .before .before .before
+    in
     let answer = at-merge .merge-reference-confidence .ensures in
-    let f = rw (c .before .before .here2 .given .1) at (answer .0 (start .pre .0 .runs)) in
+    let f = rw (here2 .given .1) at (answer .0 (start .pre .0 .runs)) in
     owners-front (start .pre .0) _ _ _ _ _ _ f _ (answer .1 .0 (start .pre .0 .runs)) (answer .1 .1 (start .pre .0 .runs))
 
 slice-aggregate-own-sites-2 : tie.Need-slice-aggregate-own-sites-2
 unfolding RecordFound
 slice-aggregate-own-sites-2 c =
+    let here2 = c .before .before .before .here2 in
     let at-merge = c .before .before .before .before .before .before .before .before .before .before .before in
-    let start = at-merge .before .before .before .before .before .before .before .before .before .before .before .before .before .before .before .before .before in
+    let start = at-merge .before .before .before .before .before .before .before .before .before .before .before .before .before .before .before .before .before
+    in
     let answer = at-merge .merge-reference-confidence .ensures in
-    let f = rw (c .before .before .before .here2 .given .1) at (answer .0 (start .pre .0 .runs)) in
+    let f = rw (here2 .given .1) at (answer .0 (start .pre .0 .runs)) in
     owners-exact (start .pre .0) _ _ _ _ _ _ f _ (answer .1 .0 (start .pre .0 .runs)) (answer .1 .1 (start .pre .0 .runs))
 
 slice-aggregate-own-sites-3 : tie.Need-slice-aggregate-own-sites-3
@@ -66,10 +73,12 @@ slice-aggregate-own-sites-3 c = search needs
 own-sites-requires : tie.Need-own-sites-requires
 unfolding RecordFound
 own-sites-requires c κs =
+    let here2 = c .before .before .before .before .here2 in
     let at-merge = c .before .before .before .before .before .before .before .before .before .before .before .before in
-    let start = at-merge .before .before .before .before .before .before .before .before .before .before .before .before .before .before .before .before .before in
+    let start = at-merge .before .before .before .before .before .before .before .before .before .before .before .before .before .before .before .before .before
+    in
     let answer = at-merge .merge-reference-confidence .ensures in
-    let f = rw (c .before .before .before .before .here2 .given .1) at (answer .0 (start .pre .0 .runs)) in
+    let f = rw (here2 .given .1) at (answer .0 (start .pre .0 .runs)) in
     own-asked (start .pre .0) _ _ _ _ _ _ f _ (answer .1 .0 (start .pre .0 .runs)) (answer .1 .1 (start .pre .0 .runs))
 
 part-requires : tie.Need-part-requires
@@ -87,12 +96,19 @@ slice-aggregate-lay-record c = search needs
 lay-record-requires : tie.Need-lay-record-requires
 unfolding RecordFound refBytes unknownBase
 lay-record-requires c κs =
-    let at-merge = c .before .before .before .before .before .before .before .before .before .before .before .before .before .before .before .before .before .before .before .before .before .before in
-    let start = at-merge .before .before .before .before .before .before .before .before .before .before .before .before .before .before .before .before .before in
+    let at-ref-bytes = c .before .before .before .before in
+    let at-part = at-ref-bytes .before .before in
+    let at-own-sites = at-part .before .before .before in
+    let at-here2 = at-own-sites .before .before .before .before .before in
+    let at-merge =
+    c .before .before .before .before .before .before .before .before .before .before .before .before .before .before .before .before .before .before .before .before .before .before in
+    let start = at-merge .before .before .before .before .before .before .before .before .before .before .before .before .before .before .before .before .before
+    in
     let answer = at-merge .merge-reference-confidence .ensures in
-    let f = rw (c .before .before .before .before .before .before .before .before .before .before .before .before .before .before .here2 .given .1) at (answer .0 (start .pre .0 .runs)) in
-    let own = own-known (start .pre .0) _ _ _ _ _ _ f _ (answer .1 .0 (start .pre .0 .runs)) (answer .1 .1 (start .pre .0 .runs)) (c .before .before .before .before .before .before .before .before .before .own-sites .ensures) in
-    (lay-ready (start .pre .0) _ _ _ _ _ _ f _ (c .before .before .before .before .before .before .part .ensures) _ own _ (ap (map capital) (c .before .before .before .before .ref-bytes .ensures)), start .pre .1)
+    let f = rw (at-here2 .here2 .given .1) at (answer .0 (start .pre .0 .runs)) in
+    let own = own-known (start .pre .0) _ _ _ _ _ _ f _ (answer .1 .0 (start .pre .0 .runs)) (answer .1 .1 (start .pre .0 .runs))
+    (at-own-sites .own-sites .ensures) in
+    (lay-ready (start .pre .0) _ _ _ _ _ _ f _ (at-part .part .ensures) _ own _ (ap (map capital) (at-ref-bytes .ref-bytes .ensures)), start .pre .1)
 
 same-length : tie.Need-same-length
 same-length c = c .before .before .before .before .before .before .before .before .merge-reference-confidence .kept .1 .1 .1 .1 .1 .1 .1 .1 .1 .1 .0
@@ -114,10 +130,14 @@ same-length-4 : tie.Need-same-length-4
 same-length-4 c = c .before .before .before .before .before .before .before .before .before .merge-reference-confidence .kept .1 .1 .1 .1 .1 .1 .1 .1 .1 .1 .0
 
 same-length-5 : tie.Need-same-length-5
-same-length-5 c = c .before .before .before .before .before .before .before .before .before .merge-reference-confidence .kept .1 .1 .1 .1 .1 .1 .1 .1 .1 .1 .1 .0
+same-length-5 c =
+    let merge-reference-confidence = c .before .before .before .before .before .before .before .before .before .merge-reference-confidence in
+    merge-reference-confidence .kept .1 .1 .1 .1 .1 .1 .1 .1 .1 .1 .1 .0
 
 same-length-6 : tie.Need-same-length-6
-same-length-6 c = c .before .before .before .before .before .before .before .before .before .merge-reference-confidence .kept .1 .1 .1 .1 .1 .1 .1 .1 .1 .1 .1 .1 .0
+same-length-6 c =
+    let merge-reference-confidence = c .before .before .before .before .before .before .before .before .before .merge-reference-confidence in
+    merge-reference-confidence .kept .1 .1 .1 .1 .1 .1 .1 .1 .1 .1 .1 .1 .0
 
 returns-2 : tie.Need-returns-2
 unfolding RecordFound
@@ -134,30 +154,40 @@ same-length-8 : tie.Need-same-length-8
 same-length-8 c = c .before .before .before .before .before .before .lay-record .kept .1 .1 .1 .1 .1 .1 .1 .1 .1 .1 .1 .0
 
 same-length-9 : tie.Need-same-length-9
-same-length-9 c = c .before .before .before .before .before .before .before .before .before .before .before .before .before .before .before .before .before .before .before .before .before .before .before .before .before .before .before .before .before .merge-reference-confidence .kept .1 .1 .1 .1 .1 .1 .1 .1 .1 .1 .0
+same-length-9 c =
+    let merge-reference-confidence = c .before .before .before .before .before .before .before .before .before .before .before .before .before .before .before .before .before .before .before .before .before .before .before .before .before .before .before .before .before .merge-reference-confidence in
+    merge-reference-confidence .kept .1 .1 .1 .1 .1 .1 .1 .1 .1 .1 .0
 
 same-length-10 : tie.Need-same-length-10
-same-length-10 c = c .before .before .before .before .before .before .before .before .before .before .before .before .before .before .before .before .before .before .before .before .before .before .before .before .before .before .before .before .before .merge-reference-confidence .kept .1 .1 .1 .1 .1 .1 .1 .1 .1 .1 .1 .0
+same-length-10 c =
+    let merge-reference-confidence = c .before .before .before .before .before .before .before .before .before .before .before .before .before .before .before .before .before .before .before .before .before .before .before .before .before .before .before .before .before .merge-reference-confidence in
+    merge-reference-confidence .kept .1 .1 .1 .1 .1 .1 .1 .1 .1 .1 .1 .0
 
 same-length-11 : tie.Need-same-length-11
-same-length-11 c = c .before .before .before .before .before .before .before .before .before .before .before .before .before .before .before .before .before .before .before .before .before .before .before .before .before .before .before .before .before .merge-reference-confidence .kept .1 .1 .1 .1 .1 .1 .1 .1 .1 .1 .1 .1 .0
+same-length-11 c =
+    let merge-reference-confidence = c .before .before .before .before .before .before .before .before .before .before .before .before .before .before .before .before .before .before .before .before .before .before .before .before .before .before .before .before .before .merge-reference-confidence in
+    merge-reference-confidence .kept .1 .1 .1 .1 .1 .1 .1 .1 .1 .1 .1 .1 .0
 
 same-length-12 : tie.Need-same-length-12
 same-length-12 c = c .before .before .before .before .before .before .lay-record .kept .1 .1 .1 .1 .1 .1 .1 .1 .1 .1 .1 .1 .0
 
 returns-3 : tie.Need-returns-3
 unfolding RecordFound refBytes unknownBase
-returns-3 c = λ ready way.
-    let at-merge = c .before .before .before .before .before .before .before .before .before .before .before .before .before .before .before .before .before .before .before .before .before .before .before .before .before .before .before .before .before in
+returns-3 c =
+    let at-lay-record = c .before .before .before .before .before .before in
+    let at-here2 = at-lay-record .before .before .before .before .before .before .before .before .before .before .before .before .before .before .before in
+    λ ready way.
+    let at-merge =
+    c .before .before .before .before .before .before .before .before .before .before .before .before .before .before .before .before .before .before .before .before .before .before .before .before .before .before .before .before .before in
     let answer = at-merge .merge-reference-confidence .ensures in
-    let f = rw (c .before .before .before .before .before .before .before .before .before .before .before .before .before .before .before .before .before .before .before .before .before .here2 .given .1) at (answer .0 (ready .runs)) in
+    let f = rw (at-here2 .here2 .given .1) at (answer .0 (ready .runs)) in
     let at-allele = c .before .before .before .before .before .before .before .before .before .before .before in
     let at-part = at-allele .before .before in
     let allele-is = ap (map capital) (at-allele .ref-bytes .ensures) in
     let own = own-known ready _ _ _ _ _ _ f _ (answer .1 .0 (ready .runs)) (answer .1 .1 (ready .runs)) (at-part .before .before .before .own-sites .ensures) in
     turn-laid ready (way .waiting) (way .begun .d₀) (way .begun .bytes) (way .begun .records) (way .holds)
     _ _ _ _ _ _ f _ (at-part .part .ensures) _ own _ allele-is _ _ _
-    (c .before .before .before .before .before .before .lay-record .ensures (lay-ready ready _ _ _ _ _ _ f _ (at-part .part .ensures) _ own _ allele-is) way)
+    (at-lay-record .lay-record .ensures (lay-ready ready _ _ _ _ _ _ f _ (at-part .part .ensures) _ own _ allele-is) way)
 
 pub walk-interval-spec : {M : Type 1} → statement M
 walk-interval-spec =

@@ -44,7 +44,7 @@ put-values-requires c κs =
     let pre = c .before .before .before .before .before .before .before .before .before .before .before .before .before .pre in
     let ads = filled-front (c .before .before .before .before .remap-present-ad .ensures) (few-ad (args .map .now) (args .ad .now) (pre .atMost)) in
     let pls = filled-front (c .before .before .before .before .before .before .before .remap-present-pl .ensures) (few-pl (args .map .now) (args .pl .now) (pre .atMost)) in
-    rw (fronts-printed (args .map .now) (pre .alleles) (optionOf (args .gq)) (optionOf (args .dp)) (args .ad .now) (args .pl .now) (pre .atMost) ads pls)
+    rw (fronts-printed (args .map .now) (pre .alleles) (optionOf (args .gq)) (optionOf (args .depths .dp)) (optionOf (args .depths .mindp)) (args .ad .now) (args .pl .now) (pre .atMost) ads pls)
     (pre .fits)
 
 same-length : tie.Need-same-length
@@ -56,7 +56,7 @@ returns c =
     let pre = c .before .before .before .before .before .before .before .before .before .before .before .before .before .before .before .before .pre in
     let ads = filled-front (c .before .before .before .before .before .before .before .remap-present-ad .ensures) (few-ad (args .map .now) (args .ad .now) (pre .atMost)) in
     let pls = filled-front (c .before .before .before .before .before .before .before .before .before .before .remap-present-pl .ensures) (few-pl (args .map .now) (args .pl .now) (pre .atMost)) in
-    rw (fronts-printed (args .map .now) (pre .alleles) (optionOf (args .gq)) (optionOf (args .dp)) (args .ad .now) (args .pl .now) (pre .atMost) ads pls) at
+    rw (fronts-printed (args .map .now) (pre .alleles) (optionOf (args .gq)) (optionOf (args .depths .dp)) (optionOf (args .depths .mindp)) (args .ad .now) (args .pl .now) (pre .atMost) ads pls) at
     (c .before .before .put-values .ensures)
 
 pub put-sample-data-spec : {M : Type 1} → statement M

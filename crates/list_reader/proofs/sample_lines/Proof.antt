@@ -7,7 +7,7 @@ use Rattle.definitions.specs.Lines.{keyOf}
 use Rattle.definitions.specs.ListReader.{gtOf}
 use Rattle.definitions.specs.Numbers.{number, numberList, orMissing}
 use Rattle.kv_text.proofs.Lines.{line-within}
-use Rattle.list_reader.proofs.RecordLines.{ad-wrong, dp-wrong, gq-wrong, gt-wrong, pl-wrong, sample-read}
+use Rattle.list_reader.proofs.RecordLines.{ad-wrong, dp-wrong, gq-wrong, gt-wrong, mindp-wrong, pl-wrong, sample-read}
 use Rattle.list_reader.specs.RecordGroups.{GtRead}
 use Rattle.list_reader.proofs.sample_lines.Statement.{statement}
 use Rattle.list_reader.proofs.sample_lines.Tie as tie
@@ -78,8 +78,37 @@ returns-3 c =
     dp-wrong _ _ _ _ _ (g .line) _ _ (rw (at-quality .quality .given .1) at (at-code-line .code-line .ensures))
     (rw (c .enum-told3 .given .1) at (at-code-line2 .code-line2 .ensures))
 
+add-code-line-3 : tie.Need-add-code-line-3
+add-code-line-3 c = let h = line-within _ _ _ (orMissing number) _ _ (rw (c .before .depth .given .1) at (c .before .before .before .code-line2 .ensures)) in omega arith
+
+slice-aggregate-code-line-3 : tie.Need-slice-aggregate-code-line-3
+slice-aggregate-code-line-3 c = search needs
+
+code-line-requires-3 : tie.Need-code-line-requires-3
+code-line-requires-3 c κs = search needs
+
+enum-known-least : tie.Need-enum-known-least
+enum-known-least c = search needs
+
+enum-told-4 : tie.Need-enum-told-4
+enum-told-4 c = search needs
+
+returns-4 : tie.Need-returns-4
+unfolding GtRead keyOf text
+returns-4 c =
+    let at-code-line3 = c .before .before in
+    let at-depth = at-code-line3 .before .before .before in
+    let at-code-line2 = at-depth .before .before in
+    let at-quality = at-code-line2 .before .before .before in
+    let at-code-line = at-quality .before .before in
+    let at-genotype = at-code-line .before .before .before in
+    let at-gt-line = at-genotype .before .before in
+    let g = rw (at-genotype .genotype .given .1) at (at-gt-line .gt-line .ensures) in
+    mindp-wrong _ _ _ _ _ (g .line) _ _ (rw (at-quality .quality .given .1) at (at-code-line .code-line .ensures)) _ _
+    (rw (at-depth .depth .given .1) at (at-code-line2 .code-line2 .ensures)) (rw (c .enum-told4 .given .1) at (at-code-line3 .code-line3 .ensures))
+
 add-part-line : tie.Need-add-part-line
-add-part-line c = let h = line-within _ _ _ (orMissing number) _ _ (rw (c .before .depth .given .1) at (c .before .before .before .code-line2 .ensures)) in omega arith
+add-part-line c = let h = line-within _ _ _ (orMissing number) _ _ (rw (c .before .least .given .1) at (c .before .before .before .code-line3 .ensures)) in omega arith
 
 slice-aggregate-part-line : tie.Need-slice-aggregate-part-line
 slice-aggregate-part-line c = search needs
@@ -90,14 +119,16 @@ part-line-requires c κs = search needs
 enum-known-depths : tie.Need-enum-known-depths
 enum-known-depths c = search needs
 
-enum-told-4 : tie.Need-enum-told-4
-enum-told-4 c = search needs
+enum-told-5 : tie.Need-enum-told-5
+enum-told-5 c = search needs
 
-returns-4 : tie.Need-returns-4
+returns-5 : tie.Need-returns-5
 unfolding GtRead keyOf text
-returns-4 c =
+returns-5 c =
     let at-part-line = c .before .before in
-    let at-depth = at-part-line .before .before .before in
+    let at-least = at-part-line .before .before .before in
+    let at-code-line3 = at-least .before .before in
+    let at-depth = at-code-line3 .before .before .before in
     let at-code-line2 = at-depth .before .before in
     let at-quality = at-code-line2 .before .before .before in
     let at-code-line = at-quality .before .before in
@@ -105,10 +136,15 @@ returns-4 c =
     let at-gt-line = at-genotype .before .before in
     let g = rw (at-genotype .genotype .given .1) at (at-gt-line .gt-line .ensures) in
     ad-wrong _ _ _ _ _ (g .line) _ _ (rw (at-quality .quality .given .1) at (at-code-line .code-line .ensures)) _ _
-    (rw (at-depth .depth .given .1) at (at-code-line2 .code-line2 .ensures)) ((rw (c .enum-told4 .given .1) at (at-part-line .part-line .ensures)) .0)
+    (rw (at-depth .depth .given .1) at (at-code-line2 .code-line2 .ensures)) _ _
+    (rw (at-least .least .given .1) at (at-code-line3 .code-line3 .ensures)) ((rw (c .enum-told5 .given .1) at (at-part-line .part-line .ensures)) .0)
 
 add-part-line-2 : tie.Need-add-part-line-2
-add-part-line-2 c = let h = line-within _ _ _ (orMissing numberList) _ _ ((rw (c .before .depths .given .1) at (c .before .before .before .part-line .ensures)) .0) in omega arith
+add-part-line-2 c =
+    let at-part-line = c .before .before .before in
+    let at-good = at-part-line .before .before .before .before .before .before .before .before .before .before .before .before .before .before .before .before .before .before .before .before .before .before in
+    let h = line-within _ _ _ (orMissing numberList) _ _ ((rw (c .before .depths .given .1) at (at-part-line .part-line .ensures)) .0) in omega
+    (arith, h, (at-good .good))
 
 slice-aggregate-part-line-2 : tie.Need-slice-aggregate-part-line-2
 slice-aggregate-part-line-2 c = search needs
@@ -119,16 +155,18 @@ part-line-requires-2 c κs = search needs
 enum-known-likelihoods : tie.Need-enum-known-likelihoods
 enum-known-likelihoods c = search needs
 
-enum-told-5 : tie.Need-enum-told-5
-enum-told-5 c = search needs
+enum-told-6 : tie.Need-enum-told-6
+enum-told-6 c = search needs
 
-returns-5 : tie.Need-returns-5
+returns-6 : tie.Need-returns-6
 unfolding GtRead keyOf text
-returns-5 c =
+returns-6 c =
     let at-part-line2 = c .before .before in
     let at-depths = at-part-line2 .before .before .before in
     let at-part-line = at-depths .before .before in
-    let at-depth = at-part-line .before .before .before in
+    let at-least = at-part-line .before .before .before in
+    let at-code-line3 = at-least .before .before in
+    let at-depth = at-code-line3 .before .before .before in
     let at-code-line2 = at-depth .before .before in
     let at-quality = at-code-line2 .before .before .before in
     let at-code-line = at-quality .before .before in
@@ -137,23 +175,26 @@ returns-5 c =
     let g = rw (at-genotype .genotype .given .1) at (at-gt-line .gt-line .ensures) in
     let depths = rw (at-depths .depths .given .1) at (at-part-line .part-line .ensures) in
     pl-wrong _ _ _ _ _ (g .line) _ _ (rw (at-quality .quality .given .1) at (at-code-line .code-line .ensures)) _ _
-    (rw (at-depth .depth .given .1) at (at-code-line2 .code-line2 .ensures)) _ _ _ (depths .0) (depths .1)
-    ((rw (c .enum-told5 .given .1) at (at-part-line2 .part-line2 .ensures)) .0)
+    (rw (at-depth .depth .given .1) at (at-code-line2 .code-line2 .ensures)) _ _
+    (rw (at-least .least .given .1) at (at-code-line3 .code-line3 .ensures)) _ _ _ (depths .0) (depths .1)
+    ((rw (c .enum-told6 .given .1) at (at-part-line2 .part-line2 .ensures)) .0)
 
 add-next : tie.Need-add-next
 add-next c =
     let at-part-line2 = c .before .before .before in
-    let at-good = at-part-line2 .before .before .before .before .before .before .before .before .before .before .before .before .before .before .before .before .before .before .before .before .before .before in
+    let at-good = at-part-line2 .before .before .before .before .before .before .before .before .before .before .before .before .before .before .before .before .before .before .before .before .before .before .before .before .before .before .before in
     let h = line-within _ _ _ (orMissing numberList) _ _ ((rw (c .before .likelihoods .given .1) at (at-part-line2 .part-line2 .ensures)) .0) in omega
     (arith, h, (at-good .good))
 
-returns-6 : tie.Need-returns-6
+returns-7 : tie.Need-returns-7
 unfolding GtRead keyOf text
-returns-6 c =
+returns-7 c =
     let at-part-line2 = c .before .before .before in
     let at-depths = at-part-line2 .before .before .before in
     let at-part-line = at-depths .before .before in
-    let at-depth = at-part-line .before .before .before in
+    let at-least = at-part-line .before .before .before in
+    let at-code-line3 = at-least .before .before in
+    let at-depth = at-code-line3 .before .before .before in
     let at-code-line2 = at-depth .before .before in
     let at-quality = at-code-line2 .before .before .before in
     let at-code-line = at-quality .before .before in
@@ -163,7 +204,9 @@ returns-6 c =
     let depths = rw (at-depths .depths .given .1) at (at-part-line .part-line .ensures) in
     let likelihoods = rw (c .before .likelihoods .given .1) at (at-part-line2 .part-line2 .ensures) in
     sample-read _ _ _ _ _ (g .line) _ _ (rw (at-quality .quality .given .1) at (at-code-line .code-line .ensures)) _ _
-    (rw (at-depth .depth .given .1) at (at-code-line2 .code-line2 .ensures)) _ _ _ (depths .0) (depths .1) _ _ _ (likelihoods .0) (likelihoods .1)
+    (rw (at-depth .depth .given .1) at (at-code-line2 .code-line2 .ensures)) _ _
+    (rw (at-least .least .given .1) at (at-code-line3 .code-line3 .ensures)) _ _ _ (depths .0) (depths .1) _ _ _ (likelihoods .0) (likelihoods .1)
+    (omega (arith, at-code-line3 .before .before .known-told3 .given))
 
 pub sample-lines-spec : {M : Type 1} → statement M
 sample-lines-spec =
@@ -185,17 +228,23 @@ sample-lines-spec =
     enum-known-depth
     enum-told-3
     returns-3
+    add-code-line-3
+    slice-aggregate-code-line-3
+    code-line-requires-3
+    enum-known-least
+    enum-told-4
+    returns-4
     add-part-line
     slice-aggregate-part-line
     part-line-requires
     enum-known-depths
-    enum-told-4
-    returns-4
+    enum-told-5
+    returns-5
     add-part-line-2
     slice-aggregate-part-line-2
     part-line-requires-2
     enum-known-likelihoods
-    enum-told-5
-    returns-5
+    enum-told-6
+    returns-6
     add-next
-    returns-6)
+    returns-7)

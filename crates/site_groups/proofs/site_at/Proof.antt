@@ -52,7 +52,7 @@ returns-2 : tie.Need-returns-2
 unfolding SiteRead TextRead SiteChecked siteGroupOf siteLines
 returns-2 c = let t = rw (c .before .before .before .before .before .text .given .1) at (c .before .before .before .before .before .before .before .before .before .before .before .site-text .ensures) in
     let r = (rw (c .before .check .given .1) at (c .before .before .before .check-site .ensures)) (t .0 .values .ad-count) (t .0 .values .pl-count) in
-    (record { value = then _ _ (t .0 .text) (r .value); is-block = r .is-block; ad-count = t .0 .values .ad-count; pl-count = t .0 .values .pl-count; behind = t .0 .values .behind; forward = t .0 .values .forward; within = t .0 .values .within }, t .1)
+    (record { value = then _ _ (t .0 .text) (r .value); is-block = r .is-block; dp-small = t .0 .values .dp-small; ad-count = t .0 .values .ad-count; pl-count = t .0 .values .pl-count; behind = t .0 .values .behind; forward = t .0 .values .forward; within = t .0 .values .within }, t .1)
 
 same-length-5 : tie.Need-same-length-5
 same-length-5 c = search needs
