@@ -1,5 +1,5 @@
 -- Demand 3 at work, by computation: cohorts in which REF grows, a block is cut, samples are put in on all sides, values are
--- missing.
+-- missing. Last, two orders of one cohort.
 use Prim.Native.Nat.{ℕ}
 use Prim.Native.String.{String}
 use lib.ListN.{length}
@@ -9,7 +9,7 @@ use mathlib.Core.Path.{refl}
 use Rattle.definitions.specs.Bytes.{text}
 use Rattle.definitions.specs.Lines.{line}
 use Rattle.definitions.specs.Numbers.{decimal}
-use Rattle.demands.proofs.TwoCalls.{TwoCalls, Worked, computed, worked}
+use Rattle.demands.proofs.TwoCalls.{TwoCalls, Worked, WorkedOrders, computed, worked, worked-orders}
 use Rattle.demands.proofs.WorkedCall.{CalledAs, called-as}
 
 -- ---- texts, written shortly
@@ -109,3 +109,23 @@ missing-values : Worked missingValues "10-10:A,G,<NON_REF> 11-16:N,<NON_REF>"
     "10-10:AT,A,GT,<NON_REF> 11-11:T,*,<NON_REF> 12-16:N,<NON_REF>"
 unfolding computed
 missing-values = worked missingValues tt tt (record { names = refl; sites = refl }) refl refl
+
+-- ---- two orders of one cohort: ALTs come in another order
+
+abbrev bases : List ℕ
+bases = text "contig=c\nfirst=10\nbases=ATCGTAC\n"
+
+abbrev otherOrder : TwoCalls
+otherOrder = record {
+  old = cohort ("S0" ∷ "S1" ∷ "S2" ∷ []) (deletion "0" ∷ snp "1" ∷ block "2" ∷ []);
+  new = cohort ("S2" ∷ "S1" ∷ "S0" ∷ []) (snp "1" ∷ block "0" ∷ deletion "2" ∷ []);
+  clip = none;
+  oldReference = some bases;
+  newReference = some bases;
+}
+
+other-order : WorkedOrders otherOrder "10-10:AT,GT,A,<NON_REF> 11-11:T,*,<NON_REF> 12-16:C,<NON_REF>"
+    "10-10:AT,A,GT,<NON_REF> 11-11:T,*,<NON_REF> 12-16:C,<NON_REF>"
+unfolding computed
+other-order =
+    worked-orders otherOrder bases refl refl tt tt (record { names-there = refl; names-back = refl; sites = refl }) refl refl
