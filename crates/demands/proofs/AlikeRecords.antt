@@ -28,6 +28,7 @@ use Rattle.laws.proofs.Tests.{bool-ext, clash, not-none, some-same}
 use Rattle.demands.specs.Inserted.{unnumbered}
 use Rattle.demands.specs.Preserved.{SameCalls}
 use Rattle.demands.specs.Reordered.{Reordered}
+use Rattle.demands.specs.SameRecords.{SameGts, isAlt}
 use Rattle.demands.proofs.CarriedAlleles.{there-here}
 use Rattle.demands.proofs.CoalescedAlike.{Alike}
 use Rattle.demands.proofs.CoveringSites.{data-none, data-some, first-covering}
@@ -38,7 +39,8 @@ use Rattle.demands.proofs.IntervalsBetween.{inside, is-inside}
 use Rattle.demands.proofs.ListAtPosition.{HasRecord, Parts, recordAt}
 use Rattle.demands.proofs.RecordsPreserved.{data-at, same-records}
 use Rattle.demands.proofs.RefinedIntervals.{covering-there, same-at}
-use Rattle.demands.proofs.SameOrder.{reordered-back, reordered-forth}
+use Rattle.demands.proofs.GtOfLeastPl.{gt-of-least-pl, same-gt}
+use Rattle.demands.proofs.Included.{reordered-back, reordered-forth}
 use Rattle.demands.proofs.Placed.{Placed}
 
 -- each covering site has its counterpart, apart from its number
@@ -261,6 +263,25 @@ module _ (x1 x2 : Input) (segments : List ReferenceSegment) (reference1 : x1 .re
       (same-records x2 x1 (sym same-clip) sound2 sound1 (reordered-back re) g (i .first) i i r2 r1 in-it in-it
       parts2 parts1)
 
+  same-alts : (a : Allele) → isAlt made1 a ≡ isAlt made2 a
+  unfolding made1 made2 made allelesAt isAlt
+  same-alts a = bool-ext _ _
+      (λ h. let (b, m, same) = any-member _ _ h in member-any _ _ (alt-there b m) same)
+      (λ h. let (b, m, same) = any-member _ _ h in member-any _ _ (alt-back b m) same)
+
+  same-gts : SameGts names1 made1 names2 made2
+  unfolding SameGts made1 made2
+  same-gts n k j e f v w at bt =
+      let (j′, f′, v′, w′, at′, bt′, call) = calls-forth .samples n k e in
+      let is-v = some-same (sym at ∙ at′) in
+      let is-w = some-same (sym bt ∙ ap (getElem? (made2 .sampleData)) (some-same (sym f ∙ f′)) ∙ bt′) in
+      let of-v = some-same (sym at ∙ data-at (length names1) g i covering1 ref k (below-at names1 k (index-found _ _ e .1))) in
+      let of-w = some-same (sym bt ∙ data-at (length names2) g i covering2 ref j (below-at names2 j (index-found _ _ f .1))) in
+      same-gt (made1 .alleles) (made2 .alleles) (v .gt) (w .gt) (v .pl) (w .pl)
+      (rw of-v (gt-of-least-pl ref (mergedAlts ref (i .first) covering1) (i .first) covering1 k))
+      (rw of-w (gt-of-least-pl ref (mergedAlts ref (i .first) covering2) (i .first) covering2 j))
+      (rw (is-v, is-w) (call .pl))
+
   ends : made1 .end ≡ made2 .end
   unfolding made1 made2 made endOf
   ends = ap (λ (b : Bool). onlyIf (b && ltb (i .first) (i .last)) (i .last)) blocks
@@ -294,7 +315,16 @@ module _ (x1 x2 : Input) (segments : List ReferenceSegment) (reference1 : x1 .re
   alike-made : Alike names1 names2 made1 made2
   unfolding made1 made2 made allelesAt
   alike-made = record {
-    same = record { contig = refl; pos = refl; end = ends; ref = refl; forth = calls-forth; back = calls-back };
+    same = record {
+      contig = refl;
+      pos = refl;
+      end = ends;
+      ref = refl;
+      alts = same-alts;
+      forth = calls-forth;
+      back = calls-back;
+      gts = same-gts;
+    };
     block = blocks;
     count1 = counted1;
     count2 = counted2;

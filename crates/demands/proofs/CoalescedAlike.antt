@@ -4,17 +4,18 @@ use lib.Dec.{eqb}
 use lib.ListN.{getElem?, length}
 use mathlib.Core.Bool.{Bool, cond, false, true}
 use mathlib.Core.List.{List, [], _∷_}
-use mathlib.Core.Option.{Option, Option·getD, some}
+use mathlib.Core.Option.{Option, Option·getD, none, some}
 use mathlib.Core.Path.{_∙_, _≡_, ap, ap₂, subst, sym}
 use Rattle.definitions.specs.Alleles.{isBlock}
 use Rattle.definitions.specs.Bytes.{sameBytes}
+use Rattle.definitions.specs.Genotypes.{AllelePair}
 use Rattle.definitions.specs.Lists.{allDistinct, indexWhere}
 use Rattle.definitions.specs.Records.{Record, coalesceBlocks, coalesceFrom, coalesced, coalesces, recordEnd, sameSampleData}
 use Rattle.laws.proofs.Bytes.{index-of, is-same, same-is}
 use Rattle.laws.proofs.Every.{Alongside, along, at-same-each, ended, same-each-at}
 use Rattle.laws.proofs.Members.{at-below, below-at}
 use Rattle.laws.proofs.Tests.{bool-ext, both, both-of}
-use Rattle.demands.specs.Reordered.{SameRecord}
+use Rattle.demands.specs.SameRecords.{SameGt, SameGts, SameRecord, isAlt}
 
 -- the names of one list are names of another
 abbrev NamesThere : List (List ℕ) → List (List ℕ) → Type 0
@@ -30,7 +31,15 @@ pub record Alike (names1 names2 : List (List ℕ)) (r1 r2 : Record) : Type 0 whe
   pub values : isBlock (r1 .alleles) ≡ true → (n : List ℕ) (i j : ℕ) → indexWhere (sameBytes n) names1 ≡ some i
       → indexWhere (sameBytes n) names2 ≡ some j → getElem? (r1 .sampleData) i ≡ getElem? (r2 .sampleData) j
 
+gt-back : (g h : Option AllelePair) (ps qs : Option (List ℕ)) → SameGt g ps h qs → SameGt h qs g ps
+unfolding SameGt
+gt-back none none ps qs same = tt
+gt-back none (some h) ps qs same = absurd same
+gt-back (some g) none ps qs same = absurd same
+gt-back (some g) (some h) ps qs (n, a, b) = (n, b, a)
+
 flip : {names1 names2 : List (List ℕ)} {r1 r2 : Record} → Alike names1 names2 r1 r2 → Alike names2 names1 r2 r1
+unfolding SameGts
 flip a =
     let s = a .same in
     record {
@@ -39,8 +48,10 @@ flip a =
         pos = sym (s .pos);
         end = sym (s .end);
         ref = sym (s .ref);
+        alts = λ x. sym (s .alts x);
         forth = s .back;
         back = s .forth;
+        gts = λ n i j e f v w at bt. gt-back _ _ _ _ (s .gts n j i f e w v bt at);
       };
       block = sym (a .block);
       count1 = a .count2;
@@ -84,7 +95,7 @@ module _ (names1 names2 : List (List ℕ)) (distinct1 : allDistinct sameBytes na
 
   coalesced-alike : (r1 r2 s1 s2 : Record) → Alike names1 names2 r1 r2 → Alike names1 names2 s1 s2
       → Alike names1 names2 (coalesced r1 s1) (coalesced r2 s2)
-  unfolding coalesced
+  unfolding coalesced isAlt SameGts
   coalesced-alike r1 r2 s1 s2 a b =
       let s = a .same in
       record {
@@ -93,8 +104,10 @@ module _ (names1 names2 : List (List ℕ)) (distinct1 : allDistinct sameBytes na
           pos = s .pos;
           end = ap {B = Option ℕ} some (end-same b);
           ref = s .ref;
+          alts = s .alts;
           forth = record { alleles = s .forth .alleles; samples = s .forth .samples };
           back = record { alleles = s .back .alleles; samples = s .back .samples };
+          gts = s .gts;
         };
         block = a .block;
         count1 = a .count1;

@@ -2,51 +2,25 @@
 use Prim.Native.Nat.{ℕ}
 use lib.Dec.{ltb}
 use lib.ListN.{length}
-use mathlib.Core.Bool.{true}
 use mathlib.Core.List.{List, map}
 use mathlib.Core.Option.{Option}
 use mathlib.Core.Path.{_∙_, _≡_, ap₂, subst, sym}
 use native.Mathlib.Omega.{arith}
 use Rattle.definitions.specs.ClipAndReference.{Span}
-use Rattle.definitions.specs.Cohort.{Cohort, Site}
+use Rattle.definitions.specs.Cohort.{Site}
 use Rattle.definitions.specs.CombinedList.{Input, recordIntervals}
 use Rattle.definitions.specs.CoveringSites.{coveringSites}
 use Rattle.definitions.specs.Intervals.{Interval, breakpoints, clippedIntervals, contigsOf, inClip, intervalsBetween}
-use Rattle.definitions.specs.Lists.{allOf, filterBy}
-use Rattle.laws.proofs.Bytes.{ascending-bytes, bytes-apart, same-is}
-use Rattle.laws.proofs.Every.{every-member, every-passed}
-use Rattle.laws.proofs.Members.{_∈_, any-member, filter-same, map-same, member-filter, member-some, some-member}
+use Rattle.definitions.specs.Lists.{filterBy}
+use Rattle.laws.proofs.Bytes.{ascending-bytes, bytes-apart}
+use Rattle.laws.proofs.Members.{_∈_, filter-same, member-filter, member-some, some-member}
 use Rattle.laws.proofs.Orders.{same-elements}
 use Rattle.laws.proofs.Tests.{bool-ext}
-use Rattle.demands.specs.Inserted.{Included, isOneOf, sitesNamed}
 use Rattle.demands.specs.Reordered.{Reordered}
+use Rattle.demands.proofs.Included.{reordered-back, reordered-forth}
 use Rattle.demands.proofs.IntervalsBetween.{Between, between, breakpoints-ascend, is-inside}
 use Rattle.demands.proofs.RefinedIntervals.{contig-there, covering-there, points-there}
 use Rattle.demands.proofs.Placed.{Placed}
-
--- each order is included in the other
-one-there : (names1 names2 : List (List ℕ)) → allOf (isOneOf names2) names1 ≡ true → (n : List ℕ)
-    → isOneOf names1 n ≡ true → isOneOf names2 n ≡ true
-unfolding isOneOf
-one-there names1 names2 all n h =
-    let (found, m, same) = any-member _ _ h in
-    let is = same-is n found same in
-    rw is (every-member m (every-passed (isOneOf names2) names1 all))
-
-same-sites : {c1 c2 : Cohort} → Reordered c1 c2 → (n : List ℕ) → isOneOf (c1 .names) n ≡ true → sitesNamed c1 n ≡ sitesNamed c2 n
-unfolding isOneOf
-same-sites {c1} {c2} r n h =
-    let (found, m, same) = any-member _ _ h in
-    let is = same-is n found same in
-    rw is (map-same (sitesNamed c1) (sitesNamed c2) (c1 .names) (r .sites) m)
-
-pub reordered-forth : {c1 c2 : Cohort} → Reordered c1 c2 → Included c1 c2
-reordered-forth {c1} {c2} r = record { names = one-there (c1 .names) (c2 .names) (r .names-there); sites = same-sites r }
-
-pub reordered-back : {c1 c2 : Cohort} → Reordered c1 c2 → Included c2 c1
-reordered-back {c1} {c2} r =
-    let back = one-there (c2 .names) (c1 .names) (r .names-back) in
-    record { names = back; sites = λ n h. sym (same-sites r n (back n h)) }
 
 module _ (x1 x2 : Input) (same-clip : x1 .clip ≡ x2 .clip) (sound1 : Placed (x1 .cohort)) (sound2 : Placed (x2 .cohort))
     (re : Reordered (x1 .cohort) (x2 .cohort)) where

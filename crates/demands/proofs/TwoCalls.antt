@@ -3,11 +3,12 @@
 use Prim.Native.Nat.{ℕ}
 use Prim.Native.String.{String}
 use lib.Dec.{T}
-use mathlib.Core.List.{List, [], _++_, map}
+use mathlib.Core.Bool.{false}
+use mathlib.Core.List.{List, [], _++_, _∷_, flatten, map}
 use mathlib.Core.Option.{Option, some}
-use mathlib.Core.Path.{_∙_, _≡_, ap, refl, subst₂, sym}
+use mathlib.Core.Path.{_∙_, _≡_, ap, ap₂, refl, subst₂, sym}
 use Rattle.definitions.specs.Alleles.{allelesOf, writtenAlleles}
-use Rattle.definitions.specs.Bytes.{joinedBy, text}
+use Rattle.definitions.specs.Bytes.{joinedBy, sameBytes, text}
 use Rattle.definitions.specs.Checked.{Checked, _>>=_, accepted, isAccepted, refused}
 use Rattle.definitions.specs.Cohort.{Cohort, cohortOf}
 use Rattle.definitions.specs.CombinedList.{Texts, combinedList}
@@ -15,11 +16,14 @@ use Rattle.definitions.specs.ListReader.{WrittenList, listRead}
 use Rattle.definitions.specs.Numbers.{decimal}
 use Rattle.definitions.specs.Records.{Record, recordEnd}
 use Rattle.definitions.proofs.Evaluated.{evaluated}
+use Rattle.laws.proofs.Bytes.{is-same}
 use Rattle.laws.proofs.Checked.{valueOr}
 use Rattle.laws.proofs.CombinedListReadBack.{list-read-back}
-use Rattle.demands.specs.Inserted.{Inserted, isOneOf, named, sitesNamed, unnumbered}
+use Rattle.laws.proofs.Tests.{clash}
+use Rattle.demands.specs.Inserted.{Inserted, isOneOf, named, unnumbered}
 use Rattle.demands.specs.Preserved.{Preserved}
-use Rattle.demands.specs.Reordered.{Reordered, SameRecords}
+use Rattle.demands.specs.Reordered.{Reordered, sitesNamed}
+use Rattle.demands.specs.SameRecords.{SameRecords}
 use Rattle.demands.proofs.Demand3.{demand3}
 use Rattle.demands.proofs.TwoOrders.{two-orders}
 
@@ -156,7 +160,36 @@ pub worked-orders : (k : TwoCalls) (reference : List ℕ) {first second : String
 worked-orders k reference given1 given2 t1 t2 re e1 e2 =
     record { first-list = e1; second-list = e2; alike = said-alike k reference given1 given2 t1 t2 re }
 
--- every definition opened by one name that the premises of `worked` and `worked-orders` are computed by
+-- the records of the two lists of two orders, and that they do not say the same: REFs differ
+pub record OrdersDiffer (k : TwoCalls) (first second : String) : Type 0 where
+  pub reordered : BothRead Reordered (cohortOf (k .old)) (cohortOf (k .new))
+  pub first-list : outline (recordsIn (oldList k)) ≡ text first
+  pub second-list : outline (recordsIn (newList k)) ≡ text second
+  pub differ : SaidAlike k → ⊥
+
+abbrev refs : List Record → List (List ℕ)
+refs = map (λ (r : Record). r .alleles .ref)
+
+same-refs : (names1 names2 : List (List ℕ)) (l k : List Record) → SameRecords names1 names2 l k → refs l ≡ refs k
+unfolding SameRecords
+same-refs names1 names2 [] [] h = refl
+same-refs names1 names2 [] (s ∷ k) h = absurd h
+same-refs names1 names2 (r ∷ l) [] h = absurd h
+same-refs names1 names2 (r ∷ l) (s ∷ k) (h, rest) =
+    ap₂ (λ (a : List ℕ) (as′ : List (List ℕ)). a ∷ as′) (h .ref) (same-refs names1 names2 l k rest)
+
+pub orders-differ : (k : TwoCalls) {first second : String} → BothRead Reordered (cohortOf (k .old)) (cohortOf (k .new))
+    → outline (recordsIn (oldList k)) ≡ text first → outline (recordsIn (newList k)) ≡ text second
+    → sameBytes (flatten (refs (recordsIn (oldList k)))) (flatten (refs (recordsIn (newList k)))) ≡ false → OrdersDiffer k first second
+unfolding SaidAlike
+orders-differ k re e1 e2 apart = record {
+  reordered = re;
+  first-list = e1;
+  second-list = e2;
+  differ = λ alike. clash (is-same (ap flatten (same-refs _ _ _ _ alike))) apart;
+}
+
+-- every definition opened by one name that the premises of the worked calls are computed by
 unfoldable pub computed : TwoCalls → TwoCalls
 unfolding evaluated isOneOf named unnumbered valueOr oldList newList recordsIn isAccepted BothRead sitesNamed
 computed k = k

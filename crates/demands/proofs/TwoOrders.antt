@@ -12,11 +12,14 @@ use Rattle.laws.proofs.Checked.{accepted-same, after-then}
 use Rattle.laws.proofs.CombinedListReadBack.{list-read-back}
 use Rattle.laws.proofs.Every.{Alongside, along, along-each, along-flatten, ended}
 use Rattle.laws.proofs.Members.{_∈_}
-use Rattle.demands.specs.Reordered.{Reordered, SameRecords, TwoOrders}
+use Rattle.demands.specs.Reordered.{Reordered}
+use Rattle.demands.specs.SameRecords.{SameRecords}
+use Rattle.demands.specs.TwoOrders.{TwoOrders}
 use Rattle.demands.proofs.AlikeRecords.{alike-records}
 use Rattle.demands.proofs.CoalescedAlike.{Alike, coalesce-alike}
+use Rattle.demands.proofs.Included.{reordered-back, reordered-forth}
 use Rattle.demands.proofs.ListAtPosition.{has-record, on-contig, parts-of, recordAt, recordsOn, whole}
-use Rattle.demands.proofs.SameOrder.{reordered-back, reordered-forth, same-contigs, same-intervals}
+use Rattle.demands.proofs.SameOrder.{same-contigs, same-intervals}
 use Rattle.demands.proofs.SampleNames.{name-there}
 use Rattle.demands.proofs.Placed.{Placed, placed}
 
@@ -105,5 +108,6 @@ two-orders t1 t2 c1 c2 scratchLength1 scratchLength2 outLength1 outLength2 refer
       rw (← cohort2) (l2 .read-back),
       rw (← cohort1, ← cohort2)
           (records-alike (l1 .input) (l2 .input) segments is1 is2 clip
-          (placed (l1 .from .sound .cohort)) (placed (l2 .from .sound .cohort)) (rw (cohort1, cohort2) re) scratchLength1 scratchLength2 (l1 .records) (l2 .records) (l1 .combined) (l2 .combined)),
+          (placed (l1 .from .sound .cohort)) (placed (l2 .from .sound .cohort)) (rw (cohort1, cohort2) re)
+          scratchLength1 scratchLength2 (l1 .records) (l2 .records) (l1 .combined) (l2 .combined)),
     )
