@@ -1,5 +1,5 @@
--- What the rest needs of a cohort, and less than `SoundCohort`: names that differ, and sites of its samples, none of which ends
--- before its start.
+-- What the proofs of demand 3 and of two orders ask of one cohort: names that differ, and sites of its samples, none of which ends before
+-- its start. It follows from `SoundCohort`.
 use Prim.Native.Nat.{_<_, _≤_}
 use lib.ListN.{length}
 use mathlib.Core.Bool.{true}
