@@ -13,9 +13,9 @@ from fractions import Fraction
 from pathlib import Path
 
 NON_REF, SPAN_DEL = "<NON_REF>", "*"
-SITE_KEYS = 10
+SITE_KEYS = 11
 CAPITALS = str.maketrans("acgtn", "ACGTN")
-SAMPLE_KEYS = ("gt", "gq", "dp", "ad", "pl")
+SAMPLE_KEYS = ("gt", "gq", "dp", "mindp", "ad", "pl")
 
 
 def lines(path):
@@ -60,7 +60,7 @@ class Site:
         self.sample, self.contig = int(group["site"]), group["contig"]
         self.start, self.end = int(group["start"]), int(group["end"])
         self.alleles = [read_allele(group["ref"])] + read_alleles(group["alt"])
-        self.gq, self.dp = group["gq"], group["dp"]
+        self.gq, self.dp, self.min_dp = group["gq"], group["dp"], group["mindp"]
         self.ad, self.pl = numbers(group["ad"]), numbers(group["pl"])
         self.block = self.alleles[1:] == [NON_REF]
 
@@ -142,7 +142,7 @@ def sample_values(site, own, alleles):
         gt = "%d/%d" % pairs(len(alleles))[pl.index(min(pl))]
     if site.ad is not None:
         ad = [site.ad[m] if m < len(site.ad) else 0 for m in mapped]
-    return (gt, site.gq, site.dp, commas(ad), commas(pl))
+    return (gt, site.gq, site.dp, site.min_dp, commas(ad), commas(pl))
 
 
 class Record:
@@ -178,7 +178,7 @@ def contig_records(sites, clip, reference, samples):
         read = {sample: s.read_at(start, ref) for sample, s in taken.items()}
         alleles = merged_alleles(taken, read, start, ref)
         values = [
-            sample_values(taken[i], read[i], alleles) if i in taken else (".",) * 5
+            sample_values(taken[i], read[i], alleles) if i in taken else (".",) * len(SAMPLE_KEYS)
             for i in range(samples)
         ]
         record = Record(start, after - 1, alleles, values)
@@ -239,7 +239,8 @@ def called_record(group, samples):
     alleles = [read_allele(ref)] + read_alleles(alt)
     non_ref = alleles.index(NON_REF)
     keep = [a for a in range(len(alleles)) if a != non_ref]
-    values = [dict(group[5 + 5 * i : 10 + 5 * i]) for i in range(samples)]
+    each = len(SAMPLE_KEYS)
+    values = [dict(group[5 + each * i : 5 + each * (i + 1)]) for i in range(samples)]
     if len(keep) < 2 or all(v["pl"] == "." for v in values):
         return None
     out = f"contig={contig}\npos={pos}\nref={alleles[0]}\nalt={commas([alleles[a] for a in keep[1:]])}\n"
@@ -255,7 +256,7 @@ def called_record(group, samples):
 def called_list(folder):
     rows = lines(folder / "combined.kv")
     names = [name for _, name in rows[1 : 1 + int(rows[0][1])]]
-    rows, size = rows[2 + len(names) :], 5 + 5 * len(names)
+    rows, size = rows[2 + len(names) :], 5 + len(SAMPLE_KEYS) * len(names)
     found = [called_record(rows[i : i + size], len(names)) for i in range(0, len(rows), size)]
     found = [record for record in found if record is not None]
     return header(names, len(found)) + "".join(found)

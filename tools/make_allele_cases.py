@@ -178,7 +178,7 @@ def drop_cases():
     seen = set()
     for line in Path("recorded/call/INDEX.txt").read_text().splitlines():
         number, sort, *_ = line.split()
-        before, after = (records(Path("recorded/call", number, name), *sizes) for name, sizes in (("combined.kv", (5, 5)), ("called.kv", (4, 4))))
+        before, after = (records(Path("recorded/call", number, name), *sizes) for name, sizes in (("combined.kv", (5, 6)), ("called.kv", (4, 4))))
         for at in after:
             alts = before[at][0]["alt"].split(",")
             shape = len(alts) + 1, alts.index("<NON_REF>") + 1

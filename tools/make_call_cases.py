@@ -18,8 +18,8 @@ from make_replay_cases import printed
 
 ROOM, INPUT_ROOM = 65536, 524288  # what the program has room for
 COVERED = {f"refused {n}" for n in (*range(1, 9), 14)} | {"a record is dropped", "several records", "no records", "64 samples", "16 alleles", "*", "missing value"}
-COVERED |= {"small letters in a kept record", "small letters in a dropped record"}
-HEAD, SAMPLE = ("contig", "pos", "end", "ref", "alt"), ("gt", "gq", "dp", "ad", "pl")
+COVERED |= {"small letters in a kept record", "small letters in a dropped record", "MIN_DP in a kept record", "MIN_DP in a dropped record"}
+HEAD, SAMPLE = ("contig", "pos", "end", "ref", "alt"), ("gt", "gq", "dp", "mindp", "ad", "pl")
 LETTERS = re.compile(rb"[ACGTNacgtn]{1,255}")
 CASES = []  # name, answer (a number, a list, `ref alt` of each record of a list that the model makes, or None for any such list), text, room
 
@@ -40,8 +40,8 @@ def gt(v, n):
 
 def read_sample(lines, n):
     gt(lines.value("gt")[0], n)
-    values = [read(lines.value(key)[0]) for key, read in zip(SAMPLE[1:], (optional, optional, numbers, numbers))]
-    return values[2], values[3]
+    values = [read(lines.value(key)[0]) for key, read in zip(SAMPLE[1:], (optional, optional, optional, numbers, numbers))]
+    return values[2:]
 
 
 def alleles_fault(ref, alts):
@@ -59,15 +59,18 @@ def read_record(lines, samples, last):
     check(5, not alleles_fault(ref, alts))
     check(6, b"<NON_REF>" in alts)
     check(7, end is None or (n == 2 and len(ref) == 1))
-    check(8, all((ad is None or len(ad) == n) and (pl is None or len(pl) == n * (n + 1) // 2) for ad, pl in values))
-    dropped, small = n == 2 or all(pl is None for _, pl in values), any(a != a.upper() for a in alts + [ref])
+    check(8, all((ad is None or len(ad) == n) and (pl is None or len(pl) == n * (n + 1) // 2) for _, ad, pl in values))
+    dropped, small = n == 2 or all(pl is None for _, _, pl in values), any(a != a.upper() for a in alts + [ref])
+    least = any(min_dp is not None for min_dp, _, _ in values)
     shown = {
         "a record is dropped": dropped,
         "small letters in a kept record": small and not dropped,
         "small letters in a dropped record": small and dropped,
+        "MIN_DP in a kept record": least and not dropped,
+        "MIN_DP in a dropped record": least and dropped,
         "16 alleles": n == 16,
         "*": b"*" in alts,
-        "missing value": any(ad is None or pl is None for ad, pl in values),
+        "missing value": any(ad is None or pl is None for _, ad, pl in values),
     }
     return (contig, pos if end is None else end), {what for what, is_so in shown.items() if is_so}
 
@@ -87,7 +90,7 @@ def judged(text, room):
         shown |= here
     check(1, lines.at == len(text))
     rows = [line.split("=", 1) for line in text.decode().split("\n")[:-1]][2 + count :]
-    size = 5 + 5 * count
+    size = len(HEAD) + len(SAMPLE) * count
     found = [model.called_record(rows[i : i + size], count) for i in range(0, len(rows), size)]
     found = [record for record in found if record is not None]
     called = (model.header([n.decode() for n in names], len(found)) + "".join(found)).encode()
@@ -114,9 +117,9 @@ def recorded_cases():
 
 BLOCK = dict(zip(HEAD, "c 10 . A <NON_REF>".split()))
 SNP = dict(zip(HEAD, "c 20 . A G,<NON_REF>".split()))
-TWO = dict(zip(SAMPLE, "0/0 30 9 9,0 0,30,300".split()))
-THREE = dict(zip(SAMPLE, "0/1 40 8 4,4,0 40,0,50,60,70,80".split()))
-NONE = dict(zip(SAMPLE, "....."))
+TWO = dict(zip(SAMPLE, "0/0 30 9 . 9,0 0,30,300".split()))
+THREE = dict(zip(SAMPLE, "0/1 40 8 . 4,4,0 40,0,50,60,70,80".split()))
+NONE = dict(zip(SAMPLE, "......"))
 
 
 def lines_of(base, changes):
@@ -175,6 +178,27 @@ def line_cases():
     case("2-sixty-five-samples", 2, listed(names=range(65)))
     case("3-name-twice", 3, listed(names=("S0", "S0")))
     case("3-before-a-wrong-records-line", 3, header("S0", "S0"))
+
+
+def min_dp_cases():
+    """The line stands behind dp in every sample's lines, with a number or nothing; a called list has none."""
+    good = listed(block(), snp())
+    case("1-mindp-missing-everywhere", 1, good.replace("mindp=.\n", ""))
+    case("1-mindp-missing-in-the-first-record", 1, good.replace("dp=9\nmindp=.\n", "dp=9\n"))
+    case("1-mindp-missing-in-the-last-record", 1, good.replace("dp=8\nmindp=.\n", "dp=8\n"))
+    case("1-mindp-missing-in-the-second-sample", 1, listed(snp([THREE, NONE]), names=("S0", "S1")).replace("dp=.\nmindp=.\n", "dp=.\n"))
+    case("1-mindp-before-dp", 1, good.replace("dp=8\nmindp=.\n", "mindp=.\ndp=8\n"))
+    case("1-mindp-behind-ad", 1, good.replace("mindp=.\nad=4,4,0\n", "ad=4,4,0\nmindp=.\n"))
+    case("1-mindp-twice", 1, good.replace("dp=8\nmindp=.\n", "dp=8\nmindp=.\nmindp=.\n"))
+    case("1-mindp-misspelled", 1, good.replace("mindp", "min_dp"))
+    for value in ("05", "", "..", "5,6", "-1", "2147483648"):
+        case(f"1-mindp-{value or 'empty'}", 1, listed(with_value(mindp=value)))
+    case("mindp-below-dp", None, listed(with_value(mindp=5)))
+    case("mindp-above-dp", None, listed(with_value(mindp=9)))
+    case("mindp-0-without-dp", None, listed(with_value(dp=".", mindp=0)))
+    case("mindp-2147483647", None, listed(with_value(mindp=2147483647)))
+    case("mindp-in-a-dropped-record", [], listed(with_value(mindp=7, pl=".")))
+    case("4-and-1-by-mindp-in-one-group", 1, listed(snp([{**THREE, "mindp": "x"}], pos=0)))
 
 
 def record_cases():
@@ -271,7 +295,7 @@ def checked(title, answer, text, room):
 
 
 def main():
-    for part in (recorded_cases, line_cases, record_cases, spelling_cases, order_cases):
+    for part in (recorded_cases, line_cases, min_dp_cases, record_cases, spelling_cases, order_cases):
         part()
     assert len({c[0] for c in CASES}) == len(CASES) and not any(" " in c[0] for c in CASES)
     stdin, stdout, covered = b"", b"", {}

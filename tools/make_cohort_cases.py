@@ -13,8 +13,8 @@ sys.path.insert(0, "differential")
 import model
 
 MOST, MISSING = 2147483647, 4294967295
-INPUT_ROOM, TEXT_ROOM = 131072, 300000  # what the program has room for
-KEYS = ("site", "contig", "start", "end", "ref", "alt", "gq", "dp", "ad", "pl")
+INPUT_ROOM, TEXT_ROOM = 131072, 320000  # what the program has room for
+KEYS = ("site", "contig", "start", "end", "ref", "alt", "gq", "dp", "mindp", "ad", "pl")
 LETTERS = re.compile(rb"[ACGTNacgtn]{1,128}")
 
 
@@ -93,7 +93,7 @@ def read_site(lines, before, samples):
     readers = {"contig": name, "ref": bytes, "alt": bytes, "ad": numbers, "pl": numbers}
     for key in KEYS:
         v, at = lines.value(key)
-        optional = key in ("gq", "dp") and v == b"."
+        optional = key in ("gq", "dp", "mindp") and v == b"."
         g[key] = MISSING if optional else readers.get(key, number)(v)
         where[key] = [at, at + len(v)] if g[key] is not None else [at + 1, at + 1]
     for row, broken in faults(g, before, samples).items():
@@ -112,7 +112,7 @@ def list_columns(numbers, where, words):
 def row_of(g, where, contigs):
     contigs.append(g["contig"])
     block = int(g["alt"] == b"<NON_REF>")
-    numbers = [g["site"], contigs.index(g["contig"]), g["start"], g["end"], block, g["gq"], g["dp"]]
+    numbers = [g["site"], contigs.index(g["contig"]), g["start"], g["end"], block, g["gq"], g["dp"] + (g["mindp"] << 32)]
     parts = [at for key in ("contig", "ref", "alt") for at in where[key]]
     return numbers + parts + list_columns(g["ad"], where["ad"], 2) + list_columns(g["pl"], where["pl"], 5)
 
@@ -139,9 +139,9 @@ def same_sites(text, samples, rows):
     stored = lambda row, k: ",".join(str(row[k + 1 + i // 2] >> 32 * (i % 2) & 0xFFFFFFFF) for i in range(row[k]))
     values = lambda row, k: stored(row, k) or part(row, k + 1)
     coded = lambda v: MISSING if v == "." else int(v)
-    for row, s in zip(rows, map(model.Site, model.groups(pairs, 10)), strict=True):
-        ours = row[:1] + row[2:7] + [part(row, 7), part(row, 9).upper(), part(row, 11).upper(), values(row, 13), values(row, 16)]
-        place = [s.sample, s.start, s.end, int(s.block), coded(s.gq), coded(s.dp), s.contig]
+    for row, s in zip(rows, map(model.Site, model.groups(pairs, model.SITE_KEYS)), strict=True):
+        ours = row[:1] + row[2:6] + [row[6] & 0xFFFFFFFF, row[6] >> 32] + [part(row, 7), part(row, 9).upper(), part(row, 11).upper(), values(row, 13), values(row, 16)]
+        place = [s.sample, s.start, s.end, int(s.block), coded(s.gq), coded(s.dp), coded(s.min_dp), s.contig]
         if ours != place + [s.alleles[0], model.commas(s.alleles[1:]), model.commas(s.ad), model.commas(s.pl)]:
             return False
     return True
@@ -150,9 +150,9 @@ def same_sites(text, samples, rows):
 # ---- the cases: name, answer by the rules (a row, or samples and sites), and the text as head, tail, times, foot
 
 CASES = []
-BLOCK = dict(zip(KEYS, "0 c 10 11 A <NON_REF> 30 9 9,0 0,30,300".split()))
-SNP = dict(zip(KEYS, "1 c 10 10 A G,<NON_REF> 40 8 4,4,0 40,0,50,60,70,80".split()))
-SMALL = dict(zip(KEYS, "0 c 1 1 A <NON_REF> . . . .".split()))
+BLOCK = dict(zip(KEYS, "0 c 10 11 A <NON_REF> 30 9 . 9,0 0,30,300".split()))
+SNP = dict(zip(KEYS, "1 c 10 10 A G,<NON_REF> 40 8 . 4,4,0 40,0,50,60,70,80".split()))
+SMALL = dict(zip(KEYS, "0 c 1 1 A <NON_REF> . . . . .".split()))
 
 
 def case(title, answer, head, tail="", times=0, foot=""):
@@ -189,7 +189,7 @@ def edited(title, answer, old, new):
 def accepted_cases():
     case("document-01", (2, 2), TWO + site(BLOCK) + site(SNP))
     case("no-sites", (2, 0), TWO)
-    sites("nothing-known", None, gq=".", dp=".", ad=".", pl=".")
+    sites("nothing-known", None, gq=".", dp=".", mindp=".", ad=".", pl=".")
     case("contigs-c-d-c", (2, 3), TWO + site(BLOCK) + site(SNP, contig="d") + site(BLOCK, start=7))
 
 
@@ -252,6 +252,29 @@ def line_cases():
     case("space-at-the-end", 1, TWO + site() + " ")
 
 
+def min_dp_cases():
+    """The line stands behind dp, in every group, and holds a number or nothing; no rule binds it to DP."""
+    edited("min-dp-line-missing", 1, "dp=9\nmindp=.\n", "dp=9\n")
+    edited("min-dp-line-twice", 1, "dp=9\nmindp=.\n", "dp=9\nmindp=.\nmindp=.\n")
+    edited("min-dp-before-dp", 1, "dp=9\nmindp=.\n", "mindp=.\ndp=9\n")
+    edited("min-dp-behind-ad", 1, "dp=9\nmindp=.\nad=9,0\n", "dp=9\nad=9,0\nmindp=.\n")
+    case("min-dp-line-missing-in-every-group", 1, (TWO + site(BLOCK) + site(SNP)).replace("mindp=.\n", ""))
+    for key in ("MIN_DP", "min_dp", "mindp ", "mindpp", "mind", "dp"):
+        edited("min-dp-key-" + key.replace(" ", "-and-space"), 1, "dp=9\nmindp=", f"dp=9\n{key}=")
+    for title, value in (("list", "5,6"), ("minus", "-1"), ("plus", "+5"), ("leading-zero", "05"), ("space", "5 "), ("cr", "5\r"), ("far-past-64-bits", "1" + "0" * 30)):
+        sites(f"mindp-{title}", 1, mindp=value)
+    sites("mindp-below-dp", None, dp=9, mindp=5)
+    sites("mindp-above-dp", None, dp=5, mindp=9)
+    sites("mindp-without-dp", None, dp=".", mindp=5)
+    sites("dp-without-mindp", None, dp=MOST, mindp=".")
+    sites("dp-and-mindp-2147483647", None, dp=MOST, mindp=MOST)
+    sites("dp-0-mindp-2147483647", None, dp=0, mindp=MOST)
+    sites("mindp-of-a-snp", None, SNP, dp=3, mindp=4)
+    case("mindp-of-three-sites", (2, 3), TWO + site(mindp=1) + site(SNP, mindp=".") + site(start=12, end=12, mindp=2))
+    sites("mindp-1-and-3", 1, site=2, mindp="05")
+    case("mindp-8-then-1", 8, TWO + site(pl="0") + site(mindp="x"))
+
+
 def number_cases():
     sites("start-010", 1, start="010")
     sites("start-0", 4, start=0)
@@ -266,7 +289,7 @@ def number_cases():
     sites("end-missing", 1, end=".")
     sites("site-missing", 1, site=".")
     sites("site-00", 1, site="00")
-    for key in ("gq", "dp"):
+    for key in ("gq", "dp", "mindp"):
         sites(f"{key}-empty", 1, **{key: ""})
         sites(f"{key}-0", None, **{key: 0})
         sites(f"{key}-00", 1, **{key: "00"})
@@ -440,7 +463,7 @@ def printed(title, answer, rows):
 
 def main():
     for part in (
-        accepted_cases, header_cases, name_cases, line_cases, number_cases, limit_cases,
+        accepted_cases, header_cases, name_cases, line_cases, min_dp_cases, number_cases, limit_cases,
         sample_and_place_cases, allele_cases, spelling_cases, end_cases, count_cases, order_cases,
     ):
         part()

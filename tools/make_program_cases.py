@@ -26,7 +26,7 @@ def conflict():
     """AT and C at 10, row 12's example."""
     text = "samples=2\nsample=S0\nsample=S1\n"
     for sample, ref, end in ((0, "AT", 11), (1, "C", 10)):
-        text += f"site={sample}\ncontig=c\nstart=10\nend={end}\nref={ref}\nalt=G,<NON_REF>\ngq=40\ndp=8\nad=4,4,0\npl=40,0,50,60,70,80\n"
+        text += f"site={sample}\ncontig=c\nstart=10\nend={end}\nref={ref}\nalt=G,<NON_REF>\ngq=40\ndp=8\nmindp=8\nad=4,4,0\npl=40,0,50,60,70,80\n"
     return text.encode()
 
 
@@ -48,7 +48,7 @@ def blocks(size):
         found = f"samples=1\nsample=S0\nrecords={count}\n"
         for i in range(count):
             digits = min(9, more)
-            found += f"contig=c\npos={10 * i + 10}\nend={10 * i + 15}\nref=A\nalt=<NON_REF>\ngt=0/0\ngq=30\ndp={'1' * (1 + digits)}\nad=9,0\npl=0,30,300\n"
+            found += f"contig=c\npos={10 * i + 10}\nend={10 * i + 15}\nref=A\nalt=<NON_REF>\ngt=0/0\ngq=30\ndp={'1' * (1 + digits)}\nmindp=7\nad=9,0\npl=0,30,300\n"
             more -= digits
         return found.encode()
 

@@ -4,7 +4,7 @@ Run it in the repository's folder. The calls are of three sorts:
 - recorded: all cases of recorded/combine that are by hand, and the first six of every other sort. The list is the Rust's, as recorded, and the model's
   where sites of a sample overlap, a letter is needed and no reference is lent, or letters are small. With B
   breakpoints on the busiest contig, those of other sorts have 8,192 places, 1, 2, B - 1, B and B + 1 by turns.
-- tight: each recorded case by hand but those of letters and spelling again, with 0, 1, B - 1, B and B + 1 places and just the output that it needs, and
+- tight: each recorded case by hand but those of letters, spelling and MIN_DP again, with 0, 1, B and B + 1 places and just the output that it needs, and
   with a byte less (14). With no place it is 10 if it has a site, and else the list.
 - by hand, below: refusals, each with its number beside it from reading documents 01 and 02, and calls just inside the rules; among them contigs with
   more breakpoints than a call has places of its own.
@@ -22,7 +22,7 @@ import make_cohort_cases as rules
 from make_cohort_cases import BLOCK, ONE, SMALL, SNP, TWO, Refused, check, header, model, pl, site
 
 PLACES, ROOM, INPUT_ROOM = 8192, 65536, 524288  # what the program has room for
-LONG = 16000  # bytes of a recorded cohort that is left out, for room
+LONG = 15000  # bytes of a recorded cohort that is left out, for room
 COVERED = {f"refused {n}" for n in range(1, 15)} | {
     "joined", "clip cuts a block", "deletion over a later position", "*", "REF grows", "missing value", "several contigs", "64 samples",
     "16 alleles", "letter from the reference", "letter from a sample", "no REF reaches", "a lower-numbered sample does not reach", "REFs that reach differ",
@@ -31,6 +31,8 @@ COVERED = {f"refused {n}" for n in range(1, 15)} | {
     "a later site supersedes an earlier one in the file", "the first in the file starts last", "equal starts", "three deep", "a superseded deletion",
     "small letters", "REFs that are prefixes in either case alone", "an allele that samples spell in either case", "over 16 alleles as they are spelled",
     "a small letter from the reference", "a small letter from a sample", "blocks that differ only in case join",
+    "MIN_DP", "MIN_DP above DP", "MIN_DP without DP", "blocks that agree in MIN_DP join", "blocks that differ in MIN_DP alone", "blocks of which one lacks MIN_DP alone",
+    "a sample of which nothing is known joins one without a site",
 }
 CLIP, REFERENCE = ("contig", "start", "end"), ("contig", "first", "bases")
 Case = namedtuple("Case", "name cohort clip reference lent places room")
@@ -107,7 +109,7 @@ def shown_of_joins(sites, clip, reference, start, points):
     if reference is not None or before is None or not model.kept(clip, before, start - 1):
         return set()
     one, two = model.taken_at(sites, before), model.taken_at(sites, start)
-    values = lambda taken: {sample: (s.block, s.gq, s.dp, s.ad, s.pl) for sample, s in taken.items()}
+    values = lambda taken: {sample: (s.block, s.gq, s.dp, s.min_dp, s.ad, s.pl) for sample, s in taken.items()}
     if not one or values(one) != values(two) or not all(s.block for s in one.values()):
         return set()
     starts = lambda taken, p: any(s.start == p for s in taken.values())
@@ -118,6 +120,28 @@ def shown_of_joins(sites, clip, reference, start, points):
         "a block's letter against an unknown one": known == (True, False) and refs[0] != "N" and one == two,
         "an unknown letter joins a REF N": known[0] != known[1] and refs == ("N", "N"),
         "blocks that differ only in case join": known == (True, True) and refs[0] == refs[1] and spelled(one, before) != spelled(two, start),
+    }
+    return {what for what, is_so in shown.items() if is_so}
+
+
+def shown_of_min_dp(sites, clip, reference, start, points):
+    """What neighbouring blocks show by MIN_DP, where all else agrees: `start` begins the second one."""
+    before = max((p for p in points if p < start), default=None)
+    if before is None or not model.kept(clip, before, start - 1):
+        return set()
+    one, two = model.taken_at(sites, before), model.taken_at(sites, start)
+    blocks = lambda taken: taken and all(s.block for s in taken.values())
+    if not blocks(one) or not blocks(two) or model.ref_of(one, before, reference) != model.ref_of(two, start, reference):
+        return set()
+    known = lambda taken: {i: (s.gq, s.dp, s.ad, s.pl) for i, s in taken.items() if (s.gq, s.dp, s.ad, s.pl) != (".", ".", None, None)}
+    least = lambda taken: {i: s.min_dp for i, s in taken.items() if s.min_dp != "."}
+    if known(one) != known(two):
+        return set()
+    shown = {
+        "blocks that agree in MIN_DP join": least(one) and least(one) == least(two),
+        "blocks that differ in MIN_DP alone": least(one) != least(two) and least(one).keys() == least(two).keys(),
+        "blocks of which one lacks MIN_DP alone": least(one).keys() != least(two).keys(),
+        "a sample of which nothing is known joins one without a site": least(one) == least(two) and one.keys() != two.keys(),
     }
     return {what for what, is_so in shown.items() if is_so}
 
@@ -180,6 +204,7 @@ def check_contig(sites, clip, reference, places):
             here = check_interval(sites, reference, start)
             covered += "taken" in here
             shown |= here - {"taken"} | shown_of_joins(sites, clip, reference, start, points)
+            shown |= shown_of_min_dp(sites, clip, reference, start, points) if "taken" in here else set()
     if clip is not None and covered == 0:
         shown.add("clip keeps nothing")
     for s in sites:
@@ -196,7 +221,7 @@ def texts_of(case):
     clip = None if lent[0] is None else groups(lent[0], CLIP, span_of)
     reference = None if lent[1] is None else groups(lent[1], REFERENCE, segment_of)
     pairs = [line.split("=", 1) for line in case.cohort.decode().split("\n")[:-1]]
-    groups_of = model.groups(pairs[1 + count :], 10)
+    groups_of = model.groups(pairs[1 + count :], model.SITE_KEYS)
     sites = [model.Site(g) for g in groups_of]
     for s, g in zip(sites, groups_of):
         s.spelled = [g["ref"]] + g["alt"].split(",")
@@ -219,6 +244,9 @@ def judged(case):
     whole = {
         "joined": len(found) < covered,
         "missing value": any(s.gq == "." or s.pl is None or s.ad is None for s in sites),
+        "MIN_DP": any(s.min_dp != "." for s in sites),
+        "MIN_DP above DP": any(s.min_dp != "." != s.dp and int(s.min_dp) > int(s.dp) for s in sites),
+        "MIN_DP without DP": any(s.min_dp != "." == s.dp for s in sites),
         "several contigs": len(contigs) > 1,
         "small letters": any(s.alleles != s.spelled for s in sites),
         "64 samples": len(names) == 64 and sites,
@@ -247,8 +275,8 @@ def busiest(texts):
 
 
 def few_and_many(most):
-    """No place, one, and as many as there are breakpoints, one less and one more."""
-    return sorted({0, 1, max(most - 1, 0), most, most + 1})
+    """No place, one, and as many as there are breakpoints, and one more."""
+    return sorted({0, 1, most, most + 1})
 
 
 def tight(number, texts, combined):
@@ -264,7 +292,7 @@ def recorded_cases():
         number, sort, *_ = line.split()
         chosen.setdefault(sort, []).append(number)
     for sort, numbers in chosen.items():
-        for i, number in enumerate(numbers if sort in ("by", "letters", "spelling") else numbers[:6]):
+        for i, number in enumerate(numbers if sort in ("by", "letters", "spelling", "MIN_DP") else numbers[:6]):
             folder = Path("recorded/combine") / number
             texts, combined = texts_in(folder), (folder / "combined.kv").read_bytes()
             if len(texts[0]) > LONG:
@@ -313,6 +341,12 @@ def cohort_cases():
     case("1-end-2147483648", 1, one(end=rules.MOST + 1))
     case("1-last-line-without-lf", 1, one()[:-1])
     case("1-lines-swapped", 1, one().replace("gq=30\ndp=9\n", "dp=9\ngq=30\n"))
+    case("1-mindp-missing", 1, one().replace("mindp=.\n", ""))
+    case("1-mindp-missing-in-the-second-site", 1, TWO + site(mindp=9) + site(SNP).replace("mindp=.\n", ""))
+    case("1-mindp-before-dp", 1, one().replace("dp=9\nmindp=.\n", "mindp=.\ndp=9\n"))
+    case("1-mindp-misspelled", 1, one().replace("mindp", "min_dp"))
+    case("1-mindp-05", 1, one(mindp="05"))
+    case("1-mindp-2147483648", 1, one(mindp=rules.MOST + 1))
     case("1-name-with-comma", 1, header("a,b"))
     case("2-no-samples", 2, "samples=0\n")
     case("2-sixty-five-samples", 2, header(*range(65)))
@@ -451,7 +485,8 @@ def patched_cases():
     for size, more in ((64, 0), (256, 60), (4096, 240)):
         cohort = one(start=10, end=20) + "".join(site(BLOCK, contig="d", start=i, end=i) for i in range(1, more + 1))
         case(f"a-correction-in-front-{size}", None, cohort, cut, fix + whole)
-        case(f"two-groups-behind-one-that-lacks-the-position-{size}", None, cohort, cut, segment("c", 16, "T") + fix + whole)
+        if size < 4096:  # for room
+            case(f"two-groups-behind-one-that-lacks-the-position-{size}", None, cohort, cut, segment("c", 16, "T") + fix + whole)
     block, elsewhere = one(start=10, end=20), segment("c", 9, "N")
     case("a-correction-behind", None, block, cut, whole + fix)
     case("a-correction-of-another-contig", None, block, cut, segment("d", 13, "GT") + whole)
@@ -492,6 +527,26 @@ def spelling_cases():
     word = "aCgtTGcA" * 16
     grown = f"10 . {word.upper()} A,{(word[::-1] + word[1:]).upper()},<NON_REF>"
     case("128-small-letters-lengthened-by-127", [grown], TWO + at(0, "a", word[::-1]) + at(1, word, "a"), span("c", 10, 10))
+
+
+def min_dp_cases():
+    """MIN_DP rides along as DP does; blocks join only if it agrees. Nothing binds it to DP."""
+    parts = lambda *least: TWO + "".join(site(SMALL, start=10 + i, end=10 + i, dp=7, mindp=m) for i, m in enumerate(least))
+    case("mindp-agrees", ["10 11 A <NON_REF>"], parts(5, 5))
+    case("mindp-differs", ["10 . A <NON_REF>", "11 . A <NON_REF>"], parts(5, 6))
+    case("mindp-missing-in-the-first", ["10 . A <NON_REF>", "11 . A <NON_REF>"], parts(".", 7))
+    case("mindp-missing-in-the-second", ["10 . A <NON_REF>", "11 . A <NON_REF>"], parts(7, "."))
+    case("mindp-2147483647-and-one-less", ["10 11 A <NON_REF>", "12 . A <NON_REF>"], parts(rules.MOST, rules.MOST, rules.MOST - 1))
+    case("mindp-by-pairs", ["10 11 A <NON_REF>", "12 13 A <NON_REF>", "14 15 A <NON_REF>"], parts(0, 0, 7, 7, 0, 0))
+    waiting = site(SMALL, site=1, start=10, end=10)
+    case("nothing-known-then-no-site", ["10 11 A <NON_REF>"], parts(5, 5) + waiting)
+    case("mindp-0-then-no-site", ["10 . A <NON_REF>", "11 . A <NON_REF>"], parts(5, 5) + waiting.replace("mindp=.", "mindp=0"))
+    case("mindp-above-dp", ["10 . A G,<NON_REF>"], one(SNP, dp=8, mindp=9))
+    case("mindp-and-nothing-else", ["10 . A G,<NON_REF>"], one(SNP, gq=".", dp=".", mindp=rules.MOST, ad=".", pl="."))
+    # 64 samples, each with a MIN_DP of its own, and the last one's alone changes at 12
+    many = "".join(site(SMALL, site=i, start=10, end=13 if i < 63 else 11, mindp=i) for i in range(64))
+    last = ["10 11 A <NON_REF>", "12 13 A <NON_REF>"]
+    case("mindp-of-64-samples", last, header(*range(64)) + many + site(SMALL, site=63, start=12, end=13, mindp=64), None, segment("c", 12, "A"))
 
 
 def nested_cases():
@@ -576,7 +631,7 @@ def printed(name, answer):
 def main():
     for part in (
         recorded_cases, cohort_cases, clip_and_reference_cases, place_cases, window_cases, letter_cases, sample_letter_cases, spelling_cases,
-        patched_cases, nested_cases, merge_cases,
+        patched_cases, nested_cases, merge_cases, min_dp_cases,
     ):
         part()
     assert len({c.name for c, _ in CASES}) == len(CASES)

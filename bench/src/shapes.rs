@@ -137,6 +137,8 @@ fn site(rng: &mut Rng, sample: usize, contig: String, start: u64, end: u64, ref_
     let pairs = alleles * (alleles + 1) / 2;
     let mut pl: Vec<u32> = (0..pairs).map(|_| rng.below(1800) as u32).collect();
     pl[rng.below(pairs as u64) as usize] = 0;
+    let block = alts.len() == 1;
+    let (gq, dp) = (rng.below(100) as u32, rng.below(60) as u32);
     Site {
         sample,
         contig,
@@ -144,8 +146,10 @@ fn site(rng: &mut Rng, sample: usize, contig: String, start: u64, end: u64, ref_
         end,
         ref_allele,
         alts,
-        gq: Some(rng.below(100) as u32),
-        dp: Some(rng.below(60) as u32),
+        gq: Some(gq),
+        dp: Some(dp),
+        // as GATK writes it: the least depth, in a block alone
+        min_dp: block.then_some(dp - dp / 4),
         ad: Some((0..alleles).map(|_| rng.below(40) as u32).collect()),
         pl: Some(pl),
     }

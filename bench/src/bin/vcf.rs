@@ -18,6 +18,7 @@ const HEADER: &str = "##fileformat=VCFv4.3
 ##FORMAT=<ID=DP,Number=1,Type=Integer,Description=\"Depth\">
 ##FORMAT=<ID=AD,Number=R,Type=Integer,Description=\"Allele depths\">
 ##FORMAT=<ID=PL,Number=G,Type=Integer,Description=\"Likelihoods\">
+##FORMAT=<ID=MIN_DP,Number=1,Type=Integer,Description=\"Least depth in a block\">
 ";
 
 fn line(site: &Site) -> String {
@@ -25,7 +26,7 @@ fn line(site: &Site) -> String {
     let numbers = |values: &Option<Vec<u32>>| values.as_ref().map_or(".".to_string(), |v| comma(v));
     let one = |value: Option<u32>| value.map_or(".".to_string(), |n| n.to_string());
     format!(
-        "{}\t{}\t.\t{}\t{}\t.\t.\t{end}\tGT:GQ:DP:AD:PL\t0/0:{}:{}:{}:{}\n",
+        "{}\t{}\t.\t{}\t{}\t.\t.\t{end}\tGT:GQ:DP:AD:PL:MIN_DP\t0/0:{}:{}:{}:{}:{}\n",
         site.contig,
         site.start,
         site.ref_allele,
@@ -33,7 +34,8 @@ fn line(site: &Site) -> String {
         one(site.gq),
         one(site.dp),
         numbers(&site.ad),
-        numbers(&site.pl)
+        numbers(&site.pl),
+        one(site.min_dp)
     )
 }
 

@@ -34,6 +34,12 @@ fn calls_the_example() {
     let n = call(list, &mut out).unwrap();
     assert_eq!(&out[..n], expected);
     assert_eq!(call(&list[1..], &mut out), Err(Refused(1)));
+    // a called list has no MIN_DP, a combined one has
+    let text = std::str::from_utf8(list).unwrap();
+    let least: Vec<&str> = text.lines().filter(|line| line.starts_with("mindp=")).collect();
+    assert!(least.contains(&"mindp=36") && least.contains(&"mindp=."));
+    let without: String = text.lines().filter(|line| !line.starts_with("mindp=")).map(|line| format!("{line}\n")).collect();
+    assert_eq!(call(without.as_bytes(), &mut out), Err(Refused(1)));
 }
 
 #[test]

@@ -51,6 +51,26 @@ fn small_letters_are_read_as_capitals() {
 }
 
 #[test]
+fn min_dp_rides_along_and_parts_blocks() {
+    let (mut scratch, mut out) = ([7u64; 8], vec![9u8; 4096]);
+    let mut list = |cohort: &str| combine(cohort.as_bytes(), None, None, &mut scratch, &mut out).map(|n| String::from_utf8(out[..n].to_vec()).unwrap());
+    let cohort = String::from_utf8(COHORT.to_vec()).unwrap();
+    let given = cohort.replacen("mindp=.", "mindp=12", 1);
+    let mut lines = String::from_utf8(LIST.to_vec()).unwrap();
+    // of S0, in both records; no rule binds it to DP, which is 9
+    lines = lines.replace("dp=9\nmindp=.", "dp=9\nmindp=12");
+    assert_eq!(list(&given), Ok(lines));
+    assert_eq!(list(&cohort.replace("mindp=.\n", "")), Err(Refused(1)));
+    assert_eq!(list(&cohort.replace("dp=9\nmindp=.\n", "mindp=.\ndp=9\n")), Err(Refused(1)));
+    let block = |start: u64, min_dp: &str| format!("site=0\ncontig=c\nstart={start}\nend={start}\nref=A\nalt=<NON_REF>\ngq=.\ndp=7\nmindp={min_dp}\nad=.\npl=.\n");
+    let mut records = |first: &str, second: &str| {
+        let list = list(&format!("samples=1\nsample=S\n{}{}", block(5, first), block(6, second))).unwrap();
+        list.lines().find_map(|line| line.strip_prefix("records=")).unwrap().to_string()
+    };
+    assert_eq!([records("5", "5"), records("5", "6"), records("5", "."), records(".", ".")], ["1", "2", "2", "1"]);
+}
+
+#[test]
 fn refuses_and_leaves_the_output() {
     let mut scratch = [7u64; 8];
     let mut out = [9u8; 16];

@@ -9,7 +9,7 @@ fn with(sample: usize, sites: &[(&str, u64, &str, &str)]) -> Vec<u8> {
     for (contig, start, reference, alt) in sites {
         let end = start + reference.len() as u64 - 1;
         text += &format!("site={sample}\ncontig={contig}\nstart={start}\nend={end}\nref={reference}\nalt={alt},<NON_REF>\n");
-        text += "gq=.\ndp=.\nad=.\npl=.\n";
+        text += "gq=.\ndp=.\nmindp=.\nad=.\npl=.\n";
     }
     text.into_bytes()
 }

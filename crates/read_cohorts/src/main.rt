@@ -1,7 +1,7 @@
 // Runs `cohort::read_cohort` over the cases on standard input, and prints what each gave.
 //
 // A case is a line `head tail foot times name`, four numbers and a word, and behind its LF `head` bytes, `tail` bytes and `foot` bytes.
-// Its text is the head, the tail `times` times, and the foot, so that 4,097 sites are a short case. The input ends at 131,072 bytes, a text at 300,000.
+// Its text is the head, the tail `times` times, and the foot, so that 4,097 sites are a short case. The input ends at 131,072 bytes, a text at 320,000.
 //
 // For each case a line: the name, and `samples=2 sites=3` or `refused=1`. Then the rows of at most three sites, 22 numbers to a line.
 // tools/make_cohort_cases.py writes the input, and what is to be printed, from document 01's rules.
@@ -137,7 +137,7 @@ fn run_cases(input: &[u8], text: &mut [u8], names: &mut [usize], rows: &mut [usi
 
 fn main() {
     let mut input = [0u8; 131072];
-    let mut text = [0u8; 300000];
+    let mut text = [0u8; 320000];
     let mut names = [0usize; 128];
     let mut rows = [0usize; 90112];
     let count = io::read_full(0, &mut input);

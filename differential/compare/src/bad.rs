@@ -16,7 +16,7 @@ fn changed(rng: &mut Rng, text: &[u8]) -> Vec<u8> {
     for _ in 0..rng.range(1, 2) {
         let at = rng.below(text.len() as u64 + 1) as usize;
         let byte = *rng.pick(TELLING);
-        match rng.below(9) {
+        match rng.below(10) {
             0 if at < text.len() => text[at] = byte,
             1 => text.insert(at, byte),
             2 if at < text.len() => drop(text.remove(at)),
@@ -25,6 +25,7 @@ fn changed(rng: &mut Rng, text: &[u8]) -> Vec<u8> {
             5 => value_changed(rng, &mut text),
             6 => case_changed(rng, &mut text),
             7 => allele_repeated(rng, &mut text),
+            8 => min_dp_changed(rng, &mut text),
             _ => lines_changed(rng, &mut text),
         }
     }
@@ -65,6 +66,27 @@ fn allele_repeated(rng: &mut Rng, text: &mut Vec<u8>) {
     alts[i] = if i == j { lines[at - 1][4..].to_vec() } else { alts[j].clone() };
     alts[i].iter_mut().for_each(other_case);
     lines[at] = [&b"alt="[..], &alts.join(&b',')].concat();
+    *text = lines.join(&b'\n');
+}
+
+/// A `mindp` line, or all of them, left out; one exchanged with a neighbour, misspelled, or with a value at the ends of its range.
+fn min_dp_changed(rng: &mut Rng, text: &mut Vec<u8>) {
+    let mut lines: Vec<Vec<u8>> = text.split(|&b| b == b'\n').map(<[u8]>::to_vec).collect();
+    let places: Vec<usize> = (1..lines.len() - 1).filter(|&i| lines[i].starts_with(b"mindp=")).collect();
+    if places.is_empty() {
+        return;
+    }
+    let at = *rng.pick(&places);
+    let spellings: [&[u8]; 6] = [b"min_dp", b"MIN_DP", b"mindp ", b"mind", b"dp", b""];
+    let values: [&[u8]; 9] = [b"", b"0", b"05", b"-1", b"5,6", b"..", b".", b"2147483647", b"2147483648"];
+    match rng.below(6) {
+        0 => drop(lines.remove(at)),
+        1 => lines.retain(|line| !line.starts_with(b"mindp=")),
+        2 => lines.swap(at - 1, at),
+        3 => lines.swap(at, at + 1),
+        4 => lines[at] = [*rng.pick::<&[u8]>(&spellings), &lines[at][5..]].concat(),
+        _ => lines[at] = [&b"mindp="[..], *rng.pick::<&[u8]>(&values)].concat(),
+    }
     *text = lines.join(&b'\n');
 }
 
@@ -163,7 +185,7 @@ fn told(rows: &[u64]) -> String {
 /// The answer must be the row of rows 1 to 8 that refuses the list, if one does, and else a called list.
 pub fn hold_list(library: &mut Library, list: &[u8]) -> Result<usize, String> {
     let row = list_rows::refusing(list);
-    // a called list is no longer: only GQ may grow, by one byte, and its GT line is gone
+    // a called list is no longer: only GQ may grow, by one byte, and its GT and MIN_DP lines are gone
     let answer = library.call(list, 4096 + list.len());
     match (row, &answer) {
         (0, Ok(_)) => Ok(0),

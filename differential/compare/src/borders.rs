@@ -30,6 +30,7 @@ fn site(sample: usize, start: u64, end: u64, reference: &str, alts: &[String]) -
         alts,
         gq: Some(number(0)),
         dp: Some(number(1)),
+        min_dp: Some(number(2)),
         ad: Some((0..n).map(number).collect()),
         pl: Some((0..pairs(n)).map(number).collect()),
     }

@@ -8,7 +8,7 @@ use oracle::{generate, record};
 /// Each list is called with just enough output, and with one byte too few.
 pub fn compare(seed: u64, count: u64) -> Result<String, String> {
     let mut library = Library::new();
-    let (mut records, mut bytes, mut small) = (0, 0, 0);
+    let (mut records, mut bytes, mut small, mut min_dps) = (0, 0, 0, 0);
     for i in 0..count {
         let list = generate::combined_list(mix(seed ^ mix(i)));
         let told = |what: &str| format!("seed {seed}, list {i}: {what}");
@@ -24,6 +24,9 @@ pub fn compare(seed: u64, count: u64) -> Result<String, String> {
         records += list.records.len();
         bytes += n;
         small += u64::from(list != list.capitals());
+        min_dps += u64::from(list.records.iter().flat_map(|r| &r.samples).any(|s| s.min_dp.is_some()));
     }
-    Ok(format!("{count} combined lists, {small} with small letters, {records} records, {bytes} bytes of called lists: no difference\n"))
+    Ok(format!(
+        "{count} combined lists, {small} with small letters, {min_dps} with MIN_DP, {records} records, {bytes} bytes of called lists: no difference\n"
+    ))
 }

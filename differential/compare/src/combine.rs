@@ -2,6 +2,7 @@
 
 use crate::ours::{Call, Library};
 use oracle::cohort::Lent;
+use oracle::list::List;
 use oracle::rng::{mix, Rng};
 use oracle::text::Rules;
 use oracle::{domain, generate, record};
@@ -68,8 +69,8 @@ pub fn places_for(most: usize, rng: &mut Rng) -> [usize; 8] {
 }
 
 /// The library's lists of a call against the Rust's: the same with any places; 14 with an output that is too short; with no place 10 if
-/// there is a site, and else the list. Gives back the records and the bytes of the list.
-pub fn hold(library: &mut Library, lent: &Lent, seed: u64) -> Result<(usize, usize), String> {
+/// there is a site, and else the list. Gives back the Rust's list and its bytes.
+pub fn hold(library: &mut Library, lent: &Lent, seed: u64) -> Result<(List, usize), String> {
     let mut rng = Rng::new(seed);
     let texts = Texts::of(lent);
     let (list, expected) = record::combined(lent)?;
@@ -96,7 +97,7 @@ pub fn hold(library: &mut Library, lent: &Lent, seed: u64) -> Result<(usize, usi
             return Err(format!("another answer without places, with {room} bytes for {n}"));
         }
     }
-    Ok((list.records.len(), n))
+    Ok((list, n))
 }
 
 /// The scope and the Rust part: sites of a sample overlap, a letter is needed and no reference is lent, or letters are small.
@@ -104,15 +105,15 @@ fn by_model(lent: &Lent) -> bool {
     lent.cohort.overlaps_itself() || domain::lacks_letters(lent) || lent.has_small_letters()
 }
 
-/// Writes so many cohorts on which the Rust is met only as it is fed into a folder, each with the list that the library gives, for model.py.
+/// Writes so many cohorts on which the Rust is met only as it is fed, MIN_DPs among that, into a folder, each with the list that the library gives, for model.py.
 /// No list comes from the Rust.
 pub fn lists(seed: u64, count: u64, folder: &Path) -> Result<String, String> {
     let mut library = Library::new();
-    let (mut written, mut small, mut i) = (0, 0, 0);
+    let (mut written, mut small, mut min_dps, mut i) = (0, 0, 0, 0);
     while written < count {
         let lent = lent_of(i, mix(seed ^ mix(i)));
         i += 1;
-        if lent.cohort.sites.len() > 200 || !by_model(&lent) {
+        if lent.cohort.sites.len() > 200 || !(by_model(&lent) || lent.cohort.has_min_dp()) {
             continue;
         }
         let mut rng = Rng::new(mix(seed.wrapping_add(i)));
@@ -124,8 +125,9 @@ pub fn lists(seed: u64, count: u64, folder: &Path) -> Result<String, String> {
         }
         written += 1;
         small += u64::from(lent.has_small_letters());
+        min_dps += u64::from(lent.cohort.has_min_dp());
     }
-    Ok(format!("{count} cohorts, {small} with small letters, with their lists in {}\n", folder.display()))
+    Ok(format!("{count} cohorts, {small} with small letters, {min_dps} with MIN_DP, with their lists in {}\n", folder.display()))
 }
 
 /// Each recorded case with 0, 1, 2, B - 1, B and B + 1 places, B the breakpoints of its busiest contig: the recorded list; without
@@ -153,6 +155,7 @@ pub fn recorded(folder: &Path) -> Result<String, String> {
 pub fn compare(seed: u64, count: u64) -> Result<String, String> {
     let mut library = Library::new();
     let (mut records, mut bytes, mut windows, mut overlaps, mut referenced, mut letters, mut small) = (0, 0, 0, 0, 0, 0, 0);
+    let (mut min_dps, mut parted) = (0, 0);
     for i in 0..count {
         let lent = lent_of(i, mix(seed ^ mix(i)));
         windows += u64::from(breakpoints(&lent) > 1024);
@@ -160,14 +163,16 @@ pub fn compare(seed: u64, count: u64) -> Result<String, String> {
         referenced += u64::from(lent.reference.is_some());
         letters += u64::from(domain::lacks_letters(&lent));
         small += u64::from(lent.has_small_letters());
-        let (r, n) = hold(&mut library, &lent, mix(seed.wrapping_add(i)))
+        min_dps += u64::from(lent.cohort.has_min_dp());
+        let (list, n) = hold(&mut library, &lent, mix(seed.wrapping_add(i)))
             .map_err(|what| format!("seed {seed}, cohort {i}, sort {}: {what}", sort_of(i).name))?;
-        records += r;
+        records += list.records.len();
+        parted += list.parted_by_min_dp();
         bytes += n;
     }
     Ok(format!(
         "{count} cohorts, {windows} with over 1,024 breakpoints on a contig, {overlaps} with overlapping sites of a sample, \
          {referenced} with a reference, {letters} without one where a letter is needed, {small} with small letters, \
-         {records} records, {bytes} bytes of lists: no difference\n"
+         {min_dps} with MIN_DP, {records} records, {parted} of them parted from the block before by MIN_DP alone, {bytes} bytes of lists: no difference\n"
     ))
 }

@@ -60,7 +60,7 @@ fn same_call(map: &[usize], v: &ListSample, w: &ListSample) -> bool {
         }
         _ => false,
     };
-    v.gq == w.gq && v.dp == w.dp && ad && pl
+    v.gq == w.gq && v.dp == w.dp && v.min_dp == w.min_dp && ad && pl
 }
 
 /// How many records of the first list begin where the second's record has another first letter.
@@ -102,7 +102,7 @@ fn written(library: &mut Library, lent: &Lent, places: usize) -> Result<Option<L
 
 pub fn check(seed: u64, count: u64) -> Result<String, String> {
     let mut library = Library::new();
-    let (mut pairs, mut records, mut overlaps, mut unreferenced, mut letters, mut small, mut i) = (0, 0, 0, 0, 0, 0, 0);
+    let (mut pairs, mut records, mut overlaps, mut unreferenced, mut letters, mut small, mut min_dps, mut i) = (0, 0, 0, 0, 0, 0, 0, 0);
     while pairs < count {
         let mut rng = Rng::new(mix(seed ^ mix(i)));
         let second = lent_of(i, rng.any());
@@ -129,6 +129,7 @@ pub fn check(seed: u64, count: u64) -> Result<String, String> {
         records += one.records.len();
         overlaps += u64::from(first.cohort.overlaps_itself());
         small += u64::from(first.has_small_letters());
+        min_dps += u64::from(first.cohort.has_min_dp());
         if first.reference.is_none() {
             unreferenced += 1;
             letters += other_letters(&one, &two);
@@ -136,6 +137,6 @@ pub fn check(seed: u64, count: u64) -> Result<String, String> {
     }
     Ok(format!(
         "{pairs} pairs of cohorts, {overlaps} with overlapping sites of an old sample, {unreferenced} without a reference, {small} with small \
-         letters, {records} records of the first lists: all said again; without a reference {letters} of them begin with another letter in the second\n"
+         letters, {min_dps} with MIN_DP, {records} records of the first lists: all said again; without a reference {letters} of them begin with another letter in the second\n"
     ))
 }

@@ -15,7 +15,7 @@ pub fn refusing(text: &[u8]) -> usize {
     let Some(records) = value(&all, samples + 1, "records").and_then(number) else { return 1 };
     let mut before: Option<(&[u8], u64)> = None;
     let mut count = 0;
-    for group in all[samples + 2..].chunks(5 + 5 * samples) {
+    for group in all[samples + 2..].chunks(5 + 6 * samples) {
         if count == records {
             return 1;
         }
@@ -51,11 +51,12 @@ fn record_end<'a>(group: &Group<'a>, samples: usize, before: Option<(&[u8], u64)
     let mut counts = Vec::new();
     for i in 0..samples {
         let own = || {
-            genotype_right(value(group, 5 + 5 * i, "gt")?, n as u64).then_some(())?;
-            or_missing(value(group, 6 + 5 * i, "gq")?, number)?;
-            or_missing(value(group, 7 + 5 * i, "dp")?, number)?;
-            let ad = or_missing(value(group, 8 + 5 * i, "ad")?, numbers)?;
-            let pl = or_missing(value(group, 9 + 5 * i, "pl")?, numbers)?;
+            genotype_right(value(group, 5 + 6 * i, "gt")?, n as u64).then_some(())?;
+            or_missing(value(group, 6 + 6 * i, "gq")?, number)?;
+            or_missing(value(group, 7 + 6 * i, "dp")?, number)?;
+            or_missing(value(group, 8 + 6 * i, "mindp")?, number)?;
+            let ad = or_missing(value(group, 9 + 6 * i, "ad")?, numbers)?;
+            let pl = or_missing(value(group, 10 + 6 * i, "pl")?, numbers)?;
             Some((ad, pl))
         };
         counts.push(own().ok_or(1usize)?);

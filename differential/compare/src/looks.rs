@@ -69,7 +69,7 @@ fn changed(lent: &Lent, rng: &mut Rng) -> Lent {
 fn beside(site: &Site, sample: usize, reference: &str, letter: &str) -> Site {
     let alts = (1..7).map(|k| format!("{letter}{}", "T".repeat(k))).chain(["<NON_REF>".to_string()]).collect();
     let (end, ref_allele) = (site.start, reference.to_string());
-    Site { sample, end, ref_allele, alts, gq: None, dp: None, ad: None, pl: None, ..site.clone() }
+    Site { sample, end, ref_allele, alts, gq: None, dp: None, min_dp: None, ad: None, pl: None, ..site.clone() }
 }
 
 /// How many calls gave a figure, and how many a row from 10 to 13.

@@ -133,7 +133,7 @@ fn cohort_row(text: &[u8]) -> usize {
         Ok(names) => names.len(),
         Err(row) => return row,
     };
-    for (before, group) in all[count + 1..].chunks(10).enumerate() {
+    for (before, group) in all[count + 1..].chunks(11).enumerate() {
         let row = site_row(group, count, before);
         if row != 0 {
             return row;
@@ -153,11 +153,12 @@ fn site_row(group: &Group, samples: usize, before: usize) -> usize {
             value(group, 5, "alt")?,
             or_missing(value(group, 6, "gq")?, number)?,
             or_missing(value(group, 7, "dp")?, number)?,
-            or_missing(value(group, 8, "ad")?, numbers)?,
-            or_missing(value(group, 9, "pl")?, numbers)?,
+            or_missing(value(group, 8, "mindp")?, number)?,
+            or_missing(value(group, 9, "ad")?, numbers)?,
+            or_missing(value(group, 10, "pl")?, numbers)?,
         ))
     };
-    let Some((sample, _, start, end, reference, alt, _, _, ad, pl)) = read() else { return 1 };
+    let Some((sample, _, start, end, reference, alt, _, _, _, ad, pl)) = read() else { return 1 };
     if before >= 4096 {
         return 2;
     }

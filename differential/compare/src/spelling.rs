@@ -104,7 +104,7 @@ fn site(row: &str) -> Site {
     // numbers that say whose and which they are: a sample's sites with as many alleles have the same
     let (sample, n) = (number(0), 1 + part[5].split(',').count());
     let numbers = |count: usize| Some((0..count as u32).map(|i| 100 * (1 + sample as u32) + i).collect());
-    Site { sample: sample as usize, contig, start: number(2), end: number(3), ref_allele, alts, gq: Some(9), dp: None, ad: numbers(n), pl: numbers(pairs(n)) }
+    Site { sample: sample as usize, contig, start: number(2), end: number(3), ref_allele, alts, gq: Some(9), dp: None, min_dp: Some(7), ad: numbers(n), pl: numbers(pairs(n)) }
 }
 
 fn lent(case: &Case) -> Lent {
@@ -215,7 +215,7 @@ fn lists(library: &mut Library) -> Result<usize, String> {
     for (reference, alt, answer) in LISTS {
         let n = alt.split(',').count() + 1;
         let pl = vec!["7"; n * (n + 1) / 2].join(",");
-        let list = format!("samples=1\nsample=s\nrecords=1\ncontig=c\npos=5\nend=.\nref={reference}\nalt={alt}\ngt=.\ngq=.\ndp=.\nad=.\npl={pl}\n");
+        let list = format!("samples=1\nsample=s\nrecords=1\ncontig=c\npos=5\nend=.\nref={reference}\nalt={alt}\ngt=.\ngq=.\ndp=.\nmindp=.\nad=.\npl={pl}\n");
         bad::hold_list(library, list.as_bytes())?;
         let called = library.call(list.as_bytes(), 4096).map(|l| String::from_utf8_lossy(&l).into_owned());
         let right = match (answer, &called) {

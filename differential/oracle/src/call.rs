@@ -1,6 +1,6 @@
 //! The Rust's dropped PL, AD and GQ over a combined list.
 
-use crate::combine::list_sample;
+use crate::combine::{list_sample, other_of};
 use crate::list::{List, ListRecord, ListSample};
 use gatk_haplotypecaller::genotype_gvcfs::accessors::{
     alleles_without_non_ref, remap_ad, remap_pl_drop_alleles,
@@ -35,6 +35,7 @@ fn call_record(record: &ListRecord) -> Option<ListRecord> {
                 gt: None,
                 gq: pl.as_ref().map(|pl| gq_phred_from_pl(pl) as u32),
                 dp: s.dp,
+                min_dp: None,
                 ad: s
                     .ad
                     .as_ref()
@@ -150,7 +151,7 @@ fn vcf_record(record: &ListRecord) -> VcfRecord {
                 dp: s.dp,
                 ad: s.ad.clone(),
                 pl: s.pl.clone(),
-                other: Vec::new(),
+                other: other_of(s.min_dp),
             })
             .collect(),
     }

@@ -17,6 +17,7 @@ pub struct Site {
     pub alts: Vec<String>,
     pub gq: Option<u32>,
     pub dp: Option<u32>,
+    pub min_dp: Option<u32>,
     pub ad: Option<Vec<u32>>,
     pub pl: Option<Vec<u32>>,
 }
@@ -55,6 +56,10 @@ impl Cohort {
             }
         }
         false
+    }
+
+    pub fn has_min_dp(&self) -> bool {
+        self.sites.iter().any(|s| s.min_dp.is_some())
     }
 
     /// The same sites, those that start later first, equal starts in the file's order: where the Rust takes a sample's first site over a
@@ -196,6 +201,7 @@ fn read_site(lines: &mut Lines, rules: Rules) -> Result<Site, Refusal> {
         alts: split(lines.value("alt")?),
         gq: optional_number(lines.value("gq")?, rules)?,
         dp: optional_number(lines.value("dp")?, rules)?,
+        min_dp: optional_number(lines.value("mindp")?, rules)?,
         ad: optional_numbers(lines.value("ad")?, rules)?,
         pl: optional_numbers(lines.value("pl")?, rules)?,
     })
@@ -331,6 +337,7 @@ pub fn write_cohort(cohort: &Cohort) -> String {
         line(&mut out, "alt", comma(&s.alts));
         line(&mut out, "gq", or_dot(s.gq));
         line(&mut out, "dp", or_dot(s.dp));
+        line(&mut out, "mindp", or_dot(s.min_dp));
         line(&mut out, "ad", comma_or_dot(&s.ad));
         line(&mut out, "pl", comma_or_dot(&s.pl));
     }

@@ -2,7 +2,7 @@
 
 use crate::cohort::{flattened, Cohort, Lent, Site};
 use crate::list::{List, ListRecord, ListSample};
-use crate::text::MAX_NUMBER;
+use crate::text::{optional_number, Rules, MAX_NUMBER};
 use gatk_haplotypecaller::combine_gvcfs::{combine_loaded_gvcfs, GvcfSite, LoadedGvcf, Span};
 use stand_ins::io::vcf::{InfoValue, SampleData, VcfHeader, VcfRecord};
 use std::collections::HashMap;
@@ -67,9 +67,25 @@ fn gvcf_site(site: &Site) -> GvcfSite {
             dp: site.dp,
             ad: site.ad.clone(),
             pl: site.pl.clone(),
-            other: Vec::new(),
+            other: other_of(site.min_dp),
         },
         source: String::new(),
+    }
+}
+
+/// The Rust has no MIN_DP: it is one of the other FORMAT keys, which stand where they are given.
+pub fn other_of(min_dp: Option<u32>) -> Vec<(String, String)> {
+    min_dp.map(|v| ("MIN_DP".to_string(), v.to_string())).into_iter().collect()
+}
+
+fn min_dp_of(other: &[(String, String)]) -> Result<Option<u32>, String> {
+    match other {
+        [] => Ok(None),
+        [(key, value)] if key == "MIN_DP" => match optional_number(value, Rules::On) {
+            Ok(Some(v)) => Ok(Some(v)),
+            _ => Err(format!("the Rust gives MIN_DP {value}")),
+        },
+        _ => Err(format!("the Rust gives other values {other:?}")),
     }
 }
 
@@ -110,6 +126,7 @@ pub fn list_sample(sample: &SampleData) -> Result<ListSample, String> {
         gt,
         gq: whole_number(sample.gq)?,
         dp: sample.dp,
+        min_dp: min_dp_of(&sample.other)?,
         ad: sample.ad.clone(),
         pl: sample.pl.clone(),
     })

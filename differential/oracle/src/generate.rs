@@ -248,13 +248,65 @@ pub fn lent(profile: &Profile, seed: u64) -> Lent {
             continue;
         }
         if !profile.patched {
-            return lowered(drawn, seed);
+            return lowered(with_min_dp(drawn, seed), seed);
         }
         let more = patched(&drawn, rng.any());
         if more != drawn {
-            return lowered(more, seed);
+            return lowered(with_min_dp(more, seed), seed);
         }
     }
+}
+
+/// MIN_DPs of a call or a list: most are one of up to three, so that neighbouring blocks agree or do not; the others are the DP, or any number.
+struct MinDps {
+    rng: Rng,
+    /// How many of a hundred are given.
+    given: u64,
+    usual: Vec<u32>,
+}
+
+impl MinDps {
+    /// In half of all seeds there are some. Their numbers are drawn apart, so that nothing else of a draw depends on them.
+    fn from(seed: u64) -> Option<MinDps> {
+        let mut rng = Rng::new(mix(seed).rotate_left(31));
+        if rng.below(2) == 1 {
+            return None;
+        }
+        let given = *rng.pick(&[40, 80, 100, 100]);
+        let usual = (0..rng.range(1, 3)).map(|_| quality(&mut rng, 15, 40)).collect();
+        Some(MinDps { rng, given, usual })
+    }
+
+    fn draw(&mut self, dp: Option<u32>) -> Option<u32> {
+        if !self.rng.chance(self.given) {
+            return None;
+        }
+        match self.rng.weighted(&[75, 10, 15]) {
+            0 => Some(*self.rng.pick(&self.usual)),
+            1 => dp,
+            _ => Some(quality(&mut self.rng, 20, 60)),
+        }
+    }
+}
+
+/// The same call, in half of all seeds with MIN_DPs.
+fn with_min_dp(mut lent: Lent, seed: u64) -> Lent {
+    if let Some(mut drawn) = MinDps::from(seed) {
+        for site in &mut lent.cohort.sites {
+            site.min_dp = drawn.draw(site.dp);
+        }
+    }
+    lent
+}
+
+/// The same list, likewise.
+fn list_with_min_dp(mut list: List, seed: u64) -> List {
+    if let Some(mut drawn) = MinDps::from(seed) {
+        for sample in list.records.iter_mut().flat_map(|r| &mut r.samples) {
+            sample.min_dp = drawn.draw(sample.dp);
+        }
+    }
+    list
 }
 
 /// The numbers that say which letters are small, in a third of all seeds. They are drawn apart, so that nothing else of a draw depends on them.
@@ -531,6 +583,7 @@ fn site(p: &Profile, rng: &mut Rng, land: &Land, contig: usize, sample: usize, s
         alts,
         gq: present(p, &mut values, |p, r| quality(r, p.extreme, 99)),
         dp: present(p, &mut values, |p, r| quality(r, p.extreme, 60)),
+        min_dp: None,
         ad: present(p, &mut values, |p, r| {
             (0..ad_count).map(|_| quality(r, p.extreme, 40)).collect()
         }),
@@ -819,7 +872,7 @@ pub fn combined_list(seed: u64) -> List {
             list.records.push(record);
         }
     }
-    lowered_list(list, seed)
+    lowered_list(list_with_min_dp(list, seed), seed)
 }
 
 fn list_record(rng: &mut Rng, contig: &str, pos: u64, samples: usize, extreme: u64) -> ListRecord {
@@ -889,6 +942,7 @@ fn list_sample(rng: &mut Rng, n: usize, no_pl: bool, extreme: u64) -> ListSample
         gt,
         gq: (!rng.chance(15)).then(|| quality(rng, extreme, 99)),
         dp: (!rng.chance(15)).then(|| quality(rng, extreme, 60)),
+        min_dp: None,
         ad: (!rng.chance(20)).then(|| (0..n).map(|_| quality(rng, extreme, 40)).collect()),
         pl,
     }

@@ -8,6 +8,7 @@ pub struct ListSample {
     pub gt: Option<(usize, usize)>,
     pub gq: Option<u32>,
     pub dp: Option<u32>,
+    pub min_dp: Option<u32>,
     pub ad: Option<Vec<u32>>,
     pub pl: Option<Vec<u32>>,
 }
@@ -35,6 +36,16 @@ pub struct List {
 }
 
 impl List {
+    /// How many blocks agree with the block before them, which they touch, in all but MIN_DP.
+    pub fn parted_by_min_dp(&self) -> usize {
+        let values = |r: &ListRecord| r.samples.iter().map(|s| ListSample { min_dp: None, ..s.clone() }).collect::<Vec<_>>();
+        let alike = |a: &ListRecord, b: &ListRecord| {
+            let touch = (&a.contig, a.last() + 1) == (&b.contig, b.pos) && a.ref_allele == b.ref_allele;
+            touch && a.ref_allele.len() == 1 && is_block(&a.alts) && is_block(&b.alts) && values(a) == values(b)
+        };
+        self.records.windows(2).filter(|w| alike(&w[0], &w[1])).count()
+    }
+
     /// The list as it is read: alleles in capitals.
     pub fn capitals(&self) -> List {
         let raised = |r: &ListRecord| ListRecord {
@@ -50,7 +61,7 @@ pub fn write_combined(list: &List) -> String {
     write_list(list, true)
 }
 
-/// The lines of the combined list without `end` and `gt`.
+/// The lines of the combined list without `end`, `gt` and `mindp`.
 pub fn write_called(list: &List) -> String {
     write_list(list, false)
 }
@@ -76,6 +87,9 @@ fn write_list(list: &List, combined: bool) -> String {
             }
             line(&mut out, "gq", or_dot(s.gq));
             line(&mut out, "dp", or_dot(s.dp));
+            if combined {
+                line(&mut out, "mindp", or_dot(s.min_dp));
+            }
             line(&mut out, "ad", comma_or_dot(&s.ad));
             line(&mut out, "pl", comma_or_dot(&s.pl));
         }
@@ -129,6 +143,7 @@ fn read_record(lines: &mut Lines, samples: usize, rules: Rules) -> Result<ListRe
             gt: genotype(lines.value("gt")?, 1 + record.alts.len())?,
             gq: optional_number(lines.value("gq")?, rules)?,
             dp: optional_number(lines.value("dp")?, rules)?,
+            min_dp: optional_number(lines.value("mindp")?, rules)?,
             ad: optional_numbers(lines.value("ad")?, rules)?,
             pl: optional_numbers(lines.value("pl")?, rules)?,
         });

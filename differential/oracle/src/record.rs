@@ -1,7 +1,7 @@
 //! The recorded answers: made from a seed, and held against the Rust again.
 
 use crate::alleles::{answer_group, answer_text, KINDS};
-use crate::by_hand::{HandCohort, COHORTS, COMBINED_LISTS, GROUPS, LETTERS, NESTED, SPELLED_LISTS, SPELLINGS};
+use crate::by_hand::{HandCohort, COHORTS, COMBINED_LISTS, GROUPS, LETTERS, MIN_DPS, MIN_DP_LISTS, NESTED, SPELLED_LISTS, SPELLINGS};
 use crate::call::{call, call_by_the_whole, sums_fit, without_depths};
 use crate::cohort::{read_cohort, Lent};
 use crate::combine::combine;
@@ -43,7 +43,7 @@ const LARGEST_FILE: usize = 65_535;
 const MOST_BREAKPOINTS: usize = 8192;
 
 /// The recorded files stay readable: most lists are below this size.
-const READABLE: usize = 24_000;
+const READABLE: usize = 25_000;
 
 type Files = Vec<(String, String)>;
 
@@ -97,7 +97,7 @@ fn record_combine(folder: &Path, seed: u64) -> Result<Vec<(usize, String)>, Stri
         write_folder(&folder.join(format!("combine/{number:03}")), &files)?;
         index.push_str(&format!("{number:03} {from}{}\n", by_model(lent)));
         // combined lists for `call` come from the other sorts
-        let others = ["nested", "letters", "spelling"];
+        let others = ["nested", "letters", "spelling", "MIN_DP"];
         if !others.iter().any(|sort| from.starts_with(sort)) && !NESTED.iter().any(|hand| from.ends_with(hand.shows)) {
             lists.push((number, text));
         }
@@ -138,6 +138,10 @@ fn record_combine(folder: &Path, seed: u64) -> Result<Vec<(usize, String)>, Stri
     for hand in SPELLINGS {
         let (lent, text) = hand_list(hand)?;
         keep(&lent, text, format!("spelling by hand: {}", hand.shows))?;
+    }
+    for hand in MIN_DPS {
+        let (lent, text) = hand_list(hand)?;
+        keep(&lent, text, format!("MIN_DP by hand: {}", hand.shows))?;
     }
     write_file(&folder.join("combine/INDEX.txt"), &index)?;
     Ok(lists)
@@ -182,7 +186,7 @@ fn case_seed(seed: u64, sort: &str, case: u64) -> u64 {
     mix(named.wrapping_add(case)) >> 24
 }
 
-/// A call by hand and its list, whose records begin as the answer by hand says.
+/// A call by hand and its list, whose records begin and have the MIN_DPs as the answer by hand says.
 fn hand_list(hand: &HandCohort) -> Result<(Lent, String), String> {
     let lent = hand_cohort(hand)?;
     let (list, text) = combined(&lent).map_err(|e| format!("{}: {e}", hand.shows))?;
@@ -190,6 +194,10 @@ fn hand_list(hand: &HandCohort) -> Result<(Lent, String), String> {
     let heads: Vec<String> = list.records.iter().map(head).collect();
     if !hand.heads.is_empty() && heads != hand.heads {
         return Err(format!("{}: {heads:?} is not what was expected", hand.shows));
+    }
+    let min_dps: Vec<String> = list.records.iter().flat_map(|r| &r.samples).map(|s| or_dot(s.min_dp)).collect();
+    if !hand.min_dps.is_empty() && min_dps != hand.min_dps {
+        return Err(format!("{}: MIN_DP {min_dps:?} is not what was expected", hand.shows));
     }
     Ok((lent, text))
 }
@@ -201,7 +209,7 @@ fn hand_cohort(hand: &HandCohort) -> Result<Lent, String> {
         &mut text,
         hand.sites,
         &[
-            "site", "contig", "start", "end", "ref", "alt", "gq", "dp", "ad", "pl",
+            "site", "contig", "start", "end", "ref", "alt", "gq", "dp", "mindp", "ad", "pl",
         ],
     );
     let mut lent = Lent {
@@ -265,7 +273,7 @@ fn record_call(folder: &Path, seed: u64, lists: &[(usize, String)]) -> Result<()
             made += 1;
         }
     }
-    for (shows, text) in SPELLED_LISTS {
+    for (shows, text) in SPELLED_LISTS.iter().chain(MIN_DP_LISTS) {
         keep(text, format!("by hand: {shows}"))?;
     }
     write_file(&folder.join("call/INDEX.txt"), &index)

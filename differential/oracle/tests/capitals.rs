@@ -50,7 +50,7 @@ fn a_list_is_raised_line_by_line() {
 
 fn site(reference: &str, alt: &str) -> Option<u8> {
     let end = 4 + reference.len();
-    let text = format!("samples=1\nsample=S\nsite=0\ncontig=c\nstart=5\nend={end}\nref={reference}\nalt={alt}\ngq=.\ndp=.\nad=.\npl=.\n");
+    let text = format!("samples=1\nsample=S\nsite=0\ncontig=c\nstart=5\nend={end}\nref={reference}\nalt={alt}\ngq=.\ndp=.\nmindp=.\nad=.\npl=.\n");
     read_cohort(&text, Rules::On).err().map(|r| r.number)
 }
 

@@ -1,5 +1,5 @@
 //! Each input `differences/row-NN-..` is refused with NN by the oracle's own check; and what the
-//! Rust does with values that the texts cannot hold.
+//! Rust does with other FORMAT keys, of which the texts hold MIN_DP, and with a GQ that they cannot hold.
 
 use gatk_haplotypecaller::combine_gvcfs::{combine_loaded_gvcfs, GvcfSite, LoadedGvcf};
 use oracle::cohort::Lent;

@@ -14,6 +14,7 @@ fn block(sample: usize, contig: &str, start: u64, end: u64, number: u32) -> Site
         alts: vec!["<NON_REF>".to_string()],
         gq: Some(number),
         dp: None,
+        min_dp: None,
         ad: None,
         pl: None,
     }
