@@ -26,7 +26,7 @@ use Rattle.tables.proofs.NumberLists.{in-text}
 use Rattle.tables.proofs.SameSites.{same-columns}
 use Rattle.tables.proofs.Stored.{drop-sets, get-before, get-here, map-same, one-more}
 use Rattle.tables.proofs.StoredLists.{first-half, second-half}
-use Rattle.tables.specs.Tables.{SiteRows, codeOption, column, dpAt, halfAt, isStored, minDpAt, numbersAt, partAt, siteAt}
+use Rattle.tables.specs.Tables.{SiteRows, codeOption, column, depthAt, dpAt, halfAt, isStored, minDpAt, numbersAt, partAt, siteAt}
 use Rattle.cohort.proofs.Contigs.{names-length}
 use Rattle.cohort.specs.Cohort.{ContigsNumbered, contigNames, firstOn, rowOf, sitesIn}
 
@@ -135,7 +135,7 @@ module _ (s rows : List ℕ) (count : ℕ) (p : SitePlace) (contig : ℕ) (a : S
 
   -- DP and MIN_DP share a column
   depths-here : v .dp < 4294967296 → (dpAt after count ≡ codeOption (v .dp)) × (minDpAt after count ≡ codeOption (v .mindp))
-  unfolding dpAt minDpAt
+  unfolding depthAt
   depths-here small = (
     ap codeOption (ap (halfAt 0) (here 6 (omega arith)) ∙ first-half (v .dp) (v .mindp) small),
     ap codeOption (ap (halfAt 1) (here 6 (omega arith)) ∙ second-half (v .dp) (v .mindp) small),

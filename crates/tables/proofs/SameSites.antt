@@ -11,14 +11,14 @@ use Rattle.definitions.specs.Cohort.{Site}
 use Rattle.definitions.specs.Lists.{numbersFrom}
 use Rattle.tables.proofs.NumberLists.{in-row, in-text, stored-few}
 use Rattle.tables.proofs.Stored.{map-same}
-use Rattle.tables.specs.Tables.{SiteRows, adAt, column, dpAt, isStored, minDpAt, numbersAt, partAt, plAt, siteAt, storedNumber, storedNumbers}
+use Rattle.tables.specs.Tables.{SiteRows, adAt, column, depthAt, isStored, numbersAt, partAt, plAt, siteAt, storedNumber, storedNumbers}
 
 -- ---- one row
 
 -- a site is what its first 13 columns and its two lists say
 pub same-site-by : (s rows after : List ℕ) (site : ℕ) → ((k : ℕ) → k < 13 → column k after site ≡ column k rows site)
     → adAt s after site ≡ adAt s rows site → plAt s after site ≡ plAt s rows site → siteAt s after site ≡ siteAt s rows site
-unfolding siteAt partAt dpAt minDpAt
+unfolding siteAt partAt depthAt
 same-site-by s rows after site same ad pl = rw (
   same 0 (omega arith),
   same 2 (omega arith),

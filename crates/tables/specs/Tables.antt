@@ -51,11 +51,14 @@ unfoldable pub halfAt : ℕ → ℕ → ℕ
 halfAt i n = cond (eqb (i % 2) 0) (n % 4294967296) (n / 4294967296)
 
 -- DP and MIN_DP share a number of the row in the same way
-unfoldable pub dpAt : List ℕ → ℕ → Option ℕ
-dpAt rows site = codeOption (halfAt 0 (column 6 rows site))
+unfoldable pub depthAt : ℕ → List ℕ → ℕ → Option ℕ
+depthAt half rows site = codeOption (halfAt half (column 6 rows site))
 
-unfoldable pub minDpAt : List ℕ → ℕ → Option ℕ
-minDpAt rows site = codeOption (halfAt 1 (column 6 rows site))
+abbrev pub dpAt : List ℕ → ℕ → Option ℕ
+dpAt = depthAt 0
+
+abbrev pub minDpAt : List ℕ → ℕ → Option ℕ
+minDpAt = depthAt 1
 
 -- the numbers that stand in the row: the column has how many they are, and those behind it hold two each
 unfoldable pub storedNumber : ℕ → List ℕ → ℕ → ℕ → ℕ

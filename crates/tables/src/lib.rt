@@ -12,7 +12,7 @@ ghost use Rattle.definitions.specs.Bytes.{comma, fieldsOf};
 ghost use Rattle.definitions.specs.Numbers.{numberList};
 ghost use Rattle.kv_text.specs.Fields.{between, firstNumbers};
 ghost use Rattle.kv_write.specs.Optional.{optionOf};
-ghost use Rattle.tables.specs.Tables.{adAt, codeOption, column, dpAt, firstNumbersAt, halfAt, isStored, listColumns, minDpAt, numbersAt, partAt, plAt, segmentColumn, segmentCount, segmentsNext, storedNumbers, withNumbers, wordOf};
+ghost use Rattle.tables.specs.Tables.{adAt, codeOption, column, depthAt, dpAt, firstNumbersAt, halfAt, isStored, listColumns, minDpAt, numbersAt, partAt, plAt, segmentColumn, segmentCount, segmentsNext, storedNumbers, withNumbers, wordOf};
 use bio_ids::GenomePosition;
 use bio_ids::SampleIndex;
 use kv_text::NumbersRead;
@@ -147,20 +147,26 @@ pub fn gq_of(rows: &[usize], site: usize) -> OptionalNumber
     optional(column(rows, site, 5))
 }
 
+// The depth in a half of the column that DP and MIN_DP share.
+fn depth_of(rows: &[usize], site: usize, half: usize) -> OptionalNumber
+    ensures { λ r. ⌜ optionOf r ≡ depthAt half (now (rows .entry)) site ⌝ }
+{
+    let depths = column(rows, site, 6);
+    optional(half_at(depths, half) as usize)
+}
+
 // The site's DP.
 pub fn dp_of(rows: &[usize], site: usize) -> OptionalNumber
     ensures { λ r. ⌜ optionOf r ≡ dpAt (now (rows .entry)) site ⌝ }
 {
-    let depths = column(rows, site, 6);
-    optional(half_at(depths, 0) as usize)
+    depth_of(rows, site, 0)
 }
 
 // The site's MIN_DP.
 pub fn min_dp_of(rows: &[usize], site: usize) -> OptionalNumber
     ensures { λ r. ⌜ optionOf r ≡ minDpAt (now (rows .entry)) site ⌝ }
 {
-    let depths = column(rows, site, 6);
-    optional(half_at(depths, 1) as usize)
+    depth_of(rows, site, 1)
 }
 
 // The part of the text between the offsets in two columns.

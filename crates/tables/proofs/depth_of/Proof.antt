@@ -1,8 +1,8 @@
--- The second half of its column.
+-- By its column.
 use borrow.Author.Needs.{needs}
-use Rattle.tables.specs.Tables.{minDpAt}
-use Rattle.tables.proofs.min_dp_of.Statement.{statement}
-use Rattle.tables.proofs.min_dp_of.Tie as tie
+use Rattle.tables.specs.Tables.{depthAt}
+use Rattle.tables.proofs.depth_of.Statement.{statement}
+use Rattle.tables.proofs.depth_of.Tie as tie
 
 column-requires : tie.Need-column-requires
 column-requires c κs = search needs
@@ -17,8 +17,8 @@ optional-requires : tie.Need-optional-requires
 optional-requires c κs = search needs
 
 returns : tie.Need-returns
-unfolding minDpAt
+unfolding depthAt
 returns c = rw (← (c .before .before .column .ensures), ← (c .before .half-at .ensures)) (c .optional .ensures)
 
-pub min-dp-of-spec : {M : Type 1} → statement M
-min-dp-of-spec = tie.close (tie.spec column-requires half-at-requires cast-optional optional-requires returns)
+pub depth-of-spec : {M : Type 1} → statement M
+depth-of-spec = tie.close (tie.spec column-requires half-at-requires cast-optional optional-requires returns)
