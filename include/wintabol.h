@@ -36,7 +36,7 @@ size_t wintabol_looks(const uint8_t *cohort, size_t cohort_len,
                       const uint8_t *contig, size_t contig_len,
                       uint64_t *scratch, size_t scratch_len, size_t *figure);
 
-/* The called list of a combined list: without <NON_REF>, with PL, AD and GQ over what is left. Rows 1 to 8 and 14. */
+/* The called list of a combined list: without <NON_REF> and MIN_DP, with PL, AD and GQ over what is left. Rows 1 to 8 and 14. */
 size_t wintabol_call(const uint8_t *list, size_t list_len, uint8_t *out, size_t out_len, size_t *written);
 
 /* The alleles of a comma list, REF first, without their common ending. Rows 5 and 14. */

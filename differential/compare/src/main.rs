@@ -8,8 +8,8 @@ const USAGE: &str = "\
   compare combine SEED COUNT    COUNT cohorts of every sort through the Rust and through the library
   compare recorded FOLDER       the recorded cohorts, each with 0, 1, 2, B - 1, B and B + 1 places
   compare lists SEED COUNT FOLDER
-                                COUNT cohorts with overlapping sites of a sample, with letters needed and no reference, or with small
-                                letters, and the library's lists, into FOLDER, for model.py
+                                COUNT cohorts with overlapping sites of a sample, with letters needed and no reference, with small
+                                letters or with MIN_DP, and the library's lists, into FOLDER, for model.py
   compare looks SEED COUNT      COUNT cohorts, as they are and changed: the looks of every contig, counted once more
   compare call SEED COUNT       COUNT combined lists: the called list
   compare KIND SEED COUNT       COUNT groups; KIND is trim, likelihoods, gq, subset or unused_alts
