@@ -97,7 +97,7 @@ module _ (reference1 reference2 : Option (List ReferenceSegment)) (g : List ℕ)
     (covering1 covering2 : List Site) (ref1 ref2 : List ℕ) (made1 : mergedRef reference1 g q covering1 ≡ accepted ref1)
     (made2 : mergedRef reference2 g q covering2 ≡ accepted ref2)
     (there : (s : Site) → s ∈ covering1 → (t : Site) × (t ∈ covering2) × (unnumbered s ≡ unnumbered t)) where
-  prefix-extends : (s : Site) → s ∈ covering1 → startsAt q s ≡ true → (u : List ℕ) × (ref2 ≡ ref1 ++ u)
+  pub prefix-extends : (s : Site) → s ∈ covering1 → startsAt q s ≡ true → (u : List ℕ) × (ref2 ≡ ref1 ++ u)
   unfolding unnumbered startsAt siteRef
   prefix-extends s m h = go (ref-among reference1 g q covering1 ref1 made1 (member-any _ _ m h))
     where

@@ -20,7 +20,7 @@ unfolding isAccepted answerOf writtenOf
 zero-written (refused row) t e = clash refl t
 zero-written (accepted list) t e = ap {B = Checked ℕ} accepted (ap (λ (a : Answer). a .written) e)
 
-as-written : {t : Texts} {scratch scratch′ out out′ : List ℕ} {n : ℕ} → ExportedList t scratch scratch′ out out′ 0 n
+pub as-written : {t : Texts} {scratch scratch′ out out′ : List ℕ} {n : ℕ} → ExportedList t scratch scratch′ out out′ 0 n
     → Combined t scratch scratch′ out out′ (Written n)
 as-written call =
     record {

@@ -1,15 +1,19 @@
 -- Demand 3 at work, by computation: cohorts in which REF grows, a block is cut, samples are put in on all sides, values are
--- missing.
+-- missing. Last, two orders of one cohort, with a reference and without.
 use Prim.Native.Nat.{ℕ}
 use Prim.Native.String.{String}
-use lib.ListN.{length}
-use mathlib.Core.List.{List, [], _++_, _∷_, flatMap, flatten}
-use mathlib.Core.Option.{none, some}
-use mathlib.Core.Path.{refl}
+use lib.ListN.{getD, getElem?, length}
+use mathlib.Core.List.{List, [], _++_, _∷_, flatMap, flatten, map}
+use mathlib.Core.Option.{Option, Option·map, bind, none, some}
+use mathlib.Core.Path.{_≡_, refl}
+use Rattle.definitions.specs.Alleles.{Allele, allelesOf, nonRef, writtenAlleles}
 use Rattle.definitions.specs.Bytes.{text}
+use Rattle.definitions.specs.Checked.{Checked}
+use Rattle.definitions.specs.Genotypes.{AllelePair}
 use Rattle.definitions.specs.Lines.{line}
 use Rattle.definitions.specs.Numbers.{decimal}
-use Rattle.demands.proofs.TwoCalls.{TwoCalls, Worked, computed, worked}
+use Rattle.definitions.specs.Records.{Record}
+use Rattle.demands.proofs.TwoCalls.{OrdersDiffer, TwoCalls, Worked, WorkedOrders, computed, newList, oldList, orders-differ, recordsIn, worked, worked-orders}
 use Rattle.demands.proofs.WorkedCall.{CalledAs, called-as}
 
 -- ---- texts, written shortly
@@ -109,3 +113,82 @@ missing-values : Worked missingValues "10-10:A,G,<NON_REF> 11-16:N,<NON_REF>"
     "10-10:AT,A,GT,<NON_REF> 11-11:T,*,<NON_REF> 12-16:N,<NON_REF>"
 unfolding computed
 missing-values = worked missingValues tt tt (record { names = refl; sites = refl }) refl refl
+
+-- ---- two orders of one cohort: samples and sites stand in another order, and so do ALTs; S1 has a tie of PLs, at REF and GT and at REF
+-- and `<NON_REF>`, which is read for A, so that its GT is REF and GT in the one list and REF and A in the other
+
+abbrev tie : String → List ℕ
+tie = site "10" "10" "A" "G,<NON_REF>" "0" "8" "." "4,4,0" "40,0,50,0,70,80"
+
+abbrev bases : List ℕ
+bases = text "contig=c\nfirst=10\nbases=ATCGTAC\n"
+
+abbrev otherOrder : TwoCalls
+otherOrder = record {
+  old = cohort ("S0" ∷ "S1" ∷ "S2" ∷ []) (deletion "0" ∷ tie "1" ∷ block "2" ∷ []);
+  new = cohort ("S2" ∷ "S1" ∷ "S0" ∷ []) (tie "1" ∷ block "0" ∷ deletion "2" ∷ []);
+  clip = none;
+  oldReference = some bases;
+  newReference = some bases;
+}
+
+other-order : WorkedOrders otherOrder "10-10:AT,GT,A,<NON_REF> 11-11:T,*,<NON_REF> 12-16:C,<NON_REF>"
+    "10-10:AT,A,GT,<NON_REF> 11-11:T,*,<NON_REF> 12-16:C,<NON_REF>"
+unfolding computed
+other-order = worked-orders otherOrder bases refl refl tt tt (record { names-there = refl; names-back = refl; sites = refl }) refl refl
+
+-- the GT of a sample in each record of a list, as alleles
+abbrev gtsOf : ℕ → Checked (List ℕ) → List (Option (List ℕ))
+gtsOf k list = map (λ (r : Record). bind (getElem? (r .sampleData) k) λ v. Option·map (spelledGt (allelesOf (r .alleles))) (v .gt)) (recordsIn list)
+  where
+    spelledGt : List Allele → AllelePair → List ℕ
+    spelledGt alleles g = writtenAlleles (getD alleles (g .low) nonRef ∷ getD alleles (g .high) nonRef ∷ [])
+
+first-gts : gtsOf 1 (oldList otherOrder) ≡ some (text "AT,GT") ∷ none ∷ none ∷ []
+unfolding computed
+first-gts = refl
+
+second-gts : gtsOf 1 (newList otherOrder) ≡ some (text "AT,A") ∷ none ∷ none ∷ []
+unfolding computed
+second-gts = refl
+
+-- ---- the same where a corrected segment stands in front of the reference, and a sample has two sites, the nearer of which counts
+
+abbrev patched : List ℕ
+patched = text "contig=c\nfirst=11\nbases=NG\n" ++ bases
+
+abbrev overlapping : TwoCalls
+overlapping = record {
+  old = cohort ("S0" ∷ "S1" ∷ []) (block "0" ∷ deletion "1" ∷ insideBlock "0" ∷ []);
+  new = cohort ("S1" ∷ "S0" ∷ []) (block "1" ∷ insideBlock "1" ∷ deletion "0" ∷ []);
+  clip = some (text "contig=c\nstart=11\nend=14\n");
+  oldReference = some patched;
+  newReference = some patched;
+}
+
+overlapping-segments : WorkedOrders overlapping "11-11:N,*,<NON_REF> 12-12:C,T,<NON_REF> 13-14:G,<NON_REF>"
+    "11-11:N,*,<NON_REF> 12-12:C,T,<NON_REF> 13-14:G,<NON_REF>"
+unfolding computed
+overlapping-segments = worked-orders overlapping patched refl refl tt tt (record { names-there = refl; names-back = refl; sites = refl }) refl refl
+
+-- ---- without a reference two orders need not agree: at 12 both deletions have a letter, and the first sample's counts
+
+abbrev longDeletion : String → List ℕ
+longDeletion = site "10" "12" "ATC" "A,<NON_REF>" "30" "." "." "." "9,0,7,6,5,4"
+
+abbrev laterDeletion : String → List ℕ
+laterDeletion = site "11" "12" "TG" "T,<NON_REF>" "30" "." "." "." "9,0,7,6,5,4"
+
+abbrev noReference : TwoCalls
+noReference = record {
+  old = cohort ("S0" ∷ "S1" ∷ []) (longDeletion "0" ∷ laterDeletion "1" ∷ []);
+  new = cohort ("S1" ∷ "S0" ∷ []) (longDeletion "1" ∷ laterDeletion "0" ∷ []);
+  clip = none;
+  oldReference = none;
+  newReference = none;
+}
+
+no-reference : OrdersDiffer noReference "10-10:ATC,A,<NON_REF> 11-11:TG,T,*,<NON_REF> 12-12:C,*,<NON_REF>"
+    "10-10:ATC,A,<NON_REF> 11-11:TG,T,*,<NON_REF> 12-12:G,*,<NON_REF>"
+unfolding computed
+no-reference = orders-differ noReference (record { names-there = refl; names-back = refl; sites = refl }) refl refl refl

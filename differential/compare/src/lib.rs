@@ -10,6 +10,7 @@ pub mod groups;
 pub mod guarded;
 pub mod list_rows;
 pub mod looks;
+pub mod orders;
 pub mod ours;
 pub mod rows;
 pub mod spelling;

@@ -1,6 +1,6 @@
 //! The commands: generated inputs from a seed, so many of them, and the borders of the domain.
 
-use compare::{bad, borders, call, combine, demand3, groups, looks, spelling};
+use compare::{bad, borders, call, combine, demand3, groups, looks, orders, spelling};
 use std::path::Path;
 use std::process::ExitCode;
 
@@ -14,6 +14,7 @@ const USAGE: &str = "\
   compare call SEED COUNT       COUNT combined lists: the called list
   compare KIND SEED COUNT       COUNT groups; KIND is trim, likelihoods, gq, subset or unused_alts
   compare demand3 SEED COUNT    COUNT pairs of cohorts: what the first list says stands in the second
+  compare orders SEED COUNT     COUNT pairs of orders of one cohort, with a reference: the lists agree
   compare bad SEED COUNT        COUNT texts with faults: rows 1 to 9, buffers, nothing touched outside
   compare bad_list SEED COUNT   COUNT combined lists with faults: rows 1 to 8
   compare spelling              letters of either case, on purpose: lists
@@ -33,6 +34,7 @@ fn run(words: &[&str]) -> Result<String, String> {
         ["looks", seed, count] => looks::compare(number(seed)?, number(count)?),
         ["call", seed, count] => call::compare(number(seed)?, number(count)?),
         ["demand3", seed, count] => demand3::check(number(seed)?, number(count)?),
+        ["orders", seed, count] => orders::check(number(seed)?, number(count)?),
         ["bad", seed, count] => bad::check(number(seed)?, number(count)?),
         ["bad_list", seed, count] => bad::check_lists(number(seed)?, number(count)?),
         [kind, seed, count] => groups::compare(kind, number(seed)?, number(count)?),
