@@ -16,9 +16,12 @@ use Rattle.kv_text.proofs.Groups.{behind-next}
 use Rattle.kv_text.specs.Lines.{Behind, LineReads, lineValue}
 use Rattle.laws.proofs.Checked.{then, then-refused}
 use Rattle.sample_names.specs.Header.{HeaderTo}
+use Rattle.tables.proofs.Cleared.{scratch-same}
 use Rattle.tables.specs.Tables.{namesIn}
 use Rattle.list_walk.specs.Walk as walk
-use Rattle.list_walk.specs.Walk.{FigureRefused, FigureTo, headingOf}
+use Rattle.list_walk.specs.Walk.{FigureRead, FigureRefused, FigureTo, HeaderRead, headingOf}
+use Rattle.list_walk.specs.declared.HeaderAt.the-variants as header
+use Rattle.list_walk.specs.declared.HeaderAt.{HeaderAt}
 use Rattle.list_walk.specs.declared.ListHeader.{ListHeader}
 
 pub samples-refused : (s : List ℕ) (row : ℕ) → samplesOf (linesOf s) ≡ refused row → headingOf s ≡ refused row
@@ -49,3 +52,9 @@ module _ {s names₀ names : List ℕ} {samples at : ℕ} (held : HeaderTo s nam
     few = rw (f .samples-are) (held .few);
     rest = rw (f .same, f .samples-are) (held .rest);
   }
+
+  pub heading-read : (names′ : List ℕ) (r : HeaderAt) → length names ≡ length names₀ → FigureRead s samples at names names′ r
+      → HeaderRead s names₀ names′ r
+  unfolding FigureRead HeaderRead
+  heading-read names′ (header.Header h) same f = figure-read f
+  heading-read names′ (header.Refused row) same f = record { value = figure-refused f; cleared = f .cleared ∙ scratch-same names names₀ same }

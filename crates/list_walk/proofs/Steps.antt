@@ -29,15 +29,17 @@ use Rattle.list_walk.specs.declared.ListHeader.{ListHeader}
 some-groups : {L : Type 0} (size : ℕ) (l : List L) → 0 < size → 0 < length l
     → withMissing 0 (groupsOf size l) ≡ take size l ∷ groupsOf size (drop size l)
 unfolding withMissing
-some-groups size l h k = rw (append-nil (groupsOf size l)) (groups-cons size l h k)
+some-groups size l h k = rw (le-ltb (length (groupsOf size l)) 0 (omega arith), append-nil (groupsOf size l)) (groups-cons size l h k)
 
 -- one is missing, or there are lines
 missing-or-some : {L : Type 0} (size k : ℕ) (l : List L) → 0 < size → 0 < k
     → (later : List (List L)) × (withMissing k (groupsOf size l) ≡ take size l ∷ later)
 unfolding withMissing groupsOf groupsFrom
 missing-or-some size k [] h some = ([], rw (lt-ltb 0 k some, take-nil))
-missing-or-some size k (x ∷ l) h some =
-    (withMissing (k - 1) (groupsOf size (drop size (x ∷ l))), rw (groups-cons size (x ∷ l) h (omega arith)) (missing-next k _ _ some))
+missing-or-some size k (x ∷ l) h some = (
+  withMissing (k - 1) (groupsOf size (drop size (x ∷ l))),
+  rw (groups-cons size (x ∷ l) h (omega arith)) (missing-next k (take size (x ∷ l)) (groupsOf size (drop size (x ∷ l))) some),
+)
 
 module _ (s : List ℕ) (h : ListHeader) (c : ListCursor) where
   some-size : 0 < groupLines (h .samples)
