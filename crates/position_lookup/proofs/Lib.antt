@@ -3,3 +3,4 @@ pub mod Holding
 pub mod Reaching
 pub mod Copying
 pub mod Searching
+pub mod Giving

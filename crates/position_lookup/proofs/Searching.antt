@@ -157,7 +157,8 @@ module _ (s : List ℕ) (h : ListHeader) (asked found₀ : List ℕ) (ready : Pa
           pub searching-stands : Stands s w′
           searching-stands = record { before = now-at .read; at = now-at .at }
 
-          pub searching-next : {number : ℕ} → number ≡ Option·getD (heldBy (placeIn asked p) (now-at .read)) noRecord
+          pub searching-next : {number : ℕ}
+              → ((stands : Stands s w′) → number ≡ Option·getD (heldBy (placeIn asked p) (stands .before)) noRecord)
               → Searching w′ (p .next) (count + 1) (set found count number)
           unfolding lookOn
           searching-next e = record {
@@ -167,7 +168,7 @@ module _ (s : List ℕ) (h : ListHeader) (asked found₀ : List ℕ) (ready : Pa
             done = g .done ++ (heldBy (placeIn asked p) (now-at .read) ∷ []);
             count-is = simp length-append (omega (arith, g .count-is));
             few = simp length-append (omega (arith, g .few, ap length (the-next .first)));
-            stored = stored-next found₀ (g .done) (heldBy (placeIn asked p) (now-at .read)) (g .stored) (g .count-is) e;
+            stored = stored-next found₀ (g .done) (heldBy (placeIn asked p) (now-at .read)) (g .stored) (g .count-is) (e (record { before = now-at .read; at = now-at .at }));
             read = now-at .read;
             stands = now-at .at;
             value =

@@ -1,29 +1,36 @@
+-- The numbers at the front of the table, if the output has room for them.
+use Rattle.position_lookup.specs.Found.{FoundGiven}
 use borrow.Author.Needs.{needs}
+use lib.ListN.{length-take}
+use mathlib.Core.Path.{refl}
+use native.Mathlib.Omega.{arith}
 use Rattle.position_lookup.proofs.give_found.Statement.{statement}
 use Rattle.position_lookup.proofs.give_found.Tie as tie
-use Rattle.position_lookup.proofs.give_found.Reads as reads
-use Rattle.position_lookup.proofs.give_found.Lts as lts
-use Rattle.position_lookup.proofs.copy_numbers.Reads as copy-numbers-reads
 
--- src/lib.rt:183:9
 returns : tie.Need-returns
-returns c = ?
+unfolding FoundGiven
+returns c = (refl, (c .if1 .taken), refl)
 
--- src/lib.rt:185:18
 slice-aggregate-copy-numbers : tie.Need-slice-aggregate-copy-numbers
-slice-aggregate-copy-numbers c = ?
+slice-aggregate-copy-numbers c =
+    let at-pre = c .before .before .before .before in
+    simp length-take (omega (arith, (at-pre .pre)))
 
--- src/lib.rt:185:5
 copy-numbers-requires : tie.Need-copy-numbers-requires
-copy-numbers-requires c κs = ?
+copy-numbers-requires c κs =
+    let at-if1 = c .before .before in
+    let at-pre = at-if1 .before .before .before in
+    simp length-take (omega (arith, (at-if1 .if1 .left), (at-pre .pre)))
 
--- src/lib.rt:178:1
 same-length : tie.Need-same-length
 same-length c = search needs
 
--- src/lib.rt:178:1
 returns-2 : tie.Need-returns-2
-returns-2 c = ?
+unfolding FoundGiven
+returns-2 c =
+    let at-copy-numbers = c .before .before in
+    let at-if1 = at-copy-numbers .before .before .before in
+    (refl, refl, (at-if1 .if1 .left), (at-copy-numbers .copy-numbers .ensures))
 
 pub give-found-spec : {M : Type 1} → statement M
 give-found-spec =
