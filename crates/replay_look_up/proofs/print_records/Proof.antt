@@ -1,46 +1,41 @@
+-- Safe and ending.
+use Prim.Native.Nat.{_-_}
+use borrow.Author.Needs.{needs}
+use lib.ListN.{length}
+use mathlib.Core.Path.{_≡_, refl}
+use native.Mathlib.Omega.{arith}
 use Rattle.replay_look_up.proofs.print_records.Statement.{statement}
 use Rattle.replay_look_up.proofs.print_records.Tie as tie
-use Rattle.replay_look_up.proofs.print_records.Reads as reads
-use Rattle.replay_look_up.proofs.print_records.Lts as lts
-use Rattle.replay_look_up.proofs.print_record.Reads as print-record-reads
 
 abbrev Inv-loop : tie.InvT-loop
-Inv-loop out count i₀ i-end i = ?
+Inv-loop out count i₀ i-end i = i-end ≡ length out
 
 abbrev μ-loop : tie.MeasureT-loop
-μ-loop out count i₀ i-end i = ?
+μ-loop out count i₀ i-end i = i-end - i
 
--- src/main.rt:49:5
 loop-holds : tie.Need-loop-holds Inv-loop μ-loop
-loop-holds c = ?
+loop-holds c = refl
 
--- src/main.rt:51:26
 mul-print-record : tie.Need-mul-print-record Inv-loop μ-loop
-mul-print-record c = ?
+mul-print-record c = search needs
 
--- src/main.rt:51:26
 shared-slice-read-print-record : tie.Need-shared-slice-read-print-record Inv-loop μ-loop
-shared-slice-read-print-record c = ?
+shared-slice-read-print-record c = omega arith
 
--- src/main.rt:51:13
 print-record-requires : tie.Need-print-record-requires Inv-loop μ-loop
-print-record-requires c κs = ?
+print-record-requires c κs = search needs
 
--- src/main.rt:49:9
 add-i : tie.Need-add-i Inv-loop μ-loop
-add-i c = ?
+add-i c = omega arith
 
--- src/main.rt:49:5
 loop-less : tie.Need-loop-less Inv-loop μ-loop
-loop-less c = ?
+loop-less c = omega arith
 
--- src/main.rt:49:5
 loop-again : tie.Need-loop-again Inv-loop μ-loop
-loop-again c = ?
+loop-again c = search needs
 
--- src/main.rt:48:1
 returns : tie.Need-returns Inv-loop μ-loop
-returns c = ?
+returns c = tt
 
 pub print-records-spec : {M : Type 1} → statement M
 print-records-spec =

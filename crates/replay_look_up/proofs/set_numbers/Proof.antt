@@ -1,45 +1,41 @@
+-- Safe and ending; the places keep their number.
+use Prim.Native.Nat.{_-_}
+use borrow.Author.Needs.{needs}
+use lib.ListN.{length, length-set}
+use mathlib.Core.Path.{_≡_, refl}
+use native.Mathlib.Omega.{arith}
 use Rattle.replay_look_up.proofs.set_numbers.Statement.{statement}
 use Rattle.replay_look_up.proofs.set_numbers.Tie as tie
-use Rattle.replay_look_up.proofs.set_numbers.Reads as reads
-use Rattle.replay_look_up.proofs.set_numbers.Lts as lts
 
 abbrev Inv-loop : tie.InvT-loop
-Inv-loop out₀ i₀ i-end out i = ?
+Inv-loop out₀ i₀ i-end out i = (length out ≡ length out₀) × (i-end ≡ length out₀)
 
 abbrev μ-loop : tie.MeasureT-loop
-μ-loop out₀ i₀ i-end out i = ?
+μ-loop out₀ i₀ i-end out i = i-end - i
 
--- src/main.rt:22:5
 loop-holds : tie.Need-loop-holds Inv-loop μ-loop
-loop-holds c = ?
+loop-holds c = (refl, refl)
 
--- src/main.rt:23:9
 mul-out : tie.Need-mul-out Inv-loop μ-loop
-mul-out c = ?
+mul-out c = search needs
 
--- src/main.rt:23:9
 slice-write-out : tie.Need-slice-write-out Inv-loop μ-loop
-slice-write-out c = ?
+slice-write-out c = omega arith
 
--- src/main.rt:22:9
 add-i : tie.Need-add-i Inv-loop μ-loop
-add-i c = ?
+add-i c = omega arith
 
--- src/main.rt:22:5
 loop-less : tie.Need-loop-less Inv-loop μ-loop
-loop-less c = ?
+loop-less c = omega arith
 
--- src/main.rt:22:5
 loop-again : tie.Need-loop-again Inv-loop μ-loop
-loop-again c = ?
+loop-again c = (simp length-set (c .before .loop .inv .0), c .before .loop .inv .1)
 
--- src/main.rt:21:1
 same-length : tie.Need-same-length Inv-loop μ-loop
-same-length c = ?
+same-length c = c .before .loop .inv .0
 
--- src/main.rt:21:1
 returns : tie.Need-returns Inv-loop μ-loop
-returns c = ?
+returns c = tt
 
 pub set-numbers-spec : {M : Type 1} → statement M
 set-numbers-spec =
