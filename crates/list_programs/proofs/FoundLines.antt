@@ -79,7 +79,7 @@ right-found s asked l e =
     let most : length records ≤ count = small-last _ _ (lastOf places) records _ r in
     rw (← accepted-same e)
     (record {
-      small = every-of-map _ (every-all (λ place. if-there {A = ℕ} {P = λ i. i < length records} {Q = λ i. i < noRecord} _ (λ i h. omega arith) (index-below (holdsPlace place) records)) places);
+      small = every-of-map _ (every-all (λ place. if-there {A = ℕ} {P = λ i. i < length records} {Q = λ i. i < noRecord} (indexWhere (holdsPlace place) records) (λ i h. omega arith) (index-below (holdsPlace place) records)) places);
       few = rw (length-map places _) (places-few asked places p);
     })
 
@@ -173,6 +173,20 @@ module _ (s asked : List ℕ) {found₀ found : List ℕ} where
             short = rw (numbers, lines) (omega (arith, right .few));
             lines = rw (numbers, lines, g-is);
           }
+
+  -- the same for a table of 1,024 places
+  pub refused-in : (places row : ℕ) → places ≡ maxPlaces → Gives (lookUpWithin s asked places) found₀ found (lookup.Refused row)
+      → lookUp s asked ≡ refused row
+  refused-in places row e g = refused-found row (rw e at g)
+
+  pub found-in : (places n groups : ℕ) → places ≡ maxPlaces → Gives (lookUpWithin s asked places) found₀ found (lookup.Found n groups)
+      → Found s asked found n groups
+  found-in places n groups e g = some-found n groups (rw e at g)
+
+-- so many numbers stand at the table's front
+pub taken-size : {s asked found : List ℕ} {n groups : ℕ} → Found s asked found n groups → n ≡ length (take n found)
+unfolding foundNumbers
+taken-size f = f .count ∙ sym (length-map (f .answer .found) _) ∙ sym (ap length (f .numbers))
 
 -- ---- the files
 

@@ -7,6 +7,7 @@ ghost use Prim.Native.Nat.{_≤_};
 ghost use lib.ListN.{length};
 ghost use mathlib.Core.Path.{_≡_};
 ghost use Rattle.definitions.specs.Answers.{lookUpFiles, printedLookedUp};
+ghost use Rattle.definitions.specs.Checked.{refused};
 ghost use Rattle.files.specs.FileTexts.{readText};
 ghost use Rattle.files.specs.Printing.{Printed};
 ghost use Rattle.kv_write.specs.Laid.{Laid};
@@ -44,13 +45,20 @@ fn put_records(numbers: &[u32], out: &mut [u8]) -> usize
     at
 }
 
-// The same, and a line `groups` behind them.
-fn put_found(numbers: &[u32], groups: u32, out: &mut [u8]) -> usize
+// Makes what `look_up` prints of these numbers, and a line `groups` behind them. The answer is how many bytes it has.
+fn put_found(numbers: &[u32], groups: u32, list: &mut [u8; 65536]) -> usize
     requires { ⌜ length (answerLines (now numbers)) ≤ mostBytes ⌝ }
-    ensures { λ r. ⌜ Laid (now (out .entry)) 0 (foundLines (now (numbers .entry)) groups) (now (out .exit)) r ⌝ }
+    ensures { λ r. ⌜ Printed (foundLines (now (numbers .entry)) groups) (now (list .entry)) (now (list .exit)) r ⌝ }
 {
-    let at = put_records(numbers, out);
-    kv_write::put_number_line(out, at, b"groups=", groups)
+    let at = put_records(numbers, list);
+    kv_write::put_number_line(list, at, b"groups=", groups)
+}
+
+// The same for a refusal.
+fn put_row(row: usize, list: &mut [u8; 65536]) -> usize
+    ensures { λ r. ⌜ Printed (printedLookedUp (refused row)) (now (list .entry)) (now (list .exit)) r ⌝ }
+{
+    files::put_refusal(list, row)
 }
 
 // What `look_up` prints for the files that were read, made in the list's buffer. The answer is how many bytes it has.
@@ -66,10 +74,10 @@ pub fn look_up_program(
         (now (list .entry)) (now (list .exit)) r ⌝ }
 {
     if is_too_long(of_combined) {
-        return files::put_refusal(list, 2);
+        return put_row(2, list);
     }
     if is_too_long(of_places) {
-        return files::put_refusal(list, 2);
+        return put_row(2, list);
     }
     let mut found = [0u32; 1024];
     let answer = position_lookup::look_up(
@@ -78,7 +86,7 @@ pub fn look_up_program(
         &mut found,
     );
     match answer {
-        Lookup::Refused(row) => files::put_refusal(list, row),
+        Lookup::Refused(row) => put_row(row, list),
         Lookup::Found(count, groups) => put_found(&found[..count], groups, list),
     }
 }

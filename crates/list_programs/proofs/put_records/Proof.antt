@@ -1,60 +1,69 @@
+-- The lines of the numbers from i on are left.
+use Prim.Native.Nat.{_-_}
+use Rattle.definitions.specs.Bytes.{text}
+use Rattle.kv_write.proofs.Laying.{Left, left-length}
+use Rattle.list_programs.proofs.FoundLines.{line-laid, line-room, lines-laid, lines-start}
+use Rattle.list_programs.specs.FoundLines.{answerLines}
+use borrow.Author.Needs.{needs}
+use lib.ListN.{drop}
 use Rattle.list_programs.proofs.put_records.Statement.{statement}
 use Rattle.list_programs.proofs.put_records.Tie as tie
-use Rattle.list_programs.proofs.put_records.Reads as reads
-use Rattle.list_programs.proofs.put_records.Lts as lts
-use Rattle.kv_write.proofs.put_optional_number_line.Reads as put-optional-number-line-reads
-use Rattle.list_programs.proofs.record_number.Reads as record-number-reads
 
 abbrev Inv-loop : tie.InvT-loop
-Inv-loop numbers out₀ at₀ i₀ t7 i-end out at i = ?
+Inv-loop numbers out₀ at₀ i₀ t7 i-end out at i = Left out₀ 0 (answerLines numbers) out at (answerLines (drop i numbers))
 
 abbrev μ-loop : tie.MeasureT-loop
-μ-loop numbers out₀ at₀ i₀ t7 i-end out at i = ?
+μ-loop numbers out₀ at₀ i₀ t7 i-end out at i = i-end - i
 
--- src/lib.rt:39:5
 loop-holds : tie.Need-loop-holds Inv-loop μ-loop
-loop-holds c = ?
+loop-holds c =
+    let at-pre = c .before .before in
+    lines-start _ _ (at-pre .pre)
 
--- src/lib.rt:40:17
 mul-n : tie.Need-mul-n Inv-loop μ-loop
-mul-n c = ?
+mul-n c = search needs
 
--- src/lib.rt:40:17
 shared-slice-read-n : tie.Need-shared-slice-read-n Inv-loop μ-loop
-shared-slice-read-n c = ?
+shared-slice-read-n c = search needs
 
--- src/lib.rt:41:13
 record-number-requires : tie.Need-record-number-requires Inv-loop μ-loop
-record-number-requires c κs = ?
+record-number-requires c κs = search needs
 
--- src/lib.rt:42:58
-slice-aggregate-put-optional-number-line :
-    tie.Need-slice-aggregate-put-optional-number-line Inv-loop μ-loop
-slice-aggregate-put-optional-number-line c = ?
+slice-aggregate-put-optional-number-line : tie.Need-slice-aggregate-put-optional-number-line Inv-loop μ-loop
+slice-aggregate-put-optional-number-line c = search needs
 
--- src/lib.rt:42:9
 put-optional-number-line-requires : tie.Need-put-optional-number-line-requires Inv-loop μ-loop
-put-optional-number-line-requires c κs = ?
+unfolding text
+put-optional-number-line-requires c κs =
+    let at-record-number = c .before .before in
+    let at-loop-test = at-record-number .before .before in
+    let at-loop = at-loop-test .before in
+    line-room _ (at-loop .loop .inv) (at-loop-test .loop-test .taken) (at-record-number .record-number .ensures)
 
--- src/lib.rt:39:9
 add-i : tie.Need-add-i Inv-loop μ-loop
-add-i c = ?
+add-i c = search needs
 
--- src/lib.rt:39:5
 loop-less : tie.Need-loop-less Inv-loop μ-loop
-loop-less c = ?
+loop-less c = search needs
 
--- src/lib.rt:39:5
 loop-again : tie.Need-loop-again Inv-loop μ-loop
-loop-again c = ?
+unfolding text
+loop-again c =
+    let at-put-optional-number-line = c .before .before in
+    let at-record-number = at-put-optional-number-line .before .before .before in
+    let at-loop-test = at-record-number .before .before in
+    let at-loop = at-loop-test .before in
+    line-laid _ (at-loop .loop .inv) (at-loop-test .loop-test .taken) (at-record-number .record-number .ensures) (at-put-optional-number-line .put-optional-number-line .ensures)
 
--- src/lib.rt:34:1
 same-length : tie.Need-same-length Inv-loop μ-loop
-same-length c = ?
+same-length c =
+    let at-loop = c .before in
+    left-length (at-loop .loop .inv)
 
--- src/lib.rt:34:1
 returns : tie.Need-returns Inv-loop μ-loop
-returns c = ?
+returns c =
+    let at-loop = c .before in
+    lines-laid _ (at-loop .loop .inv) (c .loop-test .left)
 
 pub put-records-spec : {M : Type 1} → statement M
 put-records-spec =

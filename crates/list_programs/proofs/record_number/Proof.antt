@@ -1,15 +1,17 @@
+-- By the one number that stands for none.
+use Rattle.definitions.specs.Lists.{onlyIf}
+use Rattle.list_programs.specs.FoundLines.{recordOption}
+use borrow.Author.Tests.{eq-eqb, ne-eqb}
 use Rattle.list_programs.proofs.record_number.Statement.{statement}
 use Rattle.list_programs.proofs.record_number.Tie as tie
-use Rattle.list_programs.proofs.record_number.Reads as reads
-use Rattle.list_programs.proofs.record_number.Lts as lts
 
--- src/lib.rt:28:9
 returns : tie.Need-returns
-returns c = ?
+unfolding recordOption onlyIf
+returns c = rw (eq-eqb _ _ (c .if1 .taken))
 
--- src/lib.rt:24:1
 returns-2 : tie.Need-returns-2
-returns-2 c = ?
+unfolding recordOption onlyIf
+returns-2 c = rw (ne-eqb _ _ (c .if1 .left))
 
 pub record-number-spec : {M : Type 1} → statement M
 record-number-spec = tie.close (tie.spec returns returns-2)
