@@ -79,7 +79,8 @@ right-found s asked l e =
     let most : length records ≤ count = small-last _ _ (lastOf places) records _ r in
     rw (← accepted-same e)
     (record {
-      small = every-of-map _ (every-all (λ place. if-there {A = ℕ} {P = λ i. i < length records} {Q = λ i. i < noRecord} (indexWhere (holdsPlace place) records) (λ i h. omega arith) (index-below (holdsPlace place) records)) places);
+      small = every-of-map _ (every-all (λ place. if-there {A = ℕ} {P = λ i. i < length records} {Q = λ i. i < noRecord}
+          (indexWhere (holdsPlace place) records) (λ i h. omega arith) (index-below (holdsPlace place) records)) places);
       few = rw (length-map places _) (places-few asked places p);
     })
 

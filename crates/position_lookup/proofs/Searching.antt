@@ -168,7 +168,8 @@ module _ (s : List ℕ) (h : ListHeader) (asked found₀ : List ℕ) (ready : Pa
             done = g .done ++ (heldBy (placeIn asked p) (now-at .read) ∷ []);
             count-is = simp length-append (omega (arith, g .count-is));
             few = simp length-append (omega (arith, g .few, ap length (the-next .first)));
-            stored = stored-next found₀ (g .done) (heldBy (placeIn asked p) (now-at .read)) (g .stored) (g .count-is) (e (record { before = now-at .read; at = now-at .at }));
+            stored = stored-next found₀ (g .done) (heldBy (placeIn asked p) (now-at .read)) (g .stored) (g .count-is)
+                (e (record { before = now-at .read; at = now-at .at }));
             read = now-at .read;
             stands = now-at .at;
             value =

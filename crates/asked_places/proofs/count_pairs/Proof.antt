@@ -68,7 +68,8 @@ returns-3 c =
     let at-loop-test = at-pair-at .before in
     let at-loop = at-loop-test .before in
     let told = rw ((at-part .part .ensures), (at-part2 .part2 .ensures)) at (sym (at-not-after .not-after .ensures)) in
-    counting-unordered (at-loop .loop .inv) (at-loop-test .loop-test .taken) (rw (at-found .found .given .1) at (at-pair-at .pair-at .ensures)) (told ∙ not-true _ (c .if2 .taken))
+    counting-unordered (at-loop .loop .inv) (at-loop-test .loop-test .taken) (rw (at-found .found .given .1) at (at-pair-at .pair-at .ensures))
+    (told ∙ not-true _ (c .if2 .taken))
 
 add-count : tie.Need-add-count Inv-loop μ-loop
 add-count c =
@@ -94,7 +95,8 @@ loop-again c =
     let at-loop-test = at-pair-at .before in
     let at-loop = at-loop-test .before in
     let told = rw ((at-part .part .ensures), (at-part2 .part2 .ensures)) at (sym (at-not-after .not-after .ensures)) in
-    counting-next (at-loop .loop .inv) (at-loop-test .loop-test .taken) (rw (at-found .found .given .1) at (at-pair-at .pair-at .ensures)) (at-if1 .if1 .left) (told ∙ not-false _ (c .if2 .left))
+    counting-next (at-loop .loop .inv) (at-loop-test .loop-test .taken) (rw (at-found .found .given .1) at (at-pair-at .pair-at .ensures))
+    (at-if1 .if1 .left) (told ∙ not-false _ (c .if2 .left))
 
 returns-4 : tie.Need-returns-4 Inv-loop μ-loop
 unfolding PlacesRead

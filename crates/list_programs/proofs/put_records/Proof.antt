@@ -53,7 +53,8 @@ loop-again c =
     let at-record-number = at-put-optional-number-line .before .before .before in
     let at-loop-test = at-record-number .before .before in
     let at-loop = at-loop-test .before in
-    line-laid _ (at-loop .loop .inv) (at-loop-test .loop-test .taken) (at-record-number .record-number .ensures) (at-put-optional-number-line .put-optional-number-line .ensures)
+    line-laid _ (at-loop .loop .inv) (at-loop-test .loop-test .taken) (at-record-number .record-number .ensures)
+    (at-put-optional-number-line .put-optional-number-line .ensures)
 
 same-length : tie.Need-same-length Inv-loop μ-loop
 same-length c =

@@ -27,7 +27,8 @@ returns-2 c =
     let at-same-bytes = c .before in
     let at-part = at-same-bytes .before in
     let at-previous = at-part .before .before in
-    λ stands. other-contig stands _ _ (at-previous .previous .given .1) _ (rw (at-part .part .ensures) at (sym (at-same-bytes .same-bytes .ensures)) ∙ not-true _ (c .if1 .taken))
+    λ stands. other-contig stands _ _ (at-previous .previous .given .1) _
+    (rw (at-part .part .ensures) at (sym (at-same-bytes .same-bytes .ensures)) ∙ not-true _ (c .if1 .taken))
 
 get-requires : tie.Need-get-requires
 get-requires c κs = search needs
@@ -73,8 +74,10 @@ returns-5 c =
     let at-same-bytes = at-if1 .before in
     let at-part = at-same-bytes .before in
     let at-previous = at-part .before .before in
-    λ stands. holds stands _ _ (at-previous .previous .given .1) _ (rw (at-part .part .ensures) at (sym (at-same-bytes .same-bytes .ensures)) ∙ not-false _ (at-if1 .if1 .left))
-    (omega (arith, (at-get .get .ensures), (at-get2 .get2 .ensures), (at-if2 .if2 .left))) (omega (arith, (at-get3 .get3 .ensures), (at-get4 .get4 .ensures), (at-if3 .if3 .left)))
+    λ stands. holds stands _ _ (at-previous .previous .given .1) _ (rw (at-part .part .ensures) at
+    (sym (at-same-bytes .same-bytes .ensures)) ∙ not-false _ (at-if1 .if1 .left))
+    (omega (arith, (at-get .get .ensures), (at-get2 .get2 .ensures), (at-if2 .if2 .left)))
+    (omega (arith, (at-get3 .get3 .ensures), (at-get4 .get4 .ensures), (at-if3 .if3 .left)))
 
 pub holder-spec : {M : Type 1} → statement M
 holder-spec =

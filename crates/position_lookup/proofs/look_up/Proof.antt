@@ -36,7 +36,8 @@ returns-3 c =
     let at-count-pairs = at-counted .before .before in
     let at-if2 = at-count-pairs .before in
     let at-if1 = at-if2 .before in
-    gives-refused (pairs-refused _ _ _ (at-if1 .if1 .left) (at-if2 .if2 .left) (rw (at-counted .counted .given .1) at (at-count-pairs .count-pairs .ensures))) refl
+    gives-refused (pairs-refused _ _ _ (at-if1 .if1 .left) (at-if2 .if2 .left)
+    (rw (at-counted .counted .given .1) at (at-count-pairs .count-pairs .ensures))) refl
 
 same-length : tie.Need-same-length
 same-length c = search needs

@@ -24,7 +24,8 @@ slice-aggregate-give-found c =
     let at-searched2 = c .before .before in
     let at-search-pairs = at-searched2 .before .before in
     let at-pre = at-search-pairs .before .before .before .before .before .before in
-    let f = rw (at-searched2 .searched2 .given .1) at ((at-search-pairs .search-pairs .ensures) (record { places = (at-pre .pre .0 .places); value = (at-pre .pre .0 .value); few = (at-pre .pre .1) })) in
+    let f = rw (at-searched2 .searched2 .given .1) at ((at-search-pairs .search-pairs .ensures)
+    (record { places = (at-pre .pre .0 .places); value = (at-pre .pre .0 .value); few = (at-pre .pre .1) })) in
     let size = stored-size f in
     omega arith
 
@@ -34,7 +35,8 @@ give-found-requires c κs =
     let at-searched2 = c .before .before .before in
     let at-search-pairs = at-searched2 .before .before in
     let at-pre = at-search-pairs .before .before .before .before .before .before in
-    let f = rw (at-searched2 .searched2 .given .1) at ((at-search-pairs .search-pairs .ensures) (record { places = (at-pre .pre .0 .places); value = (at-pre .pre .0 .value); few = (at-pre .pre .1) })) in
+    let f = rw (at-searched2 .searched2 .given .1) at ((at-search-pairs .search-pairs .ensures)
+    (record { places = (at-pre .pre .0 .places); value = (at-pre .pre .0 .value); few = (at-pre .pre .1) })) in
     let size = stored-size f in
     omega (arith, (at-pre .pre .0 .counted), places-few _ _ (at-pre .pre .0 .value))
 
@@ -45,7 +47,8 @@ returns c =
     let at-search-pairs = at-searched .before .before in
     let at-pre = at-search-pairs .before .before .before .before .before .before in
     λ ready. gives-refused
-    (then-refused _ _ (rw (at-searched .searched .given .1) at ((at-search-pairs .search-pairs .ensures) (record { places = ready .places; value = ready .value; few = (at-pre .pre .1) })))) refl
+    (then-refused _ _ (rw (at-searched .searched .given .1) at ((at-search-pairs .search-pairs .ensures)
+    (record { places = ready .places; value = ready .value; few = (at-pre .pre .1) })))) refl
 
 same-length : tie.Need-same-length
 same-length c = search needs
@@ -58,9 +61,11 @@ returns-2 c =
     let at-search-pairs = at-searched2 .before .before in
     let at-pre = at-search-pairs .before .before .before .before .before .before in
     λ ready.
-    let f = rw (at-searched2 .searched2 .given .1) at ((at-search-pairs .search-pairs .ensures) (record { places = ready .places; value = ready .value; few = (at-pre .pre .1) })) in
+    let f = rw (at-searched2 .searched2 .given .1) at ((at-search-pairs .search-pairs .ensures)
+    (record { places = ready .places; value = ready .value; few = (at-pre .pre .1) })) in
     let few = places-few _ (ready .places) (ready .value) in
-    found-given f (ready .counted ∙ sym (found-length _ _ (ready .places) _ _ (f .value))) (omega (arith, ready .counted)) _ (at-give-found .give-found .ensures)
+    found-given f (ready .counted ∙ sym (found-length _ _ (ready .places) _ _ (f .value))) (omega (arith, ready .counted)) _
+    (at-give-found .give-found .ensures)
 
 pub look-up-records-spec : {M : Type 1} → statement M
 look-up-records-spec =

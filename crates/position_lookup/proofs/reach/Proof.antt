@@ -14,7 +14,8 @@ use Rattle.position_lookup.proofs.reach.Statement.{statement}
 use Rattle.position_lookup.proofs.reach.Tie as tie
 
 abbrev Inv-loop : tie.InvT-loop
-Inv-loop list header contig position rows₀ cursor₀ first₀ rows cursor first = (before : List Record) → StandsAt list before (record { cursor = cursor₀; first = first₀ })
+Inv-loop list header contig position rows₀ cursor₀ first₀ rows cursor first = (before : List Record) → StandsAt list before
+    (record { cursor = cursor₀; first = first₀ })
     → Reaching list header (record { cursor = cursor₀; first = first₀ }) (placeWith contig position) before (record { cursor = cursor; first = first })
 
 abbrev μ-loop : tie.MeasureT-loop

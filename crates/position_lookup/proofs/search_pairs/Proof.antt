@@ -11,7 +11,8 @@ use Rattle.position_lookup.proofs.search_pairs.Statement.{statement}
 use Rattle.position_lookup.proofs.search_pairs.Tie as tie
 
 abbrev Inv-loop : tie.InvT-loop
-Inv-loop list header asked found₀ rows₀ search₀ at₀ count₀ found rows search at count = (ready : PairsReady asked header) → Searching list header asked found₀ ready search at count found
+Inv-loop list header asked found₀ rows₀ search₀ at₀ count₀ found rows search at count =
+    (ready : PairsReady asked header) → Searching list header asked found₀ ready search at count found
 
 abbrev μ-loop : tie.MeasureT-loop
 μ-loop list header asked found₀ rows₀ search₀ at₀ count₀ found rows search at count = length asked - at
@@ -42,7 +43,8 @@ returns c =
     let at-pair-at = c .before .before in
     let at-loop-test = at-pair-at .before in
     let at-loop = at-loop-test .before in
-    λ ready. searching-wrong _ _ _ _ ready ((at-loop .loop .inv) ready) (at-loop-test .loop-test .taken) (rw (c .enum-told .given .1) at (at-pair-at .pair-at .ensures))
+    λ ready. searching-wrong _ _ _ _ ready ((at-loop .loop .inv) ready) (at-loop-test .loop-test .taken)
+    (rw (c .enum-told .given .1) at (at-pair-at .pair-at .ensures))
 
 part-requires : tie.Need-part-requires Inv-loop μ-loop
 part-requires c κs = search needs
@@ -66,7 +68,8 @@ returns-2 c =
     let at-loop-test = at-pair-at .before in
     let at-loop = at-loop-test .before in
     λ ready. searching-refused _ _ _ _ ready ((at-loop .loop .inv) ready) (at-loop-test .loop-test .taken)
-    (rw (at-read .read .given .1) at (at-pair-at .pair-at .ensures)) (rw (at-reached .reached .given .1) at (rw (at-part .part .ensures) at (at-reach .reach .ensures)))
+    (rw (at-read .read .given .1) at (at-pair-at .pair-at .ensures)) (rw (at-reached .reached .given .1) at
+    (rw (at-part .part .ensures) at (at-reach .reach .ensures)))
 
 enum-known-reached-2 : tie.Need-enum-known-reached-2 Inv-loop μ-loop
 enum-known-reached-2 c = search needs
@@ -83,7 +86,8 @@ holder-requires c κs =
     let at-loop = at-loop-test .before in
     let at-pre = at-loop .before .before .before .before .before in
     searching-stands _ _ _ _ (at-pre .pre) ((at-loop .loop .inv) (at-pre .pre)) (at-loop-test .loop-test .taken)
-    (rw (at-read .read .given .1) at (at-pair-at .pair-at .ensures)) (rw (at-reached2 .reached2 .given .1) at (rw (at-part .part .ensures) at (at-reach .reach .ensures)))
+    (rw (at-read .read .given .1) at (at-pair-at .pair-at .ensures)) (rw (at-reached2 .reached2 .given .1) at
+    (rw (at-part .part .ensures) at (at-reach .reach .ensures)))
 
 store-requires : tie.Need-store-requires Inv-loop μ-loop
 store-requires c κs = search needs
@@ -96,7 +100,11 @@ add-count c =
     let at-loop-test = at-pair-at .before in
     let at-loop = at-loop-test .before in
     let at-pre = at-loop .before .before .before .before .before in
-    omega (arith, searching-few _ _ _ _ (at-pre .pre) ((at-loop .loop .inv) (at-pre .pre)) (at-loop-test .loop-test .taken) (rw (at-read .read .given .1) at (at-pair-at .pair-at .ensures)))
+    omega (
+      arith,
+      searching-few _ _ _ _ (at-pre .pre) ((at-loop .loop .inv) (at-pre .pre)) (at-loop-test .loop-test .taken)
+          (rw (at-read .read .given .1) at (at-pair-at .pair-at .ensures)),
+    )
 
 loop-less : tie.Need-loop-less Inv-loop μ-loop
 unfolding PairRead
@@ -118,7 +126,8 @@ loop-again c =
     let at-loop = at-loop-test .before in
     λ ready. let to = rw (at-read .read .given .1) at (at-pair-at .pair-at .ensures) in
     let reached = rw (at-reached2 .reached2 .given .1) at (rw (at-part .part .ensures) at (at-reach .reach .ensures)) in
-    rw (c .store .ensures) (searching-next _ _ _ _ ready ((at-loop .loop .inv) ready) (at-loop-test .loop-test .taken) to reached (λ stands. rw (at-part .part .ensures) at ((at-holder .holder .ensures) stands)))
+    rw (c .store .ensures) (searching-next _ _ _ _ ready ((at-loop .loop .inv) ready) (at-loop-test .loop-test .taken) to reached
+    (λ stands. rw (at-part .part .ensures) at ((at-holder .holder .ensures) stands)))
 
 returns-3 : tie.Need-returns-3 Inv-loop μ-loop
 unfolding PairsSearched
