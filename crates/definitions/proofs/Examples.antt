@@ -10,7 +10,7 @@ use mathlib.Core.Option.{none, some}
 use mathlib.Core.Path.{_≡_, refl}
 use Rattle.definitions.specs.AlleleSubset.{likelihoodSubset}
 use Rattle.definitions.specs.Alleles.{allelesOf, writtenAlleles}
-use Rattle.definitions.specs.Answers.{callProgram, combineProgram, looksProgram, printedAnswer}
+use Rattle.definitions.specs.Answers.{callProgram, combineProgram, lookUpProgram, looksProgram, printedAnswer}
 use Rattle.definitions.specs.Bytes.{joinedBy, sameBytes, text}
 use Rattle.definitions.specs.CalledGenotypes.{LeastPls, gqFromLeastPls, gqFromPl, leastPls, withNextPl}
 use Rattle.definitions.specs.CalledList.{calledData}
@@ -303,3 +303,30 @@ pub called : callProgram (some exampleList)
     ++ text "gq=40\ndp=8\nad=4,4\npl=40,0,50\n"
 unfolding evaluated
 called = refl
+
+-- ---- places looked up in the printed list
+
+-- a pair on contig c
+abbrev asked : String → List ℕ
+asked pos = line "contig" (text "c") ++ line "pos" (text pos)
+
+-- what the program prints, for the printed list with this behind it
+abbrev lookedUp : List ℕ → List ℕ → List ℕ
+lookedUp behind pairs = lookUpProgram (some (exampleList ++ behind)) (some pairs)
+
+abbrev pub lookedUpRows : List Row
+lookedUpRows =
+    (lookedUp [] (asked "9" ++ asked "10" ++ asked "10") gives "record=.\nrecord=0\nrecord=0\ngroups=1\n")
+    ∷ (lookedUp [] (asked "10" ++ asked "11") gives "record=0\nrecord=1\ngroups=2\n")
+    ∷ (lookedUp [] (asked "11" ++ text "contig=d\npos=1\n") gives "record=1\nrecord=.\ngroups=2\n")
+    ∷ (lookedUp [] [] gives "groups=0\n")
+    ∷ (lookedUp [] (asked "11" ++ asked "10") gives "refused=18\n")
+    ∷ (lookedUp [] (asked "011" ++ asked "10") gives "refused=1\n")
+    ∷ (lookedUp (text "x") (asked "11") gives "record=1\ngroups=2\n")
+    ∷ (lookedUp (text "x") (asked "12") gives "refused=1\n")
+    ∷ (lookUpProgram none none gives "refused=1\n")
+    ∷ []
+
+pub lookedUpRows-right : T (allOf right lookedUpRows)
+unfolding evaluated
+lookedUpRows-right = tt

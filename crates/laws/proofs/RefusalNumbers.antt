@@ -1,5 +1,5 @@
 -- Which rows refuse: reading the texts 1 to 9, an interval 11 to 13 (and a contig without a scratch place 10), and an entry any row
--- from 1 to 15, never 0.
+-- from 1 to 15 (looking positions up to 18), never 0.
 use Prim.Native.Nat.{_≤_, suc, ℕ}
 use Prim.Native.String.{String}
 use borrow.Author.Tests.{le-leb}
@@ -22,6 +22,7 @@ use Rattle.definitions.specs.Intervals.{Interval, contigsOf}
 use Rattle.definitions.specs.Lines.{Line, lineAt}
 use Rattle.definitions.specs.ListReader.{listRead, recordRead, sampleDataRead, writtenList}
 use Rattle.definitions.specs.Lists.{anyOf, filterBy, numbersFrom}
+use Rattle.definitions.specs.LookUp.{Place, lookUp, lookUpWithin, lookedUp, placeOf, placesOf, reaches, readTo, readToLast}
 use Rattle.definitions.specs.MergedRef.{mergedRef, refLetter, sharedRef, siteRef, startsAt}
 use Rattle.definitions.specs.Printed.{printedList}
 use Rattle.definitions.specs.Records.{Record, coalesceBlocks, recordOf}
@@ -249,6 +250,36 @@ called-numbered s out =
     then-numbered (line-numbered _ _ "records" _) λ count.
     then-numbered (each-numbered _ (read-numbered (length names) count) [] _) λ _. well _))) λ _.
     within-numbered out _
+
+-- ---- pairs looked up: 1 to 8, 14 and 18
+
+place-numbered : (before : List Place) (group : List Line) → Numbered 1 18 (placeOf before group)
+unfolding placeOf
+place-numbered before group =
+    then-numbered (wider (omega arith) (line-numbered group 0 "contig" _)) λ _.
+    then-numbered (wider (omega arith) (line-numbered group 1 "pos" _)) λ _. required-numbered 18 _ (omega arith) (well _)
+
+reached-numbered : (samples records : ℕ) (p : Place) (before : List Record) (gs : List (List Line)) → ByReading (readTo samples records p before gs)
+unfolding readTo
+reached-numbered samples records p before [] = well []
+reached-numbered samples records p before (g ∷ gs) =
+    then-numbered (read-numbered samples records before g) λ r.
+    then-numbered (either-numbered (reaches p r) (well []) (reached-numbered samples records p (r ∷ before) gs)) λ rest. well _
+
+last-numbered : (samples records : ℕ) (o : Option Place) (gs : List (List Line)) → ByReading (readToLast samples records o gs)
+unfolding readToLast
+last-numbered samples records none gs = well []
+last-numbered samples records (some p) gs = reached-numbered samples records p [] gs
+
+pub look-up-numbered : (s asked : List ℕ) (out : ℕ) → Numbered 1 18 (lookUpWithin s asked out)
+unfolding lookUpWithin lookUp lookedUp placesOf
+look-up-numbered s asked out =
+    then-numbered
+    (required-numbered 2 _ (omega arith) (then-numbered (each-numbered placeOf place-numbered [] _) λ places.
+    then-numbered (wider (omega arith) (samples-numbered _)) λ names.
+    then-numbered (wider (omega arith) (line-numbered _ _ "records" _)) λ count.
+    then-numbered (wider (omega arith) (last-numbered _ _ _ _)) λ records. well _)) λ l.
+    required-numbered 14 _ (omega arith) (well l)
 
 -- ---- alleles and likelihoods
 
