@@ -6,7 +6,7 @@ use mathlib.Core.Bool.{Bool, _&&_, _||_, cond, false, not}
 use mathlib.Core.List.{List, [], _++_, _∷_, flatMap, map}
 use mathlib.Core.Option.{Option, bind, none, some}
 use Rattle.definitions.specs.Alleles.{Allele, alleleOf, allelesOf, nonRef, refAltsOf, sameAllele}
-use Rattle.definitions.specs.Bytes.{comma, fieldsOf, sameBytes}
+use Rattle.definitions.specs.Bytes.{comma, fieldsOf, sameBytes, text}
 use Rattle.definitions.specs.Checked.{Checked, _>>=_, _>>_, accepted, inOrder, orRefuse, readEach, refusedAs, require, within}
 use Rattle.definitions.specs.Cohort.{samplesOf}
 use Rattle.definitions.specs.CombinedList.{fits}
@@ -44,11 +44,9 @@ wantedAllele s = bind (alleleOf maxLetters s) (λ a. onlyIf (not (sameAllele non
 
 -- `.` for none, or up to four names
 unfoldable pub namesAfter : List ℕ → Option (List (List ℕ))
-namesAfter s = bind (orMissing (λ t. allSome (map name (fieldsOf comma t))) s) upToFour
-  where
-    upToFour : Option (List (List ℕ)) → Option (List (List ℕ))
-    upToFour none = some []
-    upToFour (some names) = onlyIf (leb (length names) 4) names
+namesAfter s =
+    let several = bind (allSome (map name (fieldsOf comma s))) (λ names. onlyIf (leb (length names) 4) names) in
+    cond (sameBytes s (text ".")) (some []) several
 
 unfoldable pub isNamed : List Marker → List ℕ → Bool
 isNamed before n = anyOf (λ (m : Marker). sameBytes n (m .marker)) before
