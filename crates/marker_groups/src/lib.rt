@@ -176,7 +176,7 @@ const TOO_MANY_MARKERS: usize = 144115188075855872;
 const TOO_MANY_NUMBERS: usize = 1152921504606846976;
 
 // A number of a marker's row; 0 outside the table.
-fn column(rows: &[usize], marker: usize, k: usize) -> usize
+pub fn column(rows: &[usize], marker: usize, k: usize) -> usize
     ensures { λ r. ⌜ r ≡ column k (now (rows .entry)) marker ⌝ }
 {
     if TOO_MANY_MARKERS <= marker {
@@ -193,7 +193,7 @@ fn column(rows: &[usize], marker: usize, k: usize) -> usize
 }
 
 // The part of the text between the offsets in two columns.
-fn part_at<'a>(s: &'a [u8], rows: &[usize], marker: usize, from: usize, to: usize) -> &'a [u8]
+pub fn part_at<'a>(s: &'a [u8], rows: &[usize], marker: usize, from: usize, to: usize) -> &'a [u8]
     ensures { λ r. ⌜ now r ≡ partAt from to (now (s .entry)) (now (rows .entry)) marker ⌝ }
 {
     tables::part(s, column(rows, marker, from), column(rows, marker, to))
