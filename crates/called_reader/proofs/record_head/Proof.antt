@@ -47,7 +47,8 @@ returns-2 c =
     let at-number-line = c .before .before in
     let at-name = at-number-line .before .before .before in
     let at-name-line = at-name .before .before in
-    pos-wrong _ _ _ _ ((rw (at-name .name .given .1) at (at-name-line .name-line .ensures)) .0) (rw (c .enum-told2 .given .1) at (at-number-line .number-line .ensures))
+    pos-wrong _ _ _ _ ((rw (at-name .name .given .1) at (at-name-line .name-line .ensures)) .0)
+    (rw (c .enum-told2 .given .1) at (at-number-line .number-line .ensures))
 
 add-value-line : tie.Need-add-value-line
 add-value-line c = let h = line-within _ _ _ number _ _ (rw (c .before .first .given .1) at (c .before .before .before .number-line .ensures)) in omega arith
@@ -72,11 +73,14 @@ returns-3 c =
     let at-number-line = at-first .before .before in
     let at-name = at-number-line .before .before .before in
     let at-name-line = at-name .before .before in
-    ref-wrong _ _ _ _ ((rw (at-name .name .given .1) at (at-name-line .name-line .ensures)) .0) _ _ (rw (at-first .first .given .1) at (at-number-line .number-line .ensures))
+    ref-wrong _ _ _ _ ((rw (at-name .name .given .1) at (at-name-line .name-line .ensures)) .0) _ _
+    (rw (at-first .first .given .1) at (at-number-line .number-line .ensures))
     ((rw (c .enum-told3 .given .1) at (at-value-line .value-line .ensures)) .0)
 
 add-value-line-2 : tie.Need-add-value-line-2
-add-value-line-2 c = let h = line-within _ _ _ some _ _ ((rw (c .before .reference .given .1) at (c .before .before .before .value-line .ensures)) .0) in omega arith
+add-value-line-2 c =
+    let value-line = c .before .before .before .value-line in
+    let h = line-within _ _ _ some _ _ ((rw (c .before .reference .given .1) at (value-line .ensures)) .0) in omega arith
 
 slice-aggregate-value-line-2 : tie.Need-slice-aggregate-value-line-2
 slice-aggregate-value-line-2 c = search needs
@@ -100,14 +104,20 @@ returns-4 c =
     let at-number-line = at-first .before .before in
     let at-name = at-number-line .before .before .before in
     let at-name-line = at-name .before .before in
-    alt-wrong _ _ _ _ ((rw (at-name .name .given .1) at (at-name-line .name-line .ensures)) .0) _ _ (rw (at-first .first .given .1) at (at-number-line .number-line .ensures)) _ _ ((rw (at-reference .reference .given .1) at (at-value-line .value-line .ensures)) .0)
+    alt-wrong _ _ _ _ ((rw (at-name .name .given .1) at (at-name-line .name-line .ensures)) .0) _ _
+    (rw (at-first .first .given .1) at (at-number-line .number-line .ensures)) _ _
+    ((rw (at-reference .reference .given .1) at (at-value-line .value-line .ensures)) .0)
     ((rw (c .enum-told4 .given .1) at (at-value-line2 .value-line2 .ensures)) .0)
 
 add-next : tie.Need-add-next
 add-next c =
     let at-value-line2 = c .before .before .before in
     let h = line-within _ _ _ some _ _ ((rw (c .before .alternate .given .1) at (at-value-line2 .value-line2 .ensures)) .0) in
-    omega (arith, h, at-value-line2 .before .before .before .before .before .before .before .before .before .before .before .before .before .before .before .before .before .before .good)
+    omega (
+      arith,
+      h,
+      at-value-line2 .before .before .before .before .before .before .before .before .before .before .before .before .before .before .before .before .before .before .good,
+    )
 
 cast-new-1based : tie.Need-cast-new-1based
 cast-new-1based c = search needs
@@ -126,7 +136,9 @@ returns-5 c =
     let at-number-line = at-first .before .before in
     let at-name = at-number-line .before .before .before in
     let at-name-line = at-name .before .before in
-    head-read _ _ _ _ ((rw (at-name .name .given .1) at (at-name-line .name-line .ensures)) .0) _ _ (rw (at-first .first .given .1) at (at-number-line .number-line .ensures)) _ _ ((rw (at-reference .reference .given .1) at (at-value-line .value-line .ensures)) .0) _ _
+    head-read _ _ _ _ ((rw (at-name .name .given .1) at (at-name-line .name-line .ensures)) .0) _ _
+    (rw (at-first .first .given .1) at (at-number-line .number-line .ensures)) _ _
+    ((rw (at-reference .reference .given .1) at (at-value-line .value-line .ensures)) .0) _ _
     ((rw (at-alternate .alternate .given .1) at (at-value-line2 .value-line2 .ensures)) .0) (c .new-1based .ensures)
 
 pub record-head-spec : {M : Type 1} → statement M

@@ -36,7 +36,10 @@ count-fields-requires c κs = search needs
 
 loop-holds : tie.Need-loop-holds Inv-loop μ-loop
 unfolding HeadRead
-loop-holds c = reading-start _ _ _ _ _ (rw ((c .before .before .before .before .first .given .1)) at ((c .before .before .before .before .before .before .record-head .ensures)))
+loop-holds c =
+    let at-first = c .before .before .before .before in
+    let at-record-head = at-first .before .before in
+    reading-start _ _ _ _ _ (rw (at-first .first .given .1) at (at-record-head .record-head .ensures))
 
 sample-lines-requires : tie.Need-sample-lines-requires Inv-loop μ-loop
 sample-lines-requires c κs = search needs
@@ -52,50 +55,99 @@ same-length c = (c .before .before .before .before .loop .inv .long)
 
 returns-2 : tie.Need-returns-2 Inv-loop μ-loop
 unfolding HeadRead TextRead
-returns-2 c = sample-wrong _ _ _ _ _ _ _ _ _ ((c .before .before .before .before .loop .inv)) ((c .before .before .before .loop-test .taken))
-    (rw ((c .before .before .before .before .before .before .before .before .before .first .given .1)) at ((c .before .before .before .before .before .before .before .before .before .before .before .record-head .ensures))) (rw ((c .enum-told2 .given .1)) at ((c .before .before .sample-lines .ensures)))
+returns-2 c =
+    let at-sample-lines = c .before .before in
+    let at-loop-test = at-sample-lines .before in
+    let at-loop = at-loop-test .before in
+    let at-first = at-loop .before .before .before .before .before in
+    let at-record-head = at-first .before .before in
+    sample-wrong _ _ _ _ _ _ _ _ _ (at-loop .loop .inv) (at-loop-test .loop-test .taken)
+    (rw (at-first .first .given .1) at (at-record-head .record-head .ensures)) (rw (c .enum-told2 .given .1) at (at-sample-lines .sample-lines .ensures))
 
 mul-pls : tie.Need-mul-pls Inv-loop μ-loop
-mul-pls c = omega (arith, (c .before .before .before .before .before .before .before .before .before .before .before .before .before .before .before .good), (c .before .before .before .before .before .before .before .before .before .before .before .before .before .before .before .pre), (c .before .before .before .before .before .loop .inv .long), (c .before .before .before .before .loop-test .taken))
+mul-pls c =
+    let at-loop-test = c .before .before .before .before in
+    let at-loop = at-loop-test .before in
+    let at-args = at-loop .before .before .before .before .before .before .before .before .before .before in
+    omega (arith, (at-args .good), (at-args .pre), (at-loop .loop .inv .long), (at-loop-test .loop-test .taken))
 
 mul-pls-2 : tie.Need-mul-pls-2 Inv-loop μ-loop
-mul-pls-2 c = omega (arith, (c .before .before .before .before .before .before .before .before .before .before .before .before .before .before .before .good), (c .before .before .before .before .before .before .before .before .before .before .before .before .before .before .before .pre), (c .before .before .before .before .before .loop .inv .long), (c .before .before .before .before .loop-test .taken))
+mul-pls-2 c =
+    let at-loop-test = c .before .before .before .before in
+    let at-loop = at-loop-test .before in
+    let at-args = at-loop .before .before .before .before .before .before .before .before .before .before in
+    omega (arith, (at-args .good), (at-args .pre), (at-loop .loop .inv .long), (at-loop-test .loop-test .taken))
 
 slice-write-pls : tie.Need-slice-write-pls Inv-loop μ-loop
-slice-write-pls c = omega (arith, (c .before .before .before .before .before .before .before .before .before .before .before .before .before .before .before .good), (c .before .before .before .before .before .before .before .before .before .before .before .before .before .before .before .pre), (c .before .before .before .before .before .loop .inv .long), (c .before .before .before .before .loop-test .taken))
+slice-write-pls c =
+    let at-loop-test = c .before .before .before .before in
+    let at-loop = at-loop-test .before in
+    let at-args = at-loop .before .before .before .before .before .before .before .before .before .before in
+    omega (arith, (at-args .good), (at-args .pre), (at-loop .loop .inv .long), (at-loop-test .loop-test .taken))
 
 mul-pls-3 : tie.Need-mul-pls-3 Inv-loop μ-loop
-mul-pls-3 c = omega (arith, (c .before .before .before .before .before .before .before .before .before .before .before .before .before .before .before .good), (c .before .before .before .before .before .before .before .before .before .before .before .before .before .before .before .pre), (c .before .before .before .before .before .loop .inv .long), (c .before .before .before .before .loop-test .taken))
+mul-pls-3 c =
+    let at-loop-test = c .before .before .before .before in
+    let at-loop = at-loop-test .before in
+    let at-args = at-loop .before .before .before .before .before .before .before .before .before .before in
+    omega (arith, (at-args .good), (at-args .pre), (at-loop .loop .inv .long), (at-loop-test .loop-test .taken))
 
 add-pls : tie.Need-add-pls Inv-loop μ-loop
-add-pls c = omega (arith, (c .before .before .before .before .before .before .before .before .before .before .before .before .before .before .before .good), (c .before .before .before .before .before .before .before .before .before .before .before .before .before .before .before .pre), (c .before .before .before .before .before .loop .inv .long), (c .before .before .before .before .loop-test .taken))
+add-pls c =
+    let at-loop-test = c .before .before .before .before in
+    let at-loop = at-loop-test .before in
+    let at-args = at-loop .before .before .before .before .before .before .before .before .before .before in
+    omega (arith, (at-args .good), (at-args .pre), (at-loop .loop .inv .long), (at-loop-test .loop-test .taken))
 
 mul-pls-4 : tie.Need-mul-pls-4 Inv-loop μ-loop
-mul-pls-4 c = omega (arith, (c .before .before .before .before .before .before .before .before .before .before .before .before .before .before .before .good), (c .before .before .before .before .before .before .before .before .before .before .before .before .before .before .before .pre), (c .before .before .before .before .before .loop .inv .long), (c .before .before .before .before .loop-test .taken))
+mul-pls-4 c =
+    let at-loop-test = c .before .before .before .before in
+    let at-loop = at-loop-test .before in
+    let at-args = at-loop .before .before .before .before .before .before .before .before .before .before in
+    omega (arith, (at-args .good), (at-args .pre), (at-loop .loop .inv .long), (at-loop-test .loop-test .taken))
 
 slice-write-pls-2 : tie.Need-slice-write-pls-2 Inv-loop μ-loop
-slice-write-pls-2 c = lt-length-set ((c .before .before .before .before .before .loop .pls)) _ _ (omega (arith, (c .before .before .before .before .before .before .before .before .before .before .before .before .before .before .before .good), (c .before .before .before .before .before .before .before .before .before .before .before .before .before .before .before .pre), (c .before .before .before .before .before .loop .inv .long), (c .before .before .before .before .loop-test .taken)))
+slice-write-pls-2 c =
+    let at-loop-test = c .before .before .before .before in
+    let at-loop = at-loop-test .before in
+    let at-args = at-loop .before .before .before .before .before .before .before .before .before .before in
+    lt-length-set (at-loop .loop .pls) _ _ (omega (arith, (at-args .good), (at-args .pre), (at-loop .loop .inv .long), (at-loop-test .loop-test .taken)))
 
 counts-fit-requires : tie.Need-counts-fit-requires Inv-loop μ-loop
 counts-fit-requires c κs = search needs
 
 add-i : tie.Need-add-i Inv-loop μ-loop
-add-i c = omega (arith, (c .before .before .before .before .before .loop-test .taken), (c .before .before .before .before .before .before .before .before .before .before .before .before .before .before .before .before .fits .samples))
+add-i c =
+    let at-loop-test = c .before .before .before .before .before in
+    let at-fits = at-loop-test .before .before .before .before .before .before .before .before .before .before .before in
+    omega (arith, (at-loop-test .loop-test .taken), (at-fits .fits .samples))
 
 loop-less : tie.Need-loop-less Inv-loop μ-loop
 loop-less c = omega (arith, (c .before .before .before .before .before .loop-test .taken))
 
 loop-again : tie.Need-loop-again Inv-loop μ-loop
 unfolding SampleRead comma
-loop-again c = sample-next _ _ _ _ _ _ _ _ _ ((c .before .before .before .before .before .before .loop .inv)) ((c .before .before .before .before .before .loop-test .taken))
-    _ (rw ((c .before .before .lines .given .1)) at ((c .before .before .before .before .sample-lines .ensures))) (c .before .before .before .before .before .before .before .before .before .before .before .before .before .before .before .before .pre) _ (rw ((c .before .before .before .before .before .before .before .before .part .ensures)) at ((c .before .before .before .before .before .before .before .count-fields .ensures))) _ ((c .counts-fit .ensures))
+loop-again c =
+    let at-lines = c .before .before in
+    let at-sample-lines = at-lines .before .before in
+    let at-loop-test = at-sample-lines .before in
+    let at-loop = at-loop-test .before in
+    let at-count-fields = at-loop .before in
+    let at-part = at-count-fields .before in
+    let at-args = at-part .before .before .before .before .before .before .before .before in
+    sample-next _ _ _ _ _ _ _ _ _ (at-loop .loop .inv) (at-loop-test .loop-test .taken)
+    _ (rw (at-lines .lines .given .1) at (at-sample-lines .sample-lines .ensures)) (at-args .pre) _
+    (rw (at-part .part .ensures) at (at-count-fields .count-fields .ensures)) _ (c .counts-fit .ensures)
 
 same-length-2 : tie.Need-same-length-2 Inv-loop μ-loop
 same-length-2 c = (c .before .loop .inv .long)
 
 returns-3 : tie.Need-returns-3 Inv-loop μ-loop
 unfolding HeadRead TextRead
-returns-3 c = samples-end _ _ _ _ _ _ _ _ _ ((c .before .loop .inv)) (rw ((c .before .before .before .before .before .before .first .given .1)) at ((c .before .before .before .before .before .before .before .before .record-head .ensures))) ((c .loop-test .left))
+returns-3 c =
+    let at-first = c .before .before .before .before .before .before in
+    let at-record-head = at-first .before .before in
+    samples-end _ _ _ _ _ _ _ _ _ (c .before .loop .inv) (rw (at-first .first .given .1) at (at-record-head .record-head .ensures)) (c .loop-test .left)
 
 pub record-text-spec : {M : Type 1} → statement M
 record-text-spec =

@@ -26,7 +26,9 @@ unfolding keyOf text
 returns c = gq-wrong _ _ (rw (c .enum-told .given .1) at (c .before .before .code-line .ensures))
 
 add-code-line : tie.Need-add-code-line
-add-code-line c = let h = line-within _ _ _ (orMissing number) _ _ (rw (c .before .quality .given .1) at (c .before .before .before .code-line .ensures)) in omega arith
+add-code-line c =
+    let code-line = c .before .before .before .code-line in
+    let h = line-within _ _ _ (orMissing number) _ _ (rw (c .before .quality .given .1) at (code-line .ensures)) in omega arith
 
 slice-aggregate-code-line-2 : tie.Need-slice-aggregate-code-line-2
 slice-aggregate-code-line-2 c = search needs
@@ -46,10 +48,13 @@ returns-2 c =
     let at-code-line2 = c .before .before in
     let at-quality = at-code-line2 .before .before .before in
     let at-code-line = at-quality .before .before in
-    dp-wrong _ _ _ _ (rw (at-quality .quality .given .1) at (at-code-line .code-line .ensures)) (rw (c .enum-told2 .given .1) at (at-code-line2 .code-line2 .ensures))
+    dp-wrong _ _ _ _ (rw (at-quality .quality .given .1) at (at-code-line .code-line .ensures))
+    (rw (c .enum-told2 .given .1) at (at-code-line2 .code-line2 .ensures))
 
 add-part-line : tie.Need-add-part-line
-add-part-line c = let h = line-within _ _ _ (orMissing number) _ _ (rw (c .before .depth .given .1) at (c .before .before .before .code-line2 .ensures)) in omega arith
+add-part-line c =
+    let code-line2 = c .before .before .before .code-line2 in
+    let h = line-within _ _ _ (orMissing number) _ _ (rw (c .before .depth .given .1) at (code-line2 .ensures)) in omega arith
 
 slice-aggregate-part-line : tie.Need-slice-aggregate-part-line
 slice-aggregate-part-line c = search needs
@@ -71,7 +76,8 @@ returns-3 c =
     let at-code-line2 = at-depth .before .before in
     let at-quality = at-code-line2 .before .before .before in
     let at-code-line = at-quality .before .before in
-    ad-wrong _ _ _ _ (rw (at-quality .quality .given .1) at (at-code-line .code-line .ensures)) _ _ (rw (at-depth .depth .given .1) at (at-code-line2 .code-line2 .ensures))
+    ad-wrong _ _ _ _ (rw (at-quality .quality .given .1) at (at-code-line .code-line .ensures)) _ _
+    (rw (at-depth .depth .given .1) at (at-code-line2 .code-line2 .ensures))
     ((rw (c .enum-told3 .given .1) at (at-part-line .part-line .ensures)) .0)
 
 add-part-line-2 : tie.Need-add-part-line-2
@@ -103,14 +109,19 @@ returns-4 c =
     let at-quality = at-code-line2 .before .before .before in
     let at-code-line = at-quality .before .before in
     let depths = rw (at-depths .depths .given .1) at (at-part-line .part-line .ensures) in
-    pl-wrong _ _ _ _ (rw (at-quality .quality .given .1) at (at-code-line .code-line .ensures)) _ _ (rw (at-depth .depth .given .1) at (at-code-line2 .code-line2 .ensures)) _ _ _ (depths .0) (depths .1)
+    pl-wrong _ _ _ _ (rw (at-quality .quality .given .1) at (at-code-line .code-line .ensures)) _ _
+    (rw (at-depth .depth .given .1) at (at-code-line2 .code-line2 .ensures)) _ _ _ (depths .0) (depths .1)
     ((rw (c .enum-told4 .given .1) at (at-part-line2 .part-line2 .ensures)) .0)
 
 add-next : tie.Need-add-next
 add-next c =
     let at-part-line2 = c .before .before .before in
     let h = line-within _ _ _ (orMissing numberList) _ _ ((rw (c .before .likelihoods .given .1) at (at-part-line2 .part-line2 .ensures)) .0) in
-    omega (arith, h, at-part-line2 .before .before .before .before .before .before .before .before .before .before .before .before .before .before .before .before .before .before .good)
+    omega (
+      arith,
+      h,
+      at-part-line2 .before .before .before .before .before .before .before .before .before .before .before .before .before .before .before .before .before .before .good,
+    )
 
 returns-5 : tie.Need-returns-5
 unfolding keyOf text
@@ -124,7 +135,8 @@ returns-5 c =
     let at-code-line = at-quality .before .before in
     let depths = rw (at-depths .depths .given .1) at (at-part-line .part-line .ensures) in
     let likelihoods = rw (c .before .likelihoods .given .1) at (at-part-line2 .part-line2 .ensures) in
-    sample-read _ _ _ _ (rw (at-quality .quality .given .1) at (at-code-line .code-line .ensures)) _ _ (rw (at-depth .depth .given .1) at (at-code-line2 .code-line2 .ensures)) _ _ _ (depths .0) (depths .1) _ _ _ (likelihoods .0) (likelihoods .1)
+    sample-read _ _ _ _ (rw (at-quality .quality .given .1) at (at-code-line .code-line .ensures)) _ _
+    (rw (at-depth .depth .given .1) at (at-code-line2 .code-line2 .ensures)) _ _ _ (depths .0) (depths .1) _ _ _ (likelihoods .0) (likelihoods .1)
 
 pub sample-lines-spec : {M : Type 1} → statement M
 sample-lines-spec =

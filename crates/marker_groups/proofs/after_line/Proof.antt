@@ -34,8 +34,12 @@ is-after-requires c κs = search needs
 
 returns-2 : tie.Need-returns-2
 unfolding keyOf text
-returns-2 c = let l = rw ((c .before .before .before .before .line .given .1)) at ((c .before .before .before .before .before .before .value-line .ensures)) in
-    read-right _ _ _ namesAfter _ _ _ (l .0) (after-as-read _ (rw ((c .before .before .part .ensures)) at (sym ((c .before .is-after .ensures)) ∙ (c .if1 .taken))) .0)
+returns-2 c =
+    let at-part = c .before .before in
+    let at-line = at-part .before .before in
+    let at-value-line = at-line .before .before in
+    let l = rw (at-line .line .given .1) at (at-value-line .value-line .ensures) in
+    read-right _ _ _ namesAfter _ _ _ (l .0) (after-as-read _ (rw (at-part .part .ensures) at (sym (c .before .is-after .ensures) ∙ (c .if1 .taken))) .0)
 
 returns-3 : tie.Need-returns-3
 unfolding keyOf text

@@ -36,7 +36,13 @@ same-length c = search needs
 
 returns : tie.Need-returns Inv-loop μ-loop
 unfolding AftersFound FieldFound comma
-returns c = absent-not (c .before .before .before .before .loop .inv) (omega (arith, (c .before .before .before .before .before .count-names .ensures), (c .before .before .before .loop-test .taken))) (rw ((c .enum-told .given .1)) at ((c .before .before .field-at .ensures)))
+returns c =
+    let at-field-at = c .before .before in
+    let at-loop-test = at-field-at .before in
+    let at-loop = at-loop-test .before in
+    let at-count-names = at-loop .before in
+    absent-not (at-loop .loop .inv) (omega (arith, (at-count-names .count-names .ensures), (at-loop-test .loop-test .taken)))
+    (rw (c .enum-told .given .1) at (at-field-at .field-at .ensures))
 
 part-requires : tie.Need-part-requires Inv-loop μ-loop
 part-requires c κs = search needs
@@ -49,9 +55,17 @@ same-length-2 c = search needs
 
 returns-2 : tie.Need-returns-2 Inv-loop μ-loop
 unfolding AftersFound FieldFound comma
-returns-2 c = let h = rw ((c .before .before .before .before .field .given .1)) at ((c .before .before .before .before .before .before .field-at .ensures)) in
-    let f = rw (c .before .before .part .ensures) at (c .before .find-marker .ensures) in
-    found-unnamed _ _ _ _ (c .before .before .before .before .before .before .before .before .loop .inv) (omega (arith, (c .before .before .before .before .before .before .before .before .before .count-names .ensures), (c .before .before .before .before .before .before .before .loop-test .taken))) (c .before .before .before .before .field .given .0 .0) (c .before .before .before .before .field .given .0 .1 .0) (h .1) (rw f at (c .if1 .taken))
+returns-2 c =
+    let at-part = c .before .before in
+    let at-field = at-part .before .before in
+    let at-field-at = at-field .before .before in
+    let at-loop-test = at-field-at .before in
+    let at-loop = at-loop-test .before in
+    let at-count-names = at-loop .before in
+    let h = rw (at-field .field .given .1) at (at-field-at .field-at .ensures) in
+    let f = rw (at-part .part .ensures) at (c .before .find-marker .ensures) in
+    found-unnamed _ _ _ _ (at-loop .loop .inv) (omega (arith, (at-count-names .count-names .ensures), (at-loop-test .loop-test .taken)))
+    (at-field .field .given .0 .0) (at-field .field .given .0 .1 .0) (h .1) (rw f at (c .if1 .taken))
 
 store-requires : tie.Need-store-requires Inv-loop μ-loop
 store-requires c κs = search needs
@@ -64,8 +78,22 @@ loop-less c = omega arith
 
 loop-again : tie.Need-loop-again Inv-loop μ-loop
 unfolding FieldFound comma
-loop-again c = let h = rw ((c .before .before .before .before .before .before .before .before .field .given .1)) at ((c .before .before .before .before .before .before .before .before .before .before .field-at .ensures)) in
-    rw ((c .before .before .store .ensures)) (found-more _ _ _ _ (c .before .before .before .before .before .before .before .before .before .before .before .before .loop .inv) (omega (arith, (c .before .before .before .before .before .before .before .before .before .before .before .before .before .count-names .ensures), (c .before .before .before .before .before .before .before .before .before .before .before .loop-test .taken))) (c .before .before .before .before .before .before .before .before .field .given .0 .0) (c .before .before .before .before .before .before .before .before .field .given .0 .1 .0) (h .1) ((c .before .before .before .before .before .before .before .before .before .before .before .before .before .before .before .before .before .before .pre .0)) _ (rw ((c .before .before .before .before .before .before .part .ensures)) at ((c .before .before .before .before .before .find-marker .ensures))) (omega (arith, (c .before .before .before .before .if1 .left))))
+loop-again c =
+    let at-store = c .before .before in
+    let at-if1 = at-store .before .before in
+    let at-find-marker = at-if1 .before in
+    let at-part = at-find-marker .before in
+    let at-field = at-part .before .before in
+    let at-field-at = at-field .before .before in
+    let at-loop-test = at-field-at .before in
+    let at-loop = at-loop-test .before in
+    let at-count-names = at-loop .before in
+    let at-args = at-count-names .before .before .before .before .before in
+    let h = rw (at-field .field .given .1) at (at-field-at .field-at .ensures) in
+    rw (at-store .store .ensures)
+    (found-more _ _ _ _ (at-loop .loop .inv) (omega (arith, (at-count-names .count-names .ensures), (at-loop-test .loop-test .taken)))
+    (at-field .field .given .0 .0) (at-field .field .given .0 .1 .0) (h .1) (at-args .pre .0) _
+    (rw (at-part .part .ensures) at (at-find-marker .find-marker .ensures)) (omega (arith, (at-if1 .if1 .left))))
 
 same-length-3 : tie.Need-same-length-3 Inv-loop μ-loop
 same-length-3 c = search needs

@@ -47,8 +47,13 @@ is-name-requires c κs = search needs
 
 returns-2 : tie.Need-returns-2 Inv-loop μ-loop
 unfolding FieldFound comma
-returns-2 c = let h = rw ((c .before .before .before .before .field .given .1)) at ((c .before .before .before .before .before .before .field-at .ensures)) in
-    all-fails _ _ _ (c .before .before .before .before .before .before .before .before .loop .inv) [] (h .0) (rw (h .1) (rw ((c .before .before .part .ensures)) at (sym ((c .before .is-name .ensures)) ∙ not-true _ ((c .if1 .taken)))))
+returns-2 c =
+    let at-part = c .before .before in
+    let at-field = at-part .before .before in
+    let at-field-at = at-field .before .before in
+    let at-loop = at-field-at .before .before in
+    let h = rw (at-field .field .given .1) at (at-field-at .field-at .ensures) in
+    all-fails _ _ _ (at-loop .loop .inv) [] (h .0) (rw (h .1) (rw (at-part .part .ensures) at (sym (c .before .is-name .ensures) ∙ not-true _ (c .if1 .taken))))
 
 add-i : tie.Need-add-i Inv-loop μ-loop
 add-i c = omega arith
@@ -58,8 +63,13 @@ loop-less c = omega arith
 
 loop-again : tie.Need-loop-again Inv-loop μ-loop
 unfolding FieldFound comma
-loop-again c = let h = rw ((c .before .before .before .before .field .given .1)) at ((c .before .before .before .before .before .before .field-at .ensures)) in
-    all-step _ _ _ (c .before .before .before .before .before .before .before .before .loop .inv) [] (h .0) (rw (h .1) (rw ((c .before .before .part .ensures)) at (sym ((c .before .is-name .ensures)) ∙ not-false _ ((c .if1 .left)))))
+loop-again c =
+    let at-part = c .before .before in
+    let at-field = at-part .before .before in
+    let at-field-at = at-field .before .before in
+    let at-loop = at-field-at .before .before in
+    let h = rw (at-field .field .given .1) at (at-field-at .field-at .ensures) in
+    all-step _ _ _ (at-loop .loop .inv) [] (h .0) (rw (h .1) (rw (at-part .part .ensures) at (sym (c .before .is-name .ensures) ∙ not-false _ (c .if1 .left))))
 
 returns-3 : tie.Need-returns-3 Inv-loop μ-loop
 unfolding comma

@@ -33,13 +33,21 @@ is-wanted-requires c κs = search needs
 
 returns-2 : tie.Need-returns-2
 unfolding keyOf text
-returns-2 c = let l = rw ((c .before .before .before .before .line .given .1)) at ((c .before .before .before .before .before .before .value-line .ensures)) in
-    read-right _ _ _ wantedAllele _ _ _ (l .0) (wanted-as-read _ (rw ((c .before .before .part .ensures)) at (sym ((c .before .is-wanted .ensures)) ∙ (c .if1 .taken))))
+returns-2 c =
+    let at-part = c .before .before in
+    let at-line = at-part .before .before in
+    let at-value-line = at-line .before .before in
+    let l = rw (at-line .line .given .1) at (at-value-line .value-line .ensures) in
+    read-right _ _ _ wantedAllele _ _ _ (l .0) (wanted-as-read _ (rw (at-part .part .ensures) at (sym (c .before .is-wanted .ensures) ∙ (c .if1 .taken))))
 
 returns-3 : tie.Need-returns-3
 unfolding keyOf text
-returns-3 c = let l = rw ((c .before .before .before .before .line .given .1)) at ((c .before .before .before .before .before .before .value-line .ensures)) in
-    read-wrong _ _ _ wantedAllele _ _ (l .0) (not-wanted _ (rw ((c .before .before .part .ensures)) at (sym ((c .before .is-wanted .ensures)) ∙ (c .if1 .left))))
+returns-3 c =
+    let at-part = c .before .before in
+    let at-line = at-part .before .before in
+    let at-value-line = at-line .before .before in
+    let l = rw (at-line .line .given .1) at (at-value-line .value-line .ensures) in
+    read-wrong _ _ _ wantedAllele _ _ (l .0) (not-wanted _ (rw (at-part .part .ensures) at (sym (c .before .is-wanted .ensures) ∙ (c .if1 .left))))
 
 pub allele-line-spec : {M : Type 1} → statement M
 allele-line-spec =

@@ -24,7 +24,13 @@ same-bytes-requires : tie.Need-same-bytes-requires Inv-loop μ-loop
 same-bytes-requires c κs = search needs
 
 returns : tie.Need-returns Inv-loop μ-loop
-returns c = sym ((c .before .before .before .before .loop .inv .0) ∙ found-here _ _ _ _ _ ((c .before .before .before .loop-test .taken)) (rw ((c .before .before .part-at .ensures)) at (sym ((c .before .same-bytes .ensures)) ∙ (c .if1 .taken))))
+returns c =
+    let at-part-at = c .before .before in
+    let at-loop-test = at-part-at .before in
+    let at-loop = at-loop-test .before in
+    sym
+    ((at-loop .loop .inv .0) ∙ found-here _ _ _ _ _ (at-loop-test .loop-test .taken)
+    (rw (at-part-at .part-at .ensures) at (sym (c .before .same-bytes .ensures) ∙ (c .if1 .taken))))
 
 add-i : tie.Need-add-i Inv-loop μ-loop
 add-i c = omega arith
@@ -33,7 +39,14 @@ loop-less : tie.Need-loop-less Inv-loop μ-loop
 loop-less c = omega arith
 
 loop-again : tie.Need-loop-again Inv-loop μ-loop
-loop-again c = ((c .before .before .before .before .loop .inv .0) ∙ found-next _ _ _ _ _ ((c .before .before .before .loop-test .taken)) (rw ((c .before .before .part-at .ensures)) at (sym ((c .before .same-bytes .ensures)) ∙ (c .if1 .left))), omega arith)
+loop-again c =
+    let at-part-at = c .before .before in
+    let at-loop-test = at-part-at .before in
+    let at-loop = at-loop-test .before in (
+      (at-loop .loop .inv .0) ∙ found-next _ _ _ _ _ (at-loop-test .loop-test .taken)
+          (rw (at-part-at .part-at .ensures) at (sym (c .before .same-bytes .ensures) ∙ (c .if1 .left))),
+      omega arith,
+    )
 
 returns-2 : tie.Need-returns-2 Inv-loop μ-loop
 returns-2 c = sym ((c .before .loop .inv .0) ∙ found-end _ _ _ _ _ (omega (arith, (c .before .loop .inv .1), (c .loop-test .left))))

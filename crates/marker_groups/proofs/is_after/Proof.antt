@@ -23,14 +23,23 @@ count-fields-requires c κs = search needs
 
 returns-2 : tie.Need-returns-2
 unfolding text comma
-returns-2 c = sym (there-many _ (sym ((c .before .before .before .same-bytes .ensures)) ∙ (c .before .before .if1 .left)) (rw ((c .before .count-fields .ensures)) at ((c .if2 .taken))))
+returns-2 c =
+    let at-if1 = c .before .before in
+    let at-same-bytes = at-if1 .before in
+    sym (there-many _ (sym (at-same-bytes .same-bytes .ensures) ∙ (at-if1 .if1 .left)) (rw (c .before .count-fields .ensures) at (c .if2 .taken)))
 
 all-names-requires : tie.Need-all-names-requires
 all-names-requires c κs = search needs
 
 returns-3 : tie.Need-returns-3
 unfolding text comma
-returns-3 c = (c .all-names .ensures) ∙ sym (there-names _ (sym ((c .before .before .before .before .same-bytes .ensures)) ∙ (c .before .before .before .if1 .left)) (omega (arith, (c .before .before .count-fields .ensures), (c .before .if2 .left))))
+returns-3 c =
+    let at-count-fields = c .before .before in
+    let at-if1 = at-count-fields .before in
+    let at-same-bytes = at-if1 .before in
+    (c .all-names .ensures) ∙ sym
+    (there-names _ (sym (at-same-bytes .same-bytes .ensures) ∙ (at-if1 .if1 .left))
+    (omega (arith, (at-count-fields .count-fields .ensures), (c .before .if2 .left))))
 
 pub is-after-spec : {M : Type 1} → statement M
 is-after-spec =

@@ -28,7 +28,9 @@ unfolding keyOf text
 returns c = marker-wrong _ _ ((rw ((c .enum-told .given .1)) at ((c .before .before .name-line .ensures))) .0)
 
 add-name-line : tie.Need-add-name-line
-add-name-line c = let h = line-within _ _ _ name _ _ ((rw ((c .before .first .given .1)) at ((c .before .before .before .name-line .ensures))) .0) in omega arith
+add-name-line c =
+    let name-line = c .before .before .before .name-line in
+    let h = line-within _ _ _ name _ _ ((rw (c .before .first .given .1) at (name-line .ensures)) .0) in omega arith
 
 slice-aggregate-name-line-2 : tie.Need-slice-aggregate-name-line-2
 slice-aggregate-name-line-2 c = search needs
@@ -44,10 +46,17 @@ enum-told-2 c = search needs
 
 returns-2 : tie.Need-returns-2
 unfolding keyOf text
-returns-2 c = contig-wrong _ _ _ _ ((rw ((c .before .before .before .before .before .first .given .1)) at ((c .before .before .before .before .before .before .before .name-line .ensures))) .0) ((rw ((c .enum-told2 .given .1)) at ((c .before .before .name-line2 .ensures))) .0)
+returns-2 c =
+    let at-name-line2 = c .before .before in
+    let at-first = at-name-line2 .before .before .before in
+    let at-name-line = at-first .before .before in
+    contig-wrong _ _ _ _ ((rw (at-first .first .given .1) at (at-name-line .name-line .ensures)) .0)
+    ((rw (c .enum-told2 .given .1) at (at-name-line2 .name-line2 .ensures)) .0)
 
 add-number-line : tie.Need-add-number-line
-add-number-line c = let h = line-within _ _ _ name _ _ ((rw ((c .before .second .given .1)) at ((c .before .before .before .name-line2 .ensures))) .0) in omega arith
+add-number-line c =
+    let name-line2 = c .before .before .before .name-line2 in
+    let h = line-within _ _ _ name _ _ ((rw (c .before .second .given .1) at (name-line2 .ensures)) .0) in omega arith
 
 slice-aggregate-number-line : tie.Need-slice-aggregate-number-line
 slice-aggregate-number-line c = search needs
@@ -63,11 +72,20 @@ enum-told-3 c = search needs
 
 returns-3 : tie.Need-returns-3
 unfolding keyOf text maxNumber
-returns-3 c = pos-wrong _ _ _ _ ((rw ((c .before .before .before .before .before .before .before .before .before .before .first .given .1)) at ((c .before .before .before .before .before .before .before .before .before .before .before .before .name-line .ensures))) .0) _ _ ((rw ((c .before .before .before .before .before .second .given .1)) at ((c .before .before .before .before .before .before .before .name-line2 .ensures))) .0)
-    (rw ((c .enum-told3 .given .1)) at ((c .before .before .number-line .ensures)))
+returns-3 c =
+    let at-number-line = c .before .before in
+    let at-second = at-number-line .before .before .before in
+    let at-name-line2 = at-second .before .before in
+    let at-first = at-name-line2 .before .before .before in
+    let at-name-line = at-first .before .before in
+    pos-wrong _ _ _ _ ((rw (at-first .first .given .1) at (at-name-line .name-line .ensures)) .0) _ _
+    ((rw (at-second .second .given .1) at (at-name-line2 .name-line2 .ensures)) .0)
+    (rw (c .enum-told3 .given .1) at (at-number-line .number-line .ensures))
 
 add-allele-line : tie.Need-add-allele-line
-add-allele-line c = let h = line-within _ _ _ (numberIn 1 2147483647) _ _ (rw ((c .before .third .given .1)) at ((c .before .before .before .number-line .ensures))) in omega arith
+add-allele-line c =
+    let number-line = c .before .before .before .number-line in
+    let h = line-within _ _ _ (numberIn 1 2147483647) _ _ (rw (c .before .third .given .1) at (number-line .ensures)) in omega arith
 
 allele-line-requires : tie.Need-allele-line-requires
 allele-line-requires c κs = search needs
@@ -80,8 +98,18 @@ enum-told-4 c = search needs
 
 returns-4 : tie.Need-returns-4
 unfolding keyOf text maxNumber
-returns-4 c = allele-wrong _ _ _ _ ((rw ((c .before .before .before .before .before .before .before .before .before .before .before .before .before .before .first .given .1)) at ((c .before .before .before .before .before .before .before .before .before .before .before .before .before .before .before .before .name-line .ensures))) .0) _ _ ((rw ((c .before .before .before .before .before .before .before .before .before .second .given .1)) at ((c .before .before .before .before .before .before .before .before .before .before .before .name-line2 .ensures))) .0) _ _ (rw ((c .before .before .before .before .third .given .1)) at ((c .before .before .before .before .before .before .number-line .ensures)))
-    (rw ((c .enum-told4 .given .1)) at ((c .before .before .allele-line .ensures)))
+returns-4 c =
+    let at-allele-line = c .before .before in
+    let at-third = at-allele-line .before .before in
+    let at-number-line = at-third .before .before in
+    let at-second = at-number-line .before .before .before in
+    let at-name-line2 = at-second .before .before in
+    let at-first = at-name-line2 .before .before .before in
+    let at-name-line = at-first .before .before in
+    allele-wrong _ _ _ _ ((rw (at-first .first .given .1) at (at-name-line .name-line .ensures)) .0) _ _
+    ((rw (at-second .second .given .1) at (at-name-line2 .name-line2 .ensures)) .0) _ _
+    (rw (at-third .third .given .1) at (at-number-line .number-line .ensures))
+    (rw (c .enum-told4 .given .1) at (at-allele-line .allele-line .ensures))
 
 add-number-line-2 : tie.Need-add-number-line-2
 add-number-line-2 c = let h = line-within _ _ _ wantedAllele _ _ (rw ((c .before .fourth .given .1)) at ((c .before .before .before .allele-line .ensures))) in omega arith
@@ -100,12 +128,28 @@ enum-told-5 c = search needs
 
 returns-5 : tie.Need-returns-5
 unfolding keyOf text maxNumber
-returns-5 c = weight-wrong _ _ _ _ ((rw ((c .before .before .before .before .before .before .before .before .before .before .before .before .before .before .before .before .before .before .before .first .given .1)) at ((c .before .before .before .before .before .before .before .before .before .before .before .before .before .before .before .before .before .before .before .before .before .name-line .ensures))) .0) _ _ ((rw ((c .before .before .before .before .before .before .before .before .before .before .before .before .before .before .second .given .1)) at ((c .before .before .before .before .before .before .before .before .before .before .before .before .before .before .before .before .name-line2 .ensures))) .0) _ _ (rw ((c .before .before .before .before .before .before .before .before .before .third .given .1)) at ((c .before .before .before .before .before .before .before .before .before .before .before .number-line .ensures))) _ _ (rw ((c .before .before .before .before .before .fourth .given .1)) at ((c .before .before .before .before .before .before .before .allele-line .ensures)))
-    (rw ((c .enum-told5 .given .1)) at ((c .before .before .number-line2 .ensures)))
+returns-5 c =
+    let at-number-line2 = c .before .before in
+    let at-fourth = at-number-line2 .before .before .before in
+    let at-allele-line = at-fourth .before .before in
+    let at-third = at-allele-line .before .before in
+    let at-number-line = at-third .before .before in
+    let at-second = at-number-line .before .before .before in
+    let at-name-line2 = at-second .before .before in
+    let at-first = at-name-line2 .before .before .before in
+    let at-name-line = at-first .before .before in
+    weight-wrong _ _ _ _ ((rw (at-first .first .given .1) at (at-name-line .name-line .ensures)) .0) _ _
+    ((rw (at-second .second .given .1) at (at-name-line2 .name-line2 .ensures)) .0) _ _
+    (rw (at-third .third .given .1) at (at-number-line .number-line .ensures)) _ _
+    (rw (at-fourth .fourth .given .1) at (at-allele-line .allele-line .ensures))
+    (rw (c .enum-told5 .given .1) at (at-number-line2 .number-line2 .ensures))
 
 add-after-line : tie.Need-add-after-line
-add-after-line c = let h = line-within _ _ _ (numberIn 1 100) _ _ (rw ((c .before .fifth .given .1)) at ((c .before .before .before .number-line2 .ensures))) in omega
-    (arith, h, c .before .before .before .before .before .before .before .before .before .before .before .before .before .before .before .before .before .before .before .before .before .before .before .before .before .good)
+add-after-line c =
+    let at-number-line2 = c .before .before .before in
+    let at-good = at-number-line2 .before .before .before .before .before .before .before .before .before .before .before .before .before .before .before .before .before .before .before .before .before .before in
+    let h = line-within _ _ _ (numberIn 1 100) _ _ (rw (c .before .fifth .given .1) at (at-number-line2 .number-line2 .ensures)) in omega
+    (arith, h, at-good .good)
 
 after-line-requires : tie.Need-after-line-requires
 after-line-requires c κs = search needs
@@ -118,16 +162,53 @@ enum-told-6 c = search needs
 
 returns-6 : tie.Need-returns-6
 unfolding keyOf text maxNumber
-returns-6 c = after-wrong _ _ _ _ ((rw ((c .before .before .before .before .before .before .before .before .before .before .before .before .before .before .before .before .before .before .before .before .before .before .before .first .given .1)) at ((c .before .before .before .before .before .before .before .before .before .before .before .before .before .before .before .before .before .before .before .before .before .before .before .before .before .name-line .ensures))) .0) _ _ ((rw ((c .before .before .before .before .before .before .before .before .before .before .before .before .before .before .before .before .before .before .second .given .1)) at ((c .before .before .before .before .before .before .before .before .before .before .before .before .before .before .before .before .before .before .before .before .name-line2 .ensures))) .0) _ _ (rw ((c .before .before .before .before .before .before .before .before .before .before .before .before .before .third .given .1)) at ((c .before .before .before .before .before .before .before .before .before .before .before .before .before .before .before .number-line .ensures))) _ _ (rw ((c .before .before .before .before .before .before .before .before .before .fourth .given .1)) at ((c .before .before .before .before .before .before .before .before .before .before .before .allele-line .ensures))) _ _ (rw ((c .before .before .before .before .fifth .given .1)) at ((c .before .before .before .before .before .before .number-line2 .ensures)))
-    (rw ((c .enum-told6 .given .1)) at ((c .before .before .after-line .ensures)))
+returns-6 c =
+    let at-after-line = c .before .before in
+    let at-fifth = at-after-line .before .before in
+    let at-number-line2 = at-fifth .before .before in
+    let at-fourth = at-number-line2 .before .before .before in
+    let at-allele-line = at-fourth .before .before in
+    let at-third = at-allele-line .before .before in
+    let at-number-line = at-third .before .before in
+    let at-second = at-number-line .before .before .before in
+    let at-name-line2 = at-second .before .before in
+    let at-first = at-name-line2 .before .before .before in
+    let at-name-line = at-first .before .before in
+    after-wrong _ _ _ _ ((rw (at-first .first .given .1) at (at-name-line .name-line .ensures)) .0) _ _
+    ((rw (at-second .second .given .1) at (at-name-line2 .name-line2 .ensures)) .0) _ _
+    (rw (at-third .third .given .1) at (at-number-line .number-line .ensures)) _ _
+    (rw (at-fourth .fourth .given .1) at (at-allele-line .allele-line .ensures)) _ _
+    (rw (at-fifth .fifth .given .1) at (at-number-line2 .number-line2 .ensures))
+    (rw (c .enum-told6 .given .1) at (at-after-line .after-line .ensures))
 
 add-next : tie.Need-add-next
-add-next c = let h = line-within _ _ _ namesAfter _ _ (rw ((c .before .sixth .given .1)) at ((c .before .before .before .after-line .ensures))) in omega (arith, h, (c .before .before .before .before .before .before .before .before .before .before .before .before .before .before .before .before .before .before .before .before .before .before .before .before .before .before .before .before .before .good))
+add-next c =
+    let at-after-line = c .before .before .before in
+    let at-good = at-after-line .before .before .before .before .before .before .before .before .before .before .before .before .before .before .before .before .before .before .before .before .before .before .before .before .before .before in
+    let h = line-within _ _ _ namesAfter _ _ (rw (c .before .sixth .given .1) at (at-after-line .after-line .ensures)) in omega (arith, h, (at-good .good))
 
 returns-7 : tie.Need-returns-7
 unfolding keyOf text maxNumber
-returns-7 c = lines-read _ _ _ _ ((rw ((c .before .before .before .before .before .before .before .before .before .before .before .before .before .before .before .before .before .before .before .before .before .before .before .before .first .given .1)) at ((c .before .before .before .before .before .before .before .before .before .before .before .before .before .before .before .before .before .before .before .before .before .before .before .before .before .before .name-line .ensures))) .0) _ _ ((rw ((c .before .before .before .before .before .before .before .before .before .before .before .before .before .before .before .before .before .before .before .second .given .1)) at ((c .before .before .before .before .before .before .before .before .before .before .before .before .before .before .before .before .before .before .before .before .before .name-line2 .ensures))) .0) _ _ (rw ((c .before .before .before .before .before .before .before .before .before .before .before .before .before .before .third .given .1)) at ((c .before .before .before .before .before .before .before .before .before .before .before .before .before .before .before .before .number-line .ensures))) _ _ (rw ((c .before .before .before .before .before .before .before .before .before .before .fourth .given .1)) at ((c .before .before .before .before .before .before .before .before .before .before .before .before .allele-line .ensures))) _ _ (rw ((c .before .before .before .before .before .fifth .given .1)) at ((c .before .before .before .before .before .before .before .number-line2 .ensures))) _ _ (rw ((c .before .sixth .given .1)) at ((c .before .before .before .after-line .ensures)))
-    (line-few _ _ _ _ _ (rw ((c .before .sixth .given .1)) at ((c .before .before .before .after-line .ensures))))
+returns-7 c =
+    let at-sixth = c .before in
+    let at-after-line = at-sixth .before .before in
+    let at-fifth = at-after-line .before .before in
+    let at-number-line2 = at-fifth .before .before in
+    let at-fourth = at-number-line2 .before .before .before in
+    let at-allele-line = at-fourth .before .before in
+    let at-third = at-allele-line .before .before in
+    let at-number-line = at-third .before .before in
+    let at-second = at-number-line .before .before .before in
+    let at-name-line2 = at-second .before .before in
+    let at-first = at-name-line2 .before .before .before in
+    let at-name-line = at-first .before .before in
+    lines-read _ _ _ _ ((rw (at-first .first .given .1) at (at-name-line .name-line .ensures)) .0) _ _
+    ((rw (at-second .second .given .1) at (at-name-line2 .name-line2 .ensures)) .0) _ _
+    (rw (at-third .third .given .1) at (at-number-line .number-line .ensures)) _ _
+    (rw (at-fourth .fourth .given .1) at (at-allele-line .allele-line .ensures)) _ _
+    (rw (at-fifth .fifth .given .1) at (at-number-line2 .number-line2 .ensures)) _ _
+    (rw (at-sixth .sixth .given .1) at (at-after-line .after-line .ensures))
+    (line-few _ _ _ _ _ (rw (at-sixth .sixth .given .1) at (at-after-line .after-line .ensures)))
 
 pub marker-lines-spec : {M : Type 1} → statement M
 marker-lines-spec =

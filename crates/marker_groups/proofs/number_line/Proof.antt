@@ -22,10 +22,17 @@ returns-2 : tie.Need-returns-2
 returns-2 c = too-low _ _ _ _ _ _ _ (rw ((c .before .before .line .given .1)) at ((c .before .before .before .before .number-line .ensures))) ((c .if1 .taken))
 
 returns-3 : tie.Need-returns-3
-returns-3 c = too-high _ _ _ _ _ _ _ (rw ((c .before .before .before .line .given .1)) at ((c .before .before .before .before .before .number-line .ensures))) (omega (arith, (c .before .if1 .left))) ((c .if2 .taken))
+returns-3 c =
+    let at-line = c .before .before .before in
+    let at-number-line = at-line .before .before in
+    too-high _ _ _ _ _ _ _ (rw (at-line .line .given .1) at (at-number-line .number-line .ensures)) (omega (arith, (c .before .if1 .left))) (c .if2 .taken)
 
 returns-4 : tie.Need-returns-4
-returns-4 c = in-range _ _ _ _ _ _ _ (rw ((c .before .before .before .line .given .1)) at ((c .before .before .before .before .before .number-line .ensures))) (omega (arith, (c .before .if1 .left))) (omega (arith, (c .if2 .left)))
+returns-4 c =
+    let at-line = c .before .before .before in
+    let at-number-line = at-line .before .before in
+    in-range _ _ _ _ _ _ _ (rw (at-line .line .given .1) at (at-number-line .number-line .ensures)) (omega (arith, (c .before .if1 .left)))
+    (omega (arith, (c .if2 .left)))
 
 pub number-line-spec : {M : Type 1} → statement M
 number-line-spec =

@@ -33,14 +33,24 @@ clear-requires : tie.Need-clear-requires Inv-loop μ-loop
 clear-requires c κs = search needs
 
 same-length : tie.Need-same-length Inv-loop μ-loop
-same-length c = ((c .before .before .clear .kept .0)) ∙ ((c .before .before .before .before .before .before .before .before .before .marker-at .kept .1 .1 .0)) ∙ (c .before .before .before .before .before .before .before .before .before .before .before .before .loop .inv .0 .long)
+same-length c =
+    let at-clear = c .before .before in
+    let at-marker-at = at-clear .before .before .before .before .before .before .before in
+    let at-loop = at-marker-at .before .before .before in
+    (at-clear .clear .kept .0) ∙ (at-marker-at .marker-at .kept .1 .1 .0) ∙ (at-loop .loop .inv .0 .long)
 
 returns-2 : tie.Need-returns-2 Inv-loop μ-loop
 unfolding MarkersRead MarkerRead
-returns-2 c = record {
-  value = reading-refused ((c .before .before .before .before .before .before .before .before .before .before .before .before .loop .inv .0)) ((c .before .before .before .before .before .before .before .before .before .before .before .loop-test .taken)) _ (rw ((c .before .before .before .before .before .found .given .1)) at ((c .before .before .before .before .before .before .before .before .before .marker-at .ensures)));
-  cleared = ((c .before .before .clear .ensures)) ∙ scratch-same _ _ (((c .before .before .before .before .before .before .before .before .before .marker-at .kept .1 .1 .0)) ∙ (c .before .before .before .before .before .before .before .before .before .before .before .before .loop .inv .0 .long));
-}
+returns-2 c =
+    let at-clear = c .before .before in
+    let at-found = at-clear .before .before .before in
+    let at-marker-at = at-found .before .before .before .before in
+    let at-loop-test = at-marker-at .before .before in
+    let at-loop = at-loop-test .before in
+    record {
+      value = reading-refused (at-loop .loop .inv .0) (at-loop-test .loop-test .taken) _ (rw (at-found .found .given .1) at (at-marker-at .marker-at .ensures));
+      cleared = (at-clear .clear .ensures) ∙ scratch-same _ _ ((at-marker-at .marker-at .kept .1 .1 .0) ∙ (at-loop .loop .inv .0 .long));
+    }
 
 enum-known-found-2 : tie.Need-enum-known-found-2 Inv-loop μ-loop
 enum-known-found-2 c = search needs
@@ -50,11 +60,21 @@ add-count c = let few = (c .before .before .before .before .before .before .befo
 
 loop-less : tie.Need-loop-less Inv-loop μ-loop
 unfolding MarkerRead
-loop-less c = let to = rw ((c .before .found2 .given .1)) at ((c .before .before .before .before .before .marker-at .ensures)) in omega (arith, to .forward, to .within, (c .before .before .before .before .before .before .before .loop-test .taken))
+loop-less c =
+    let at-marker-at = c .before .before .before .before .before in
+    let at-loop-test = at-marker-at .before .before in
+    let to = rw (c .before .found2 .given .1) at (at-marker-at .marker-at .ensures) in omega (arith, to .forward, to .within, (at-loop-test .loop-test .taken))
 
 loop-again : tie.Need-loop-again Inv-loop μ-loop
 unfolding MarkerRead
-loop-again c = (reading-next ((c .before .before .before .before .before .before .before .before .loop .inv .0)) ((c .before .before .before .before .before .before .before .loop-test .taken)) _ _ (rw ((c .before .found2 .given .1)) at ((c .before .before .before .before .before .marker-at .ensures))) ((c .before .before .before .before .before .marker-at .kept .1 .1 .0)), (c .before .before .before .before .before .before .before .before .loop .inv .1))
+loop-again c =
+    let at-marker-at = c .before .before .before .before .before in
+    let at-loop-test = at-marker-at .before .before in
+    let at-loop = at-loop-test .before in (
+      reading-next (at-loop .loop .inv .0) (at-loop-test .loop-test .taken) _ _ (rw (c .before .found2 .given .1) at (at-marker-at .marker-at .ensures))
+          (at-marker-at .marker-at .kept .1 .1 .0),
+      (at-loop .loop .inv .1),
+    )
 
 same-length-2 : tie.Need-same-length-2 Inv-loop μ-loop
 same-length-2 c = (c .before .loop .inv .0 .long)

@@ -31,13 +31,25 @@ slice-aggregate-result c = search needs
 
 returns-2 : tie.Need-returns-2
 unfolding FieldFound comma
-returns-2 c = let h = rw ((c .before .before .field .given .1)) at ((c .before .before .before .before .field-at .ensures)) in
-    (c .part .ensures) ∙ sym (h .1) ∙ sym (field-number _ (fieldsOf comma (c .before .before .before .before .before .before .before .before .args .alts .now)) (c .before .before .before .before .before .before .before .before .args .number) (omega (arith, (c .before .before .before .before .before .if1 .left))))
+returns-2 c =
+    let at-field = c .before .before in
+    let at-field-at = at-field .before .before in
+    let at-if1 = at-field-at .before in
+    let at-args = at-if1 .before .before .before in
+    let h = rw (at-field .field .given .1) at (at-field-at .field-at .ensures) in
+    (c .part .ensures) ∙ sym (h .1) ∙ sym
+    (field-number _ (fieldsOf comma (at-args .args .alts .now)) (at-args .args .number) (omega (arith, (at-if1 .if1 .left))))
 
 returns-3 : tie.Need-returns-3
 unfolding FieldFound comma
-returns-3 c = let h = rw ((c .before .enum-told .given .1)) at ((c .before .before .before .field-at .ensures)) in
-    sym (field-number _ (fieldsOf comma (c .before .before .before .before .before .before .before .args .alts .now)) (c .before .before .before .before .before .before .before .args .number) (omega (arith, (c .before .before .before .before .if1 .left))) ∙ past-fields (fieldsOf comma (c .before .before .before .before .before .before .before .args .alts .now)) _ h)
+returns-3 c =
+    let at-field-at = c .before .before .before in
+    let at-if1 = at-field-at .before in
+    let at-args = at-if1 .before .before .before in
+    let h = rw (c .before .enum-told .given .1) at (at-field-at .field-at .ensures) in
+    sym
+    (field-number _ (fieldsOf comma (at-args .args .alts .now)) (at-args .args .number) (omega (arith, (at-if1 .if1 .left))) ∙ past-fields
+    (fieldsOf comma (at-args .args .alts .now)) _ h)
 
 pub allele-at-spec : {M : Type 1} → statement M
 allele-at-spec =

@@ -41,7 +41,12 @@ is-least-with-requires c κs = search needs
 
 returns : tie.Need-returns Inv-loop μ-loop
 unfolding inLeastPair
-returns c = any-here _ _ _ ((c .before .before .before .before .loop .inv .0)) (omega (arith, (c .before .before .before .before .loop .inv .1), (c .before .before .before .loop-test .taken))) (rw ((c .before .before .before .before .before .least-pl .ensures)) at (sym ((c .before .is-least-with .ensures)) ∙ (c .if1 .taken)))
+returns c =
+    let at-loop-test = c .before .before .before in
+    let at-loop = at-loop-test .before in
+    let at-least-pl = at-loop .before in
+    any-here _ _ _ (at-loop .loop .inv .0) (omega (arith, (at-loop .loop .inv .1), (at-loop-test .loop-test .taken)))
+    (rw (at-least-pl .least-pl .ensures) at (sym (c .before .is-least-with .ensures) ∙ (c .if1 .taken)))
 
 add-i : tie.Need-add-i Inv-loop μ-loop
 add-i c = omega (arith, (c .before .before .before .before .loop .inv .1), (c .before .before .before .loop-test .taken))
@@ -50,7 +55,14 @@ loop-less : tie.Need-loop-less Inv-loop μ-loop
 loop-less c = omega (arith, (c .before .before .before .loop-test .taken))
 
 loop-again : tie.Need-loop-again Inv-loop μ-loop
-loop-again c = (any-next _ _ _ ((c .before .before .before .before .loop .inv .0)) (omega (arith, (c .before .before .before .before .loop .inv .1), (c .before .before .before .loop-test .taken))) (rw ((c .before .before .before .before .before .least-pl .ensures)) at (sym ((c .before .is-least-with .ensures)) ∙ (c .if1 .left))), (c .before .before .before .before .loop .inv .1))
+loop-again c =
+    let at-loop-test = c .before .before .before in
+    let at-loop = at-loop-test .before in
+    let at-least-pl = at-loop .before in (
+      any-next _ _ _ (at-loop .loop .inv .0) (omega (arith, (at-loop .loop .inv .1), (at-loop-test .loop-test .taken)))
+          (rw (at-least-pl .least-pl .ensures) at (sym (c .before .is-least-with .ensures) ∙ (c .if1 .left))),
+      (at-loop .loop .inv .1),
+    )
 
 returns-2 : tie.Need-returns-2 Inv-loop μ-loop
 unfolding inLeastPair

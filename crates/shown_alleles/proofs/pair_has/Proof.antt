@@ -29,7 +29,12 @@ is-either-requires-2 c κs = search needs
 
 returns : tie.Need-returns
 unfolding pairOf
-returns c = let e = rw ((c .before .before .get .ensures), (c .before .get2 .ensures)) at ((c .is-either .ensures)) in e ∙ pair-there _ _ _ _ (rw ((c .before .before .before .before .at .given .1)) at ((c .before .before .before .before .before .before .pair-at .ensures)))
+returns c =
+    let at-get = c .before .before in
+    let at-at = at-get .before .before in
+    let at-pair-at = at-at .before .before in
+    let e = rw ((at-get .get .ensures), (c .before .get2 .ensures)) at (c .is-either .ensures) in
+    e ∙ pair-there _ _ _ _ (rw (at-at .at .given .1) at (at-pair-at .pair-at .ensures))
 
 returns-2 : tie.Need-returns-2
 unfolding pairOf

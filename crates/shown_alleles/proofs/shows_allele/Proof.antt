@@ -39,16 +39,29 @@ is-shown-requires c κs = (c .before .before .before .before .before .before .be
 
 returns : tie.Need-returns Inv-loop μ-loop
 unfolding showsAny
-returns c = any-here _ _ _ ((c .before .before .before .before .loop .inv)) ((c .before .before .before .loop-test .taken)) (rw ((c .before .before .allele-at .ensures)) at (sym ((c .before .is-shown .ensures)) ∙ (c .if1 .taken)))
+returns c =
+    let at-allele-at = c .before .before in
+    let at-loop-test = at-allele-at .before in
+    let at-loop = at-loop-test .before in
+    any-here _ _ _ (at-loop .loop .inv) (at-loop-test .loop-test .taken)
+    (rw (at-allele-at .allele-at .ensures) at (sym (c .before .is-shown .ensures) ∙ (c .if1 .taken)))
 
 add-number : tie.Need-add-number Inv-loop μ-loop
-add-number c = omega (arith, (c .before .before .before .loop-test .taken), (c .before .before .before .before .before .before .before .before .before .fits .alleles))
+add-number c =
+    let at-loop-test = c .before .before .before in
+    let at-fits = at-loop-test .before .before .before .before .before .before in
+    omega (arith, (at-loop-test .loop-test .taken), (at-fits .fits .alleles))
 
 loop-less : tie.Need-loop-less Inv-loop μ-loop
 loop-less c = omega (arith, (c .before .before .before .loop-test .taken))
 
 loop-again : tie.Need-loop-again Inv-loop μ-loop
-loop-again c = any-next _ _ _ ((c .before .before .before .before .loop .inv)) ((c .before .before .before .loop-test .taken)) (rw ((c .before .before .allele-at .ensures)) at (sym ((c .before .is-shown .ensures)) ∙ (c .if1 .left)))
+loop-again c =
+    let at-allele-at = c .before .before in
+    let at-loop-test = at-allele-at .before in
+    let at-loop = at-loop-test .before in
+    any-next _ _ _ (at-loop .loop .inv) (at-loop-test .loop-test .taken)
+    (rw (at-allele-at .allele-at .ensures) at (sym (c .before .is-shown .ensures) ∙ (c .if1 .left)))
 
 returns-2 : tie.Need-returns-2 Inv-loop μ-loop
 unfolding showsAny
