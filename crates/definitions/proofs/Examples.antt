@@ -25,6 +25,7 @@ use Rattle.definitions.specs.Numbers.{decimal, decimals, writtenOrMissin
 use Rattle.definitions.specs.Printed.{printedValues, writtenGenotype}
 use Rattle.definitions.specs.Records.{Record}
 use Rattle.definitions.specs.ReverseTrim.{trimmedAlleles}
+use Rattle.definitions.specs.SelectionSheet.{selectionSheet}
 use Rattle.definitions.proofs.Evaluated.{evaluated}
 
 -- ---- texts, written shortly
@@ -330,3 +331,33 @@ lookedUpRows =
 pub lookedUpRows-right : T (allOf right lookedUpRows)
 unfolding evaluated
 lookedUpRows-right = tt
+
+-- ---- the selection sheet of the called list
+
+-- a marker at position 10 of contig c
+abbrev marker : String → String → String → String → List ℕ
+marker name allele weight after =
+    line "marker" (text name) ++ line "contig" (text "c") ++ line "pos" (text "10")
+    ++ line "allele" (text allele) ++ line "weight" (text weight) ++ line "after" (text after)
+
+abbrev sheetOf : List ℕ → List ℕ
+sheetOf markers = printedAnswer (selectionSheet markers (callProgram (some exampleList)) 65536)
+
+abbrev pub sheetRows : List Row
+sheetRows =
+    (sheetOf (marker "m1" "G" "5" "." ++ marker "m2" "A" "3" "." ++ marker "m3" "a" "7" "m2,m1") gives "sample=S0\nsum=3\nsample=S1\nsum=15\n")
+    ∷ (sheetOf (marker "m1" "*" "5" "." ++ marker "m2" "A" "3" "m1") gives "sample=S0\nsum=0\nsample=S1\nsum=0\n")
+    ∷ (sheetOf [] gives "sample=S0\nsum=0\nsample=S1\nsum=0\n")
+    ∷ (sheetOf (marker "m1" "G" "101" ".") gives "refused=19\n")
+    ∷ (sheetOf (marker "m1" "<NON_REF>" "5" ".") gives "refused=19\n")
+    ∷ (sheetOf (marker "m1" "G" "5" "." ++ marker "m1" "G" "5" ".") gives "refused=19\n")
+    ∷ (sheetOf (marker "m1" "G" "5" "a,b,c,d,e") gives "refused=19\n")
+    ∷ (sheetOf (marker "m1" "G" "5" "m2" ++ marker "m2" "A" "3" ".") gives "refused=20\n")
+    ∷ (sheetOf (marker "m1" "G" "5" "m1") gives "refused=20\n")
+    ∷ (printedAnswer (selectionSheet [] (text "samples=1\nsample=S0\nrecords=1\n") 65536) gives "refused=1\n")
+    ∷ (printedAnswer (selectionSheet [] (callProgram (some exampleList)) 31) gives "refused=14\n")
+    ∷ []
+
+pub sheetRows-right : T (allOf right sheetRows)
+unfolding evaluated
+sheetRows-right = tt

@@ -59,15 +59,16 @@ after-trans r s t h a b = past-after r t (go (after-past r s a) (after-past s t 
     go (inr (e, k)) (inr (f, l)) = inr (e ∙ f, omega arith)
 
 -- records each after all before it are each after the nearest
-pub each-after : {samples : ℕ} {rs : List Record} → Every (SoundRecord samples) rs → Pairwise After rs → SoundRecords samples rs
+pub each-after : {P : Record → Type 0} {rs : List Record} → Every P rs → Pairwise After rs
+    → EachAfter (λ before r. P r × (comesAfter before (r .contig) (r .pos) ≡ true)) [] rs
 unfolding After comesAfter
 each-after nothing alone = done
-each-after (also {x = r} {xs = rs} h hs) (before-all b bs) = next (record { sound = h; after = refl }) (onwards hs b bs)
+each-after {P} (also h hs) (before-all b bs) = next (h, refl) (onwards hs b bs)
   where
-    onwards : {samples : ℕ} {p : Record} {before rs : List Record} → Every (SoundRecord samples) rs → Every (After p) rs
-        → Pairwise After rs → EachAfter (RecordAfter samples) (p ∷ before) rs
+    onwards : {p : Record} {before rs : List Record} → Every P rs → Every (After p) rs → Pairwise After rs
+        → EachAfter (λ before r. P r × (comesAfter before (r .contig) (r .pos) ≡ true)) (p ∷ before) rs
     onwards nothing nothing alone = done
-    onwards (also h hs) (also a as′) (before-all b bs) = next (record { sound = h; after = a }) (onwards hs b bs)
+    onwards (also h hs) (also a as′) (before-all b bs) = next (h, a) (onwards hs b bs)
 
 -- records read behind one, each after the nearest before it, are each after all before it and after that one
 pub behind-in-order : {samples : ℕ} (p : Record) (before : List Record) {rs : List Record} → EachAfter (RecordAfter samples) (p ∷ before) rs

@@ -79,7 +79,7 @@ module _ {s : List ℕ} {h : RecordHead} {last : Previous} {fit : Bool} {at samp
 
 -- ---- the tests of the code as those of the definitions
 
-came-after : (s : List ℕ) (before : List Record) (last : Previous) (contig : List ℕ) (pos : ℕ) → PreviousOf s before last
+pub came-after : (s : List ℕ) (before : List Record) (last : Previous) (contig : List ℕ) (pos : ℕ) → PreviousOf s before last
     → comesAfter before contig pos ≡ comesAfterLast s last contig pos
 unfolding PreviousOf comesAfter recordEnd
 came-after s before None contig pos e = rw e
@@ -106,7 +106,7 @@ module _ (ref alt : List ℕ) (n : ℕ) (number : n ≡ suc (length (fieldsOf co
   allowed none = refl
   allowed (some end) = block
 
-all-same : {A : Type 0} (p q : A → Bool) → ((x : A) → p x ≡ q x) → (l : List A) → allOf p l ≡ allOf q l
+pub all-same : {A : Type 0} (p q : A → Bool) → ((x : A) → p x ≡ q x) → (l : List A) → allOf p l ≡ allOf q l
 unfolding allOf
 all-same p q e [] = refl
 all-same p q e (x ∷ l) = rw (e x, all-same p q e l)

@@ -40,21 +40,21 @@ use Rattle.list_reader.specs.declared.SampleAt.the-variants.{Wrong}
 
 module _ {A : Type 0} (f : ℕ → Checked A) where
   -- those of n numbers from i on, behind values
-  abbrev After : List A → ℕ → ℕ → Checked (List A)
+  abbrev pub After : List A → ℕ → ℕ → Checked (List A)
   After vs i n = inOrder (map f (numbersFrom i n)) >>= λ later. accepted (vs ++ later)
 
-  after-start : (n : ℕ) → inOrder (map f (numbersFrom 0 n)) ≡ After [] 0 n
+  pub after-start : (n : ℕ) → inOrder (map f (numbersFrom 0 n)) ≡ After [] 0 n
   after-start n = go (inOrder (map f (numbersFrom 0 n)))
     where
       go : (c : Checked (List A)) → c ≡ (c >>= λ later. accepted ([] ++ later))
       go (refused k) = unfold _>>=_ in refl
       go (accepted l) = unfold _>>=_ in refl
 
-  after-refused : (vs : List A) (i n : ℕ) {k : ℕ} → f i ≡ refused k → After vs i (suc n) ≡ refused k
+  pub after-refused : (vs : List A) (i n : ℕ) {k : ℕ} → f i ≡ refused k → After vs i (suc n) ≡ refused k
   unfolding inOrder numbersFrom _>>=_
   after-refused vs i n e = rw e
 
-  after-next : (vs : List A) (i n : ℕ) {a : A} → f i ≡ accepted a → After vs i (suc n) ≡ After (vs ++ (a ∷ [])) (suc i) n
+  pub after-next : (vs : List A) (i n : ℕ) {a : A} → f i ≡ accepted a → After vs i (suc n) ≡ After (vs ++ (a ∷ [])) (suc i) n
   unfolding inOrder numbersFrom _>>=_
   after-next vs i n {a} e = rw e (go (inOrder (map f (numbersFrom (suc i) n))))
     where
@@ -63,7 +63,7 @@ module _ {A : Type 0} (f : ℕ → Checked A) where
       go (refused k) = refl
       go (accepted l) = rw (append-assoc vs (a ∷ []) l)
 
-  after-end : (vs : List A) (i : ℕ) → After vs i 0 ≡ accepted vs
+  pub after-end : (vs : List A) (i : ℕ) → After vs i 0 ≡ accepted vs
   unfolding inOrder numbersFrom _>>=_
   after-end vs i = simp append-nil
 
@@ -83,7 +83,7 @@ module _ {A : Type 0} (p : A → Bool) where
       go true = refl
       go false = refl
 
-  all-more : (l : List A) (x : A) → allOf p (l ++ (x ∷ [])) ≡ (allOf p l && p x)
+  pub all-more : (l : List A) (x : A) → allOf p (l ++ (x ∷ [])) ≡ (allOf p l && p x)
   unfolding allOf
   all-more [] x = go (p x)
     where
@@ -108,7 +108,7 @@ pl-there t c h = go (numberList t) (numbers-sound t) h
     go (some ns) sound e = let k = sound ns refl .some-number in sym (lt-ltb 0 c (omega arith))
 
 -- AD has as many numbers as there are alleles
-ad-by : (ref alt t : List ℕ) (c : ℕ) → c ≡ length (Option·getD (numberList t) [])
+pub ad-by : (ref alt t : List ℕ) (c : ℕ) → c ≡ length (Option·getD (numberList t) [])
     → missingOr (λ ad. eqb (length ad) (suc (length (refAltsAsRead ref (fieldsOf comma alt) .alts)))) (numberList t)
     ≡ (eqb c 0 || eqb c (suc (length (fieldsOf comma alt))))
 unfolding missingOr refAltsAsRead

@@ -84,7 +84,7 @@ fn gt_line(s: &[u8], at: usize, alts: usize) -> GtAt
 }
 
 // The list of numbers in the line at an offset: where it stands and how many it has. The numbers go nowhere.
-fn part_line(s: &[u8], at: usize, key: &[u8]) -> PartAt
+pub fn part_line(s: &[u8], at: usize, key: &[u8]) -> PartAt
     ensures { λ r. ⌜ LineReads (now (s .entry)) at (now (key .entry)) (orMissing numberList) (partFound (now (s .entry)) r) × PartCounted (now (s .entry)) r ⌝ }
 {
     let mut room = [0u32; 1];
@@ -237,7 +237,7 @@ fn missing_or(count: usize, size: usize) -> bool
 }
 
 // Row 8, for REF and fewer than 16 ALTs, given whether it let those before through: n(n+1)/2 numbers in PL and n in AD.
-fn counts_fit(before: bool, alts: usize, pl: usize, ad: usize) -> bool
+pub fn counts_fit(before: bool, alts: usize, pl: usize, ad: usize) -> bool
     ensures { λ r. ⌜ r ≡ before && (ltb alts 16 && ((eqb pl 0 || eqb pl (genotypeCount (suc alts))) && (eqb ad 0 || eqb ad (suc alts)))) ⌝ }
 {
     if !before {
@@ -312,7 +312,7 @@ pub enum Previous {
 }
 
 // Row 4: whether a record at this position of this contig comes after the one before it.
-fn comes_after(s: &[u8], previous: Previous, contig: &[u8], pos: GenomePosition) -> bool
+pub fn comes_after(s: &[u8], previous: Previous, contig: &[u8], pos: GenomePosition) -> bool
     ensures { λ r. ⌜ r ≡ comesAfterLast (now (s .entry)) previous (now (contig .entry)) (pos .0) ⌝ }
 {
     let Previous::Last(part, last) = previous else {
