@@ -22,6 +22,7 @@ use Rattle.definitions.specs.Likelihoods.{log10FromPl}
 use Rattle.definitions.specs.Lines.{line}
 use Rattle.definitions.specs.ListReader.{writtenList}
 use Rattle.definitions.specs.Lists.{allOf}
+use Rattle.definitions.specs.LookUp.{LookedUp, lookUp}
 use Rattle.definitions.specs.Numbers.{decimal, decimals, writtenOrMissing}
 use Rattle.definitions.specs.Printed.{printedValues, writtenGenotype}
 use Rattle.definitions.specs.Records.{Record}
@@ -304,6 +305,32 @@ pub called : callProgram (some exampleList)
     ++ text "gq=40\ndp=8\nad=4,4\npl=40,0,50\n"
 unfolding evaluated
 called = refl
+
+-- ---- places looked up in the printed list
+
+-- a pair on contig c
+abbrev asked : String → List ℕ
+asked pos = line "contig" (text "c") ++ line "pos" (text pos)
+
+-- the record of each pair, and how many record groups were read
+abbrev answered : Checked LookedUp → List ℕ
+answered (refused n) = line "refused" (decimal n)
+answered (accepted l) = joinedBy 59 (map (writtenOrMissing decimal) (l .found)) ++ text " of " ++ decimal (l .groups)
+
+abbrev pub lookedUpRows : List Row
+lookedUpRows =
+    (answered (lookUp exampleList (asked "9" ++ asked "10" ++ asked "10")) gives ".;0;0 of 1")
+    ∷ (answered (lookUp exampleList (asked "10" ++ asked "11")) gives "0;1 of 2")
+    ∷ (answered (lookUp exampleList (asked "11" ++ text "contig=d\npos=1\n")) gives "1;. of 2")
+    ∷ (answered (lookUp exampleList []) gives " of 0")
+    ∷ (answered (lookUp exampleList (asked "11" ++ asked "10")) gives "refused=18\n")
+    ∷ (answered (lookUp (exampleList ++ text "x") (asked "11")) gives "1 of 2")
+    ∷ (answered (lookUp (exampleList ++ text "x") (asked "12")) gives "refused=1\n")
+    ∷ []
+
+pub lookedUpRows-right : T (allOf right lookedUpRows)
+unfolding evaluated
+lookedUpRows-right = tt
 
 -- ---- depth along a contig
 
