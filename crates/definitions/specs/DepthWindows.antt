@@ -1,5 +1,5 @@
 -- Depth along a contig of a combined list: for each window, how many of its positions lie in a record with enough DP. Rows 17 and 14.
-use Prim.Native.Nat.{_*_, _+_, _-_, _/_, max, suc, ℕ}
+use Prim.Native.Nat.{_*_, _+_, _-_, _/_, max, min, suc, ℕ}
 use lib.Dec.{leb, ltb}
 use lib.ListN.{getD, length}
 use mathlib.Core.Bool.{Bool, _&&_, cond, false}
@@ -31,6 +31,10 @@ deepAt sample threshold p r =
 unfoldable pub deepPositions : List Record → ℕ → ℕ → ℕ → ℕ → ℕ
 deepPositions here sample threshold size begin =
     length (filterBy (λ p. anyOf (deepAt sample threshold p) here) (numbersFrom begin size))
+
+-- the same of one stretch, from a first to a last position, by arithmetic: how many positions of the window lie in it
+unfoldable pub overlap : ℕ → ℕ → ℕ → ℕ → ℕ
+overlap first last size begin = min (suc last) (begin + size) - max first begin
 
 -- where windows begin: at a first position and each step on, up to a last position
 unfoldable pub windowStarts : ℕ → ℕ → ℕ → List ℕ

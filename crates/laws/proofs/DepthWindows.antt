@@ -10,7 +10,7 @@ use mathlib.Core.Logic.{inl, inr}
 use mathlib.Core.Path.{_∙_, _≡_, ap, ap₂, refl, sym}
 use native.Mathlib.Omega.{arith}
 use Rattle.definitions.specs.Bytes.{sameBytes}
-use Rattle.definitions.specs.DepthWindows.{deepAt, deepPositions, firstPosition, isDeep, lastPosition, recordsOn}
+use Rattle.definitions.specs.DepthWindows.{deepAt, deepPositions, firstPosition, isDeep, lastPosition, overlap, recordsOn}
 use Rattle.definitions.specs.Genotypes.{missingData}
 use Rattle.definitions.specs.Lists.{anyOf, filterBy, numbersFrom}
 use Rattle.definitions.specs.Records.{Record, recordEnd}
@@ -78,13 +78,9 @@ last-position (s ∷ front) r h =
 
 -- ---- the positions of a window in a stretch
 
--- how many positions from `begin` on, `size` in all, lie in the record's stretch
-unfoldable pub overlap : ℕ → ℕ → Record → ℕ
-overlap begin size r = min (suc (recordEnd r)) (begin + size) - max (r .pos) begin
-
 stretch-count : (from to : ℕ) (begin size : ℕ)
-    → length (filterBy (λ p. leb from p && leb p to) (numbersFrom begin size)) ≡ min (suc to) (begin + size) - max from begin
-unfolding numbersFrom filterBy
+    → length (filterBy (λ p. leb from p && leb p to) (numbersFrom begin size)) ≡ overlap from to size begin
+unfolding numbersFrom filterBy overlap
 stretch-count from to begin zero = omega arith
 stretch-count from to begin (suc size) =
     go (leb from begin) refl (leb begin to) refl (stretch-count from to (suc begin) size)
@@ -102,11 +98,11 @@ stretch-count from to begin (suc size) =
 -- and with enough DP of the sample
 unfoldable pub deepOverlap : ℕ → ℕ → ℕ → ℕ → Record → ℕ
 deepOverlap sample threshold begin size r =
-    cond (isDeep threshold (getD (r .sampleData) sample missingData .dp)) (overlap begin size r) 0
+    cond (isDeep threshold (getD (r .sampleData) sample missingData .dp)) (overlap (r .pos) (recordEnd r) size begin) 0
 
 one-record : (sample threshold begin size : ℕ) (r : Record)
     → length (filterBy (λ p. deepAt sample threshold p r) (numbersFrom begin size)) ≡ deepOverlap sample threshold begin size r
-unfolding deepAt deepOverlap overlap
+unfolding deepAt deepOverlap
 one-record sample threshold begin size r = go (isDeep threshold (getD (r .sampleData) sample missingData .dp))
   where
     inside : ℕ → Bool → Bool
@@ -122,7 +118,7 @@ one-record sample threshold begin size r = go (isDeep threshold (getD (r .sample
     last-false true false = refl
     last-false false b = refl
 
-    go : (b : Bool) → length (filterBy (λ p. inside p b) (numbersFrom begin size)) ≡ cond b (overlap begin size r) 0
+    go : (b : Bool) → length (filterBy (λ p. inside p b) (numbersFrom begin size)) ≡ cond b (overlap (r .pos) (recordEnd r) size begin) 0
     go true =
         ap length (filter-same (λ p. inside p true) (λ p. leb (r .pos) p && leb p (recordEnd r)) (numbersFrom begin size)
         (λ p m. last-true (leb (r .pos) p) (leb p (recordEnd r))))
