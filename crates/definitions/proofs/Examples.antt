@@ -10,7 +10,7 @@ use mathlib.Core.Option.{none, some}
 use mathlib.Core.Path.{_≡_, refl}
 use Rattle.definitions.specs.AlleleSubset.{likelihoodSubset}
 use Rattle.definitions.specs.Alleles.{allelesOf, writtenAlleles}
-use Rattle.definitions.specs.Answers.{callProgram, combineProgram, depthProgram, looksProgram, printedAnswer}
+use Rattle.definitions.specs.Answers.{callProgram, combineProgram, depthProgram, lookUpProgram, looksProgram, printedAnswer}
 use Rattle.definitions.specs.Bytes.{joinedBy, sameBytes, text}
 use Rattle.definitions.specs.CalledGenotypes.{LeastPls, gqFromLeastPls, gqFromPl, leastPls, withNextPl}
 use Rattle.definitions.specs.CalledList.{calledData}
@@ -22,7 +22,6 @@ use Rattle.definitions.specs.Likelihoods.{log10FromPl}
 use Rattle.definitions.specs.Lines.{line}
 use Rattle.definitions.specs.ListReader.{writtenList}
 use Rattle.definitions.specs.Lists.{allOf}
-use Rattle.definitions.specs.LookUp.{LookedUp, lookUp}
 use Rattle.definitions.specs.Numbers.{decimal, decimals, writtenOrMissing}
 use Rattle.definitions.specs.Printed.{printedValues, writtenGenotype}
 use Rattle.definitions.specs.Records.{Record}
@@ -312,20 +311,21 @@ called = refl
 abbrev asked : String → List ℕ
 asked pos = line "contig" (text "c") ++ line "pos" (text pos)
 
--- the record of each pair, and how many record groups were read
-abbrev answered : Checked LookedUp → List ℕ
-answered (refused n) = line "refused" (decimal n)
-answered (accepted l) = joinedBy 59 (map (writtenOrMissing decimal) (l .found)) ++ text " of " ++ decimal (l .groups)
+-- what the program prints, for the printed list with this behind it
+abbrev lookedUp : List ℕ → List ℕ → List ℕ
+lookedUp behind pairs = lookUpProgram (some (exampleList ++ behind)) (some pairs)
 
 abbrev pub lookedUpRows : List Row
 lookedUpRows =
-    (answered (lookUp exampleList (asked "9" ++ asked "10" ++ asked "10")) gives ".;0;0 of 1")
-    ∷ (answered (lookUp exampleList (asked "10" ++ asked "11")) gives "0;1 of 2")
-    ∷ (answered (lookUp exampleList (asked "11" ++ text "contig=d\npos=1\n")) gives "1;. of 2")
-    ∷ (answered (lookUp exampleList []) gives " of 0")
-    ∷ (answered (lookUp exampleList (asked "11" ++ asked "10")) gives "refused=18\n")
-    ∷ (answered (lookUp (exampleList ++ text "x") (asked "11")) gives "1 of 2")
-    ∷ (answered (lookUp (exampleList ++ text "x") (asked "12")) gives "refused=1\n")
+    (lookedUp [] (asked "9" ++ asked "10" ++ asked "10") gives "record=.\nrecord=0\nrecord=0\ngroups=1\n")
+    ∷ (lookedUp [] (asked "10" ++ asked "11") gives "record=0\nrecord=1\ngroups=2\n")
+    ∷ (lookedUp [] (asked "11" ++ text "contig=d\npos=1\n") gives "record=1\nrecord=.\ngroups=2\n")
+    ∷ (lookedUp [] [] gives "groups=0\n")
+    ∷ (lookedUp [] (asked "11" ++ asked "10") gives "refused=18\n")
+    ∷ (lookedUp [] (asked "011" ++ asked "10") gives "refused=1\n")
+    ∷ (lookedUp (text "x") (asked "11") gives "record=1\ngroups=2\n")
+    ∷ (lookedUp (text "x") (asked "12") gives "refused=1\n")
+    ∷ (lookUpProgram none none gives "refused=1\n")
     ∷ []
 
 pub lookedUpRows-right : T (allOf right lookedUpRows)

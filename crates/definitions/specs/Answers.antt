@@ -3,7 +3,7 @@ use Prim.Native.Nat.{_+_, ℕ}
 use lib.Dec.{eqb, leb}
 use lib.ListN.{drop, length}
 use mathlib.Core.Bool.{Bool}
-use mathlib.Core.List.{List, [], _++_, _∷_, map}
+use mathlib.Core.List.{List, [], _++_, _∷_, flatMap, map}
 use mathlib.Core.Option.{Option, Option·getD}
 use Rattle.definitions.specs.Bytes.{comma}
 use Rattle.definitions.specs.CalledList.{calledList}
@@ -13,8 +13,9 @@ use Rattle.definitions.specs.DepthWindows.{windowsAlong}
 use Rattle.definitions.specs.Limits.{programBytes, programScratch, programWindows}
 use Rattle.definitions.specs.Lines.{line, lineAt, linesOf}
 use Rattle.definitions.specs.Lists.{missingOr}
+use Rattle.definitions.specs.LookUp.{LookedUp, lookUp}
 use Rattle.definitions.specs.Looks.{looksOf}
-use Rattle.definitions.specs.Numbers.{decimal, name, number}
+use Rattle.definitions.specs.Numbers.{decimal, name, number, writtenOrMissing}
 
 -- ---- a call
 
@@ -107,6 +108,22 @@ printedLooks (accepted figure) = line "looks" (decimal figure)
 -- `looks`, by the contents of its four files, each `none` if it is absent
 unfoldable pub looksProgram : Option (List ℕ) → Option (List ℕ) → Option (List ℕ) → Option (List ℕ) → List ℕ
 looksProgram cohort clip reference asked = printedLooks (looksFiles (fileText cohort) (fileText clip) (fileText reference) (fileText asked))
+
+-- the places that places.kv asks for, looked up in combined.kv, by what the program takes of each; absent, each is an empty text
+unfoldable pub lookUpFiles : Checked (Option (List ℕ)) → Checked (Option (List ℕ)) → Checked LookedUp
+lookUpFiles combined asked = do
+  c ← combined
+  a ← asked
+  lookUp (Option·getD c []) (Option·getD a [])
+
+-- what the program prints of them: for each place a line `record`, with the number or `.`, and then `groups`; or `refused=` and the number
+unfoldable pub printedLookedUp : Checked LookedUp → List ℕ
+printedLookedUp (refused n) = line "refused" (decimal n)
+printedLookedUp (accepted l) = flatMap (λ o. line "record" (writtenOrMissing decimal o)) (l .found) ++ line "groups" (decimal (l .groups))
+
+-- `look_up`, by the contents of its two files, each `none` if it is absent
+unfoldable pub lookUpProgram : Option (List ℕ) → Option (List ℕ) → List ℕ
+lookUpProgram combined asked = printedLookedUp (lookUpFiles (fileText combined) (fileText asked))
 
 -- what depth.kv asks for
 pub record AskedDepth : Type 0 where

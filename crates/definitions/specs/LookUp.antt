@@ -6,7 +6,7 @@ use mathlib.Core.Bool.{Bool, _&&_, cond, false, true}
 use mathlib.Core.List.{List, [], _∷_, map}
 use mathlib.Core.Option.{Option, Option·getD, Option·map, none, some}
 use Rattle.definitions.specs.Bytes.{andThen, compareBytes, sameBytes}
-use Rattle.definitions.specs.Checked.{Checked, _>>=_, _>>_, accepted, readEach, require}
+use Rattle.definitions.specs.Checked.{Checked, _>>=_, _>>_, accepted, readEach, refused, require}
 use Rattle.definitions.specs.Cohort.{samplesOf}
 use Rattle.definitions.specs.CombinedList.{fits}
 use Rattle.definitions.specs.Lines.{Line, lineAt, linesOf}
@@ -97,3 +97,23 @@ lookUp s asked = do
   require 2 (fits s && fits asked)
   places ← placesOf asked
   lookedUp s places
+
+-- what a lent slice shows for a place that no record holds: past every record's number
+abbrev pub noRecord : ℕ
+noRecord = 4294967295
+
+-- the answers as a lent slice takes them, one number for each place
+unfoldable pub foundNumbers : List (Option ℕ) → List ℕ
+foundNumbers = map (λ o. Option·getD o noRecord)
+
+-- The whole with so many places for the answers. Row 14, last: they are fewer than the pairs.
+unfoldable pub lookUpWithin : List ℕ → List ℕ → ℕ → Checked LookedUp
+lookUpWithin s asked outLength = do
+  l ← lookUp s asked
+  require 14 (leb (length (l .found)) outLength)
+  accepted l
+
+-- the numbers that are written
+unfoldable pub numbersWritten : Checked LookedUp → Checked (List ℕ)
+numbersWritten (refused n) = refused n
+numbersWritten (accepted l) = accepted (foundNumbers (l .found))

@@ -1,6 +1,6 @@
 -- Places in list order, and how far a list is read for one: `read-less`, `read-whole`, `index-kept`.
-use Prim.Native.Nat.{Ordering, Ordering·eq, Ordering·gt, Ordering·lt, _≤_, compare, suc, zero, ℕ}
-use borrow.Author.Tests.{leb-true}
+use Prim.Native.Nat.{Ordering, Ordering·eq, Ordering·gt, Ordering·lt, _-_, _<_, _≤_, compare, suc, zero, ℕ}
+use borrow.Author.Tests.{leb-true, ltb-true}
 use lib.Dec.{leb, ltb}
 use lib.ListN.{getElem?, length}
 use mathlib.Core.Bool.{Bool, cond, false, true}
@@ -18,7 +18,7 @@ use Rattle.definitions.specs.LookUp.{Place, follows, holdsPlace, lastOf, maxPla
 use Rattle.definitions.specs.Records.{Record, recordEnd}
 use Rattle.laws.proofs.Bytes.{bytes-differ, bytes-eq, bytes-refl, bytes-trans, same-is}
 use Rattle.laws.proofs.Checked.{accepted-same, after-required, after-then, each-read-back, then}
-use Rattle.laws.proofs.Every.{EachAfter, Pairwise, alone, before-all, done, every-map, index-none, next}
+use Rattle.laws.proofs.Every.{EachAfter, Every, Pairwise, alone, also, before-all, done, every-map, index-none, next, nothing}
 use Rattle.laws.proofs.Orders.{compare-eq, compare-gt, compare-lt}
 use Rattle.laws.proofs.RecordsInOrder.{After, Past, after-past}
 use Rattle.laws.proofs.SoundList.{record-sound}
@@ -95,6 +95,48 @@ pub places-in-order : (asked : List ℕ) (places : List Place) → placesOf aske
 unfolding placesOf
 places-in-order asked places e = in-order (each-read-back (λ before p. follows before p ≡ true) placeOf [] places _ place-follows e)
 
+abbrev pub InOrder : List Place → Type 0
+InOrder = Pairwise (λ p q. notAfter p q ≡ true)
+
+-- those behind a place do not stand before it, nor before one another
+behind-place : {before places : List Place} (p : Place) → EachAfter (λ before p. follows before p ≡ true) (p ∷ before) places
+    → Every (λ q. notAfter p q ≡ true) places × InOrder places
+unfolding follows
+behind-place p done = (nothing, alone)
+behind-place p (next {x = q} f r) =
+    let (later, ordered) = behind-place q r in
+    let first : notAfter p q ≡ true = f in
+    (also first (every-map (λ x k. not-after-trans p q x first k) later), before-all later ordered)
+
+pub places-ordered : (asked : List ℕ) (places : List Place) → placesOf asked ≡ accepted places → InOrder places
+unfolding placesOf
+places-ordered asked places e = go (each-read-back (λ before p. follows before p ≡ true) placeOf [] places _ place-follows e)
+  where
+    go : {places : List Place} → EachAfter (λ before p. follows before p ≡ true) [] places → InOrder places
+    go done = alone
+    go (next {x = p} f r) = let (later, ordered) = behind-place p r in before-all later ordered
+
+-- the last of places in order does not stand before the first
+pub last-not-before : {p : Place} {places : List Place} (q : Place) → InOrder (p ∷ places) → lastOf (p ∷ places) ≡ some q → notAfter p q ≡ true
+unfolding lastOf
+last-not-before {p} q (before-all nothing ordered) e = rw (some-same e) (not-after-refl q)
+last-not-before {p} q (before-all (also {x = r} first later) ordered) e = not-after-trans p r q first (last-not-before q ordered e)
+
+-- at most 1,024 of them
+pub places-few : (asked : List ℕ) (places : List Place) → placesOf asked ≡ accepted places → length places ≤ maxPlaces
+unfolding placesOf placeOf
+places-few asked places e = go (each-read-back (λ before p. length before < maxPlaces) placeOf [] places _ below e)
+  where
+    below : (before : List Place) (group : List Line) (p : Place) → placeOf before group ≡ accepted p → length before < maxPlaces
+    below before group p e =
+        after-then _ _ e λ contig p₀ e. after-then _ _ e λ position p₁ e. after-required _ _ _ e λ t e.
+        ltb-true (length before) maxPlaces (both-of (ltb (length before) maxPlaces) _ t .0)
+
+    go : {before places : List Place} → EachAfter (λ before p. length before < maxPlaces) before places
+        → length places ≤ maxPlaces - length before
+    go done = omega arith
+    go (next f r) = omega (arith, go r)
+
 -- ---- records up to the first that reaches a place
 
 unfoldable pub upTo : Place → List Record → List Record
@@ -123,12 +165,23 @@ up-to-few p (r ∷ rs) = go (reaches p r) (up-to-few p rs)
     go false h = omega arith
 
 -- what reaches a place reaches each before it
-reaches-before : (p q : Place) (r : Record) → notAfter p q ≡ true → reaches q r ≡ true → reaches p r ≡ true
+pub reaches-before : (p q : Place) (r : Record) → notAfter p q ≡ true → reaches q r ≡ true → reaches p r ≡ true
 unfolding reaches
 reaches-before p q r h k = not-after-trans p q _ h k
 
+-- what holds a place reaches it
+pub not-reached : (p : Place) (r : Record) → reaches p r ≡ false → holdsPlace p r ≡ false
+unfolding reaches holdsPlace
+not-reached p r h = go (holdsPlace p r) refl
+  where
+    go : (b : Bool) → holdsPlace p r ≡ b → b ≡ false
+    go false e = refl
+    go true e =
+        let (same, from, to) = all-three (sameBytes (p .contig) (r .contig)) (leb (r .pos) (p .position)) _ e in
+        clash (is-not-after p _ (inr (same-is _ _ same, leb-true (p .position) (recordEnd r) to))) h
+
 -- a record behind one that reaches a place does not hold it
-not-held : (p : Place) (r x : Record) → reaches p r ≡ true → After r x → holdsPlace p x ≡ false
+pub not-held : (p : Place) (r x : Record) → reaches p r ≡ true → After r x → holdsPlace p x ≡ false
 unfolding reaches holdsPlace
 not-held p r x h a = not-so (holdsPlace p x) (λ e. go (not-after-is p _ h) (after-past r x a) (all-three _ _ _ e))
   where

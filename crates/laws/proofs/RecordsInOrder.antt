@@ -69,19 +69,21 @@ each-after (also {x = r} {xs = rs} h hs) (before-all b bs) = next (record { soun
     onwards nothing nothing alone = done
     onwards (also h hs) (also a as′) (before-all b bs) = next (record { sound = h; after = a }) (onwards hs b bs)
 
--- and records each after the nearest before it are each after all before it
-pub in-list-order : {samples : ℕ} {rs : List Record} → SoundRecords samples rs → Every (SoundRecord samples) rs × Pairwise After rs
+-- records read behind one, each after the nearest before it, are each after all before it and after that one
+pub behind-in-order : {samples : ℕ} (p : Record) (before : List Record) {rs : List Record} → EachAfter (RecordAfter samples) (p ∷ before) rs
+    → Every (SoundRecord samples) rs × Pairwise After rs × Every (After p) rs
 unfolding After comesAfter
+behind-in-order p before done = (nothing, alone, nothing)
+behind-in-order p before (next {x = r} h hs) =
+    let (sound, in-order, after) = behind-in-order r (p ∷ before) hs in
+    let first : After p r = h .after in (
+      also (h .sound) sound,
+      before-all after in-order,
+      also first (every-map (λ s k. after-trans p r s (pos-last r (h .sound)) first k) after),
+    )
+
+-- and so are all
+pub in-list-order : {samples : ℕ} {rs : List Record} → SoundRecords samples rs → Every (SoundRecord samples) rs × Pairwise After rs
 in-list-order done = (nothing, alone)
-in-list-order (next {x = r} h hs) = let (sound, in-order, after) = onwards r [] hs in (also (h .sound) sound, before-all after in-order)
-  where
-    onwards : {samples : ℕ} (p : Record) (before : List Record) {rs : List Record} → EachAfter (RecordAfter samples) (p ∷ before) rs
-        → Every (SoundRecord samples) rs × Pairwise After rs × Every (After p) rs
-    onwards p before done = (nothing, alone, nothing)
-    onwards p before (next {x = r} h hs) =
-        let (sound, in-order, after) = onwards r (p ∷ before) hs in
-        let first : After p r = h .after in (
-          also (h .sound) sound,
-          before-all after in-order,
-          also first (every-map (λ s k. after-trans p r s (pos-last r (h .sound)) first k) after),
-        )
+in-list-order (next {x = r} h hs) =
+    let (sound, in-order, after) = behind-in-order r [] hs in (also (h .sound) sound, before-all after in-order)
