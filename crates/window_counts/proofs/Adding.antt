@@ -9,10 +9,9 @@ use mathlib.Core.List.{List, [], _++_, _∷_, append-assoc, append-nil}
 use mathlib.Core.Path.{_∙_, _≡_, ap, ap₂, refl, sym}
 use native.Mathlib.Nat.{add-zero, div-mul-le-self, suc-mul}
 use native.Mathlib.Omega.{arith}
-use Rattle.bio_ids.specs.declared.GenomeLoc.{GenomeLoc}
 use Rattle.definitions.specs.DepthWindows.{overlap}
 use Rattle.definitions.specs.Limits.{maxWindow}
-use Rattle.window_counts.specs.Counts.{AddReady, OverlapReady, OverlapsReady, added, positionLimit, windowsBefore, withStretch}
+use Rattle.window_counts.specs.Counts.{AddReady, CountsSmall, OverlapReady, OverlapsReady, SkipReady, added, positionLimit, windowsBefore, withStretch}
 use Rattle.window_counts.specs.declared.Windows.{Windows}
 
 module _ (start end size step : ℕ) where
@@ -106,12 +105,12 @@ module _ (start end size step : ℕ) where
 
     -- the next count fits 32 bits
     pub count-fits : {s e b : ℕ} → start ≡ s → end ≡ e → begin₀ ≡ b → k < length counts
-        → ((j : ℕ) → j < length counts₀ → getD (withStretch s e size step b counts₀) j 0 < 4294967296)
+        → CountsSmall (withStretch s e size step b counts₀)
         → {more : ℕ} → more ≡ overlap start end size begin → getD counts k 0 + more < 4294967296
     count-fits {s} {e} {b} p q r l f m =
         let all = next-count l in
         let same : withStretch start end size step begin₀ counts₀ ≡ withStretch s e size step b counts₀ = rw (p, q, r) in
-        omega (arith, m, all, ap (λ (xs : List ℕ). getD xs k 0) same, f k (omega (arith, h .len)))
+        omega (arith, m, all, ap (λ (xs : List ℕ). getD xs k 0) same, f k)
 
 -- ---- what the calls ask, where a window begins up to the stretch's end
 
@@ -163,16 +162,14 @@ module _ (first size step pos : ℕ) where
     rest : n ≤ length counts → take (length counts - n) (drop n counts) ≡ drop n counts
     rest l = take-all (length counts - n) (drop n counts) (omega (arith, length-drop n counts))
 
-    pub later-fits : n ≤ length counts → ((j : ℕ) → j < length counts → getD (withStretch pos end size step first counts) j 0 < 4294967296)
-        → (k : ℕ) → k < length (take (length counts - n) (drop n counts))
-        → getD (withStretch pos end size step begin (take (length counts - n) (drop n counts))) k 0 < 4294967296
-    later-fits l f k h =
-        let few : n + k < length counts = omega (arith, length-drop n counts, ap length (rest l)) in
+    pub later-fits : n ≤ length counts → CountsSmall (withStretch pos end size step first counts)
+        → CountsSmall (withStretch pos end size step begin (take (length counts - n) (drop n counts)))
+    later-fits l f k =
         let len = length-take-le n counts l in
         let there = getD-append-add (take n counts) (withStretch pos end size step begin (drop n counts)) k 0 in
         let same : getD (withStretch pos end size step begin (drop n counts)) k 0 ≡ getD (withStretch pos end size step first counts) (n + k) 0 =
         sym there ∙ ap₂ (λ (xs : List ℕ) (i : ℕ). getD xs (i + k) 0) (sym skipped) len in
-        rw (rest l, same) (f (n + k) few)
+        rw (rest l, same) (f (n + k))
 
     pub skipped-added : n ≤ length counts → {part : List ℕ}
         → part ≡ withStretch pos end size step begin (take (length counts - n) (drop n counts))
@@ -197,43 +194,45 @@ module _ (first size step pos : ℕ) where
     pub begin-fits : pos < positionLimit → step ≤ maxWindow → first < positionLimit → first + n * step < 18446744073709551616
     begin-fits p s f = omega (arith, ap (λ (m : ℕ). m * step) skip, next-near)
 
--- the windows of a call, the stretch and the counts: so many windows are skipped, and the next begins here
-pub record Skipping (w : Windows) (stretch : GenomeLoc) (n begin : ℕ) : Type 0 where
-  pub skip : n ≡ windowsBefore (w .first .0) (w .size) (w .step) (stretch .start .0)
+-- the windows of a call and the start of the stretch: so many windows are skipped, and the next begins here
+pub record Skipping (w : Windows) (start n begin : ℕ) : Type 0 where
+  pub skip : n ≡ windowsBefore (w .first .0) (w .size) (w .step) start
   pub next : begin ≡ w .first .0 + n * w .step
 
-pub skipping : {w : Windows} {stretch : GenomeLoc} {n begin first start : ℕ} → start ≡ stretch .start .0
-    → n ≡ windowsBefore (w .first .0) (w .size) (w .step) start → first ≡ w .first .0 → begin ≡ first + n * w .step
-    → Skipping w stretch n begin
-skipping {w} {stretch} {n} s k f b =
+pub skipping : {w : Windows} {start n begin first start′ : ℕ} → start′ ≡ start
+    → n ≡ windowsBefore (w .first .0) (w .size) (w .step) start′ → first ≡ w .first .0 → begin ≡ first + n * w .step
+    → Skipping w start n begin
+skipping {w} {start} {n} s k f b =
     record { skip = k ∙ ap (windowsBefore (w .first .0) (w .size) (w .step)) s; next = b ∙ ap (λ (m : ℕ). m + n * w .step) f }
 
-module _ {w : Windows} {stretch : GenomeLoc} {counts : List ℕ} {n begin : ℕ} (ready : AddReady w stretch counts) (s : Skipping w stretch n begin) where
+pub skip-ready : {w : Windows} {start end start′ : ℕ} {counts : List ℕ} → AddReady w start end counts → start′ ≡ start → SkipReady w start′
+skip-ready ready e = record { windows = ready .windows; pos-small = rw e (ready .start-small) }
+
+module _ {w : Windows} {start end : ℕ} {counts : List ℕ} {n begin : ℕ} (ready : AddReady w start end counts) (s : Skipping w start n begin) where
   pub later-ready : n < length counts → (later : Windows) → later .first .0 ≡ begin → later .size ≡ w .size → later .step ≡ w .step
-      → OverlapsReady later stretch (take (length counts - n) (drop n counts))
+      → OverlapsReady later start end (take (length counts - n) (drop n counts))
   later-ready l later f z t =
+      let few : n ≤ length counts = omega arith in
       record {
-        size-small = rw z (ready .overlaps .size-small);
-        step-small = rw t (ready .overlaps .step-small);
-        end-small = ready .overlaps .end-small;
-        fits = rw (f, z, t) (later-fits (w .first .0) (w .size) (w .step) (stretch .start .0) (stretch .end .0) counts n begin (s .skip) (s .next)
-            (omega arith) (ready .overlaps .fits));
+        size-small = rw z (ready .windows .size-small);
+        step-small = rw t (ready .windows .step-small);
+        end-small = ready .end-small;
+        fits = rw (f, z, t) (later-fits (w .first .0) (w .size) (w .step) start end counts n begin (s .skip) (s .next) few (ready .fits));
       }
 
   pub later-added : n < length counts → (later : Windows) → later .first .0 ≡ begin → later .size ≡ w .size → later .step ≡ w .step
-      → {part : List ℕ} → part ≡ added later stretch (take (length counts - n) (drop n counts))
-      → take n counts ++ (part ++ drop (length counts - n) (drop n counts)) ≡ added w stretch counts
+      → {part : List ℕ} → part ≡ added later start end (take (length counts - n) (drop n counts))
+      → take n counts ++ (part ++ drop (length counts - n) (drop n counts)) ≡ added w start end counts
   later-added l later f z t {part} e =
-      skipped-added (w .first .0) (w .size) (w .step) (stretch .start .0) (stretch .end .0) counts n begin (s .skip) (s .next) (omega arith)
-      (e ∙ rw (f, z, t))
+      skipped-added (w .first .0) (w .size) (w .step) start end counts n begin (s .skip) (s .next) (omega arith) (e ∙ rw (f, z, t))
 
-  pub none-added : length counts ≤ n → counts ≡ added w stretch counts
-  none-added l = all-skipped (w .first .0) (w .size) (w .step) (stretch .start .0) (stretch .end .0) counts n begin (s .skip) (s .next) l
+  pub none-added : length counts ≤ n → counts ≡ added w start end counts
+  none-added l = all-skipped (w .first .0) (w .size) (w .step) start end counts n begin (s .skip) (s .next) l
 
   pub skips-fit : n * w .step < 18446744073709551616
-  skips-fit = product-fits (w .first .0) (w .size) (w .step) (stretch .start .0) (stretch .end .0) counts n begin (s .skip) (s .next)
-      (ready .skip .pos-small) (ready .overlaps .step-small)
+  skips-fit = product-fits (w .first .0) (w .size) (w .step) start end counts n begin (s .skip) (s .next)
+      (ready .start-small) (ready .windows .step-small)
 
   pub starts-fit : w .first .0 + n * w .step < 18446744073709551616
-  starts-fit = begin-fits (w .first .0) (w .size) (w .step) (stretch .start .0) (stretch .end .0) counts n begin (s .skip) (s .next)
-      (ready .skip .pos-small) (ready .overlaps .step-small) (ready .skip .first-small)
+  starts-fit = begin-fits (w .first .0) (w .size) (w .step) start end counts n begin (s .skip) (s .next)
+      (ready .start-small) (ready .windows .step-small) (ready .windows .first-small)

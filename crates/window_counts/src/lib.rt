@@ -2,7 +2,7 @@
 ghost use Prim.Native.Nat.{_-_, _/_, _<_, _≤_, max, min, suc};
 ghost use mathlib.Core.Path.{_≡_};
 ghost use Rattle.definitions.specs.DepthWindows.{overlap};
-ghost use Rattle.window_counts.specs.Counts.{AddReady, CountReady, OverlapReady, OverlapsReady, SkipReady, added, windowsBefore};
+ghost use Rattle.window_counts.specs.Counts.{AddReady, LastReady, OverlapReady, OverlapsReady, SkipReady, added, windowsBefore};
 use bio_ids::GenomeLoc;
 use bio_ids::GenomePosition;
 
@@ -58,7 +58,7 @@ fn windows_before(windows: Windows, pos: u64) -> u64
 
 // How many windows begin up to a position that is not before the first.
 pub fn window_count(windows: Windows, last: GenomePosition) -> usize
-    requires { ⌜ CountReady windows last ⌝ }
+    requires { ⌜ LastReady windows (last .0) ⌝ }
     ensures { λ r. ⌜ r ≡ suc ((last .0 - windows .first .0) / windows .step) ⌝ }
 {
     let more = (last.get() - windows.first.get()) / windows.step;
@@ -67,8 +67,8 @@ pub fn window_count(windows: Windows, last: GenomePosition) -> usize
 
 // Adds to the count of each window how many of its positions lie in a stretch, up to the first window that begins behind it.
 fn add_overlaps(counts: &mut [u32], windows: Windows, stretch: GenomeLoc)
-    requires { ⌜ OverlapsReady windows stretch (now counts) ⌝ }
-    ensures { λ _. ⌜ now (counts .exit) ≡ added windows stretch (now (counts .entry)) ⌝ }
+    requires { ⌜ OverlapsReady windows (stretch .start .0) (stretch .end .0) (now counts) ⌝ }
+    ensures { λ _. ⌜ now (counts .exit) ≡ added windows (stretch .start .0) (stretch .end .0) (now (counts .entry)) ⌝ }
 {
     let size = windows.size;
     let step = windows.step;
@@ -87,8 +87,8 @@ fn add_overlaps(counts: &mut [u32], windows: Windows, stretch: GenomeLoc)
 
 // The same, from the first window that does not end before the stretch.
 pub fn add_stretch(counts: &mut [u32], windows: Windows, stretch: GenomeLoc)
-    requires { ⌜ AddReady windows stretch (now counts) ⌝ }
-    ensures { λ _. ⌜ now (counts .exit) ≡ added windows stretch (now (counts .entry)) ⌝ }
+    requires { ⌜ AddReady windows (stretch .start .0) (stretch .end .0) (now counts) ⌝ }
+    ensures { λ _. ⌜ now (counts .exit) ≡ added windows (stretch .start .0) (stretch .end .0) (now (counts .entry)) ⌝ }
 {
     let size = windows.size;
     let step = windows.step;

@@ -1,5 +1,5 @@
 use mathlib.Core.Path.{_∙_, refl}
-use Rattle.window_counts.proofs.Adding.{later-added, later-ready, none-added, skipping, skips-fit, starts-fit}
+use Rattle.window_counts.proofs.Adding.{later-added, skip-ready, later-ready, none-added, skipping, skips-fit, starts-fit}
 use borrow.Author.Needs.{needs}
 use Rattle.window_counts.proofs.add_stretch.Statement.{statement}
 use Rattle.window_counts.proofs.add_stretch.Tie as tie
@@ -14,7 +14,7 @@ get-requires : tie.Need-get-requires
 get-requires c κs = search needs
 
 windows-before-requires : tie.Need-windows-before-requires
-windows-before-requires c κs = search needs
+windows-before-requires c κs = skip-ready ((c .before .before .pre)) ((c .get .ensures))
 
 get-requires-2 : tie.Need-get-requires-2
 get-requires-2 c κs = search needs
