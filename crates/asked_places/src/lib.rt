@@ -32,12 +32,13 @@ pub fn pair_at(s: &[u8], at: usize) -> PairAt
     let NumberAt::Found(pos, last) = number else {
         return PairAt::Wrong;
     };
+    let next = last + 1;
     let position = GenomePosition::new_1based(pos as u64);
     PairAt::Pair(Pair {
         at: begin,
         end,
         position,
-        next: last + 1,
+        next,
     })
 }
 

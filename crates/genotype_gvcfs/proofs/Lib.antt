@@ -1,4 +1,3 @@
-pub mod MissingGroups
 pub mod LaidRecord
 pub mod Walking
 pub mod WrittenCalled

@@ -23,7 +23,7 @@ use Rattle.list_reader.specs.RecordGroups.{PreviousOf, RecordTo, RefusedBy, end
 use Rattle.list_reader.specs.declared.Previous.the-variants as previous
 use Rattle.list_reader.specs.declared.Previous.{Previous}
 use Rattle.list_reader.specs.declared.RecordPlace.{RecordPlace}
-use Rattle.genotype_gvcfs.proofs.MissingGroups.{all-accepted, all-ended, all-refused, more-refused}
+use Rattle.list_walk.proofs.MissingGroups.{all-accepted, all-ended, all-refused, more-refused}
 use Rattle.genotype_gvcfs.specs.Walk.{CalledLaid, LayReady, RecordsWalked, WalkReady, readWith, recordsFrom}
 use Rattle.genotype_gvcfs.specs.declared.Walked.the-variants as walked
 

@@ -35,10 +35,11 @@ fn records_line(list: &[u8], samples: usize, at: usize, names: &mut [usize; 128]
         tables::clear(names);
         return HeaderAt::Refused(1);
     };
+    let next = end + 1;
     HeaderAt::Header(ListHeader {
         samples,
         records,
-        next: end + 1,
+        next,
     })
 }
 

@@ -14,7 +14,7 @@ use Rattle.laws.proofs.Groups.{groups-cons}
 
 module _ {L : Type 0} where
   -- one less is missing behind the first
-  missing-next : (k : ℕ) (g : List L) (gs : List (List L)) → 0 < k → withMissing k (g ∷ gs) ≡ g ∷ withMissing (k - 1) gs
+  pub missing-next : (k : ℕ) (g : List L) (gs : List (List L)) → 0 < k → withMissing k (g ∷ gs) ≡ g ∷ withMissing (k - 1) gs
   unfolding withMissing
   missing-next k g gs some = go (decLt (suc (length gs)) k)
     where

@@ -1,0 +1,3 @@
+pub mod MissingGroups
+pub mod Steps
+pub mod Headings
