@@ -12,7 +12,8 @@ use Rattle.definitions.specs.DepthWindows.{Windows, firstPosition, recordsOn, w
 use Rattle.definitions.specs.Limits.{maxSamples}
 use Rattle.definitions.specs.Records.{Record}
 use Rattle.list_walk.specs.declared.ListHeader.{ListHeader}
-use Rattle.depth_windows.specs.Along.{along, extentSpan, recordsAt, spanWith}
+use Rattle.window_counts.specs.Along.{along, spanWith}
+use Rattle.depth_windows.specs.Along.{extentSpan, recordsAt}
 use Rattle.depth_windows.specs.declared.Asked.{Asked}
 use Rattle.depth_windows.specs.declared.Extent.{Extent}
 use Rattle.depth_windows.specs.declared.Windowed.the-variants as windowed
@@ -50,7 +51,7 @@ filledWith first all places = do
 -- the windows of a list with these records and so many samples
 unfoldable pub windowsOverSpan : List Record → ℕ → List ℕ → Asked → ℕ → Checked Windows
 windowsOverSpan list samples contig asked places = do
-  require 17 (windowFits (asked .size) && (windowFits (asked .step) && ltb (asked .sample .0) samples))
+  require 17 (windowFits (asked .size) && windowFits (asked .step) && ltb (asked .sample .0) samples)
   filledWith (firstPosition (recordsOn contig list))
       (windowsOver (recordsOn contig list) (asked .sample .0) (asked .threshold) (asked .size) (asked .step)) places
 

@@ -11,7 +11,8 @@ ghost use Rattle.answers.specs.Answered.{Answered};
 ghost use Rattle.definitions.specs.DepthWindows.{depthWindows, isDeep, windowFits, windowsAlong};
 ghost use Rattle.definitions.specs.Limits.{maxSamples};
 ghost use Rattle.kv_write.specs.Optional.{optionOf};
-ghost use Rattle.depth_windows.specs.Along.{AddsReady, CountReady, FillReady, allCounted, alongRecords, extentAnswer, extentSpan, filledCounts, placeAdded, placeSpan, recordsAt, spanWith, wider};
+ghost use Rattle.window_counts.specs.Along.{spanWith, wider};
+ghost use Rattle.depth_windows.specs.Along.{AddsReady, CountReady, FillReady, allCounted, alongRecords, extentAnswer, extentSpan, filledCounts, placeAdded, placeSpan, recordsAt};
 ghost use Rattle.depth_windows.specs.Windowed.{Given, OverReady, filledWith, windowsBehind, windowsOverSpan};
 use answers::Outcome;
 use bio_ids::GenomeLoc;
@@ -211,7 +212,7 @@ fn window_fits(n: u32) -> bool
 
 // Row 17: whether length and step are in their range, and a list with so many samples has the sample.
 fn asked_right(asked: Asked, samples: usize) -> bool
-    ensures { λ r. ⌜ r ≡ windowFits (asked .size) && (windowFits (asked .step) && ltb (asked .sample .0) samples) ⌝ }
+    ensures { λ r. ⌜ r ≡ windowFits (asked .size) && windowFits (asked .step) && ltb (asked .sample .0) samples ⌝ }
 {
     if !window_fits(asked.size) {
         return false;
