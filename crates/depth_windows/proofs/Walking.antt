@@ -27,10 +27,15 @@ module _ {S : Type 0} (f : S → Record → S) where
     pub value : m ≡ accepted later
     pub same : along f v later ≡ all
 
-  along-back : (v : S) (m : Checked (List Record)) {all : S} → alongRecords f v m ≡ accepted all → AlongBack v m all
+  pub along-back : (v : S) (m : Checked (List Record)) {all : S} → alongRecords f v m ≡ accepted all → AlongBack v m all
   unfolding alongRecords
   along-back v (refused n) e = not-refused e
   along-back v (accepted rs) e = record { later = rs; value = refl; same = accepted-same e }
+
+  pub refused-along : (v : S) (m : Checked (List Record)) {row : ℕ} → refused row ≡ alongRecords f v m → m ≡ refused row
+  unfolding alongRecords
+  refused-along v (refused n) {row} e = let same : n ≡ row = cc in ap {B = Checked (List Record)} refused same
+  refused-along v (accepted rs) e = not-refused e
 
   module _ (s : List ℕ) (h : ListHeader) where
     -- the record groups at a cursor behind these records

@@ -11,7 +11,7 @@ ghost use Rattle.answers.specs.Answered.{Answered};
 ghost use Rattle.definitions.specs.DepthWindows.{depthWindows, isDeep, windowFits, windowsAlong};
 ghost use Rattle.definitions.specs.Limits.{maxSamples};
 ghost use Rattle.kv_write.specs.Optional.{optionOf};
-ghost use Rattle.window_counts.specs.Along.{spanWith, wider};
+ghost use Rattle.window_counts.specs.Along.{spanWith, wider, zeros};
 ghost use Rattle.depth_windows.specs.Along.{AddsReady, CountReady, FillReady, allCounted, alongRecords, extentAnswer, extentSpan, filledCounts, placeAdded, placeSpan, recordsAt};
 ghost use Rattle.depth_windows.specs.Windowed.{Given, OverReady, filledWith, windowsBehind, windowsOverSpan};
 use answers::Outcome;
@@ -171,6 +171,23 @@ fn add_records(
     }
 }
 
+// Counts windows, whatever their counts were.
+fn count_windows(
+    list: &[u8],
+    header: ListHeader,
+    contig: &[u8],
+    asked: Asked,
+    windows: Windows,
+    counts: &mut [u32],
+)
+    requires { ⌜ CountReady (now list) header (now contig) asked windows (zeros (length (now counts))) ⌝ }
+    ensures { λ _. ⌜ ((ready : CountReady (now (list .entry)) header (now (contig .entry)) asked windows (zeros (length (now (counts .entry)))))
+        → now (counts .exit) ≡ allCounted ready) ⌝ }
+{
+    tables::clear_numbers(counts);
+    add_records(list, header, contig, asked, windows, counts);
+}
+
 // ---- the windows
 
 // Where the first window begins and how many there are, or the row that refuses the call.
@@ -197,8 +214,7 @@ fn fill_windows(
     if out.len() < count {
         return Windowed::Refused(14);
     }
-    tables::clear_numbers(&mut out[..count]);
-    add_records(list, header, contig, asked, windows, &mut out[..count]);
+    count_windows(list, header, contig, asked, windows, &mut out[..count]);
     let first = windows.first;
     Windowed::Windows(first, count)
 }
