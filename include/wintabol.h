@@ -36,6 +36,14 @@ size_t wintabol_looks(const uint8_t *cohort, size_t cohort_len,
                       const uint8_t *contig, size_t contig_len,
                       uint64_t *scratch, size_t scratch_len, size_t *figure);
 
+/* Many positions looked up in a combined list, front to back. `asked` is a text of groups `contig=` and `pos=`, at most 1,024, in list order: by
+ * contig name in byte order, then by position, equal ones allowed. `out` takes for each pair the number of the record whose stretch holds it,
+ * counted from 0, or 4294967295 for none. Stored are the number of pairs, and how many record groups were read: those up to and including the
+ * first that in list order ends at or after the last pair, or all; both 0 where the call is refused. A fault behind what is read goes unseen.
+ * Rows 1 to 8, 14 and 18. */
+size_t wintabol_look_up(const uint8_t *list, size_t list_len, const uint8_t *asked, size_t asked_len,
+                        uint32_t *out, size_t out_len, size_t *pairs, uint32_t *groups);
+
 /* The called list of a combined list: without <NON_REF>, with PL, AD and GQ over what is left. Rows 1 to 8 and 14. */
 size_t wintabol_call(const uint8_t *list, size_t list_len, uint8_t *out, size_t out_len, size_t *written);
 

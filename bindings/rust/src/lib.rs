@@ -80,6 +80,36 @@ pub fn looks(
     answer(row, figure)
 }
 
+/// What [`look_up`] stores for a pair that no record holds.
+pub const NO_RECORD: u32 = u32::MAX;
+
+/// How many pairs were looked up, and how many record groups were read for them.
+#[derive(Clone, Copy, Debug, PartialEq, Eq)]
+pub struct LookedUp {
+    pub pairs: usize,
+    pub groups: u32,
+}
+
+/// Looks many positions up in a combined list, front to back. `asked` is a text of groups `contig=` and `pos=`, at most 1,024, in list order.
+/// `out` takes for each the number of the record whose stretch holds it, or [`NO_RECORD`]. The record groups read are those up to and including
+/// the first that in list order ends at or after the last pair, or all; a fault behind them goes unseen. Rows 1 to 8, 14 and 18.
+pub fn look_up(list: &[u8], asked: &[u8], out: &mut [u32]) -> Result<LookedUp, Refused> {
+    let (mut pairs, mut groups) = (0, 0);
+    let row = unsafe {
+        raw::wintabol_look_up(
+            list.as_ptr(),
+            list.len(),
+            asked.as_ptr(),
+            asked.len(),
+            out.as_mut_ptr(),
+            out.len(),
+            &mut pairs,
+            &mut groups,
+        )
+    };
+    answer(row, pairs).map(|pairs| LookedUp { pairs, groups })
+}
+
 /// Writes the called list of a combined list. Rows 1 to 8 and 14.
 pub fn call(list: &[u8], out: &mut [u8]) -> Result<usize, Refused> {
     let mut written = 0;

@@ -33,6 +33,17 @@ extern "C" {
         figure: *mut usize,
     ) -> usize;
 
+    pub fn wintabol_look_up(
+        list: *const u8,
+        list_len: usize,
+        asked: *const u8,
+        asked_len: usize,
+        out: *mut u32,
+        out_len: usize,
+        pairs: *mut usize,
+        groups: *mut u32,
+    ) -> usize;
+
     pub fn wintabol_call(list: *const u8, list_len: usize, out: *mut u8, out_len: usize, written: *mut usize) -> usize;
 
     pub fn wintabol_reverse_trim_alleles(

@@ -7,7 +7,7 @@ ghost use mathlib.Core.Option.{Option·getD};
 ghost use mathlib.Core.Path.{_≡_};
 ghost use Rattle.asked_places.specs.Asked.{placeWith};
 ghost use Rattle.definitions.specs.Limits.{maxSamples};
-ghost use Rattle.definitions.specs.LookUp.{lookedUp, maxPlaces, noRecord};
+ghost use Rattle.definitions.specs.LookUp.{lookedUp, noRecord};
 ghost use Rattle.position_lookup.specs.Found.{FoundGiven, Gives, LookUpAnswered, PairsReady, PairsSearched, PlacesReady, Reaches, Stands, reachedLast, searchOf, withRoom};
 ghost use Rattle.position_lookup.specs.Search.{heldBy};
 use asked_places::PairAt;
@@ -174,9 +174,9 @@ pub enum Lookup {
     Refused(usize),
 }
 
-// The answers for so many pairs, of at most 1,024: row 14 if the output has fewer places.
-fn give_found(found: &[u32; 1024], count: usize, groups: u32, out: &mut [u32]) -> Lookup
-    requires { ⌜ count ≤ maxPlaces ⌝ }
+// The answers for so many pairs: row 14 if the output has fewer places.
+fn give_found(found: &[u32], count: usize, groups: u32, out: &mut [u32]) -> Lookup
+    requires { ⌜ count ≤ length (now found) ⌝ }
     ensures { λ r. ⌜ FoundGiven (now (found .entry)) count groups (now (out .entry)) (now (out .exit)) r ⌝ }
 {
     if out.len() < count {

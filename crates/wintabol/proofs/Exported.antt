@@ -20,14 +20,18 @@ use Rattle.definitions.specs.Answers.{Answer, answerOf, writtenOf}
 use Rattle.definitions.specs.Checked.{Checked, accepted, isAccepted, refused}
 use Rattle.definitions.specs.CombinedList.{Texts}
 use Rattle.laws.proofs.Checked.{accepted-same, not-refused}
+use Rattle.definitions.specs.LookUp.{LookedUp, lookUpWithin}
 use Rattle.definitions.specs.Looks.{looksOf}
 use Rattle.laws.proofs.Looks.{looks-numbered}
-use Rattle.laws.proofs.RefusalNumbers.{ByRow, ill, list-numbered, well}
+use Rattle.laws.proofs.RefusalNumbers.{ByRow, Numbered, ill, list-numbered, look-up-numbered, well}
 use Rattle.likelihoods.specs.Written.{countOf}
+use Rattle.position_lookup.specs.Found.{Counts, Gives, countsOf, lookupAnswer}
+use Rattle.position_lookup.specs.declared.Lookup.the-variants as lookup
+use Rattle.position_lookup.specs.declared.Lookup.{Lookup}
 use Rattle.search_looks.specs.Looked.{LooksAnswered, lookedAnswer}
 use Rattle.search_looks.specs.declared.Looked.{Looked}
 use Rattle.search_looks.specs.declared.Looked.the-variants as looked
-use Rattle.wintabol.specs.Exported.{Exported, ExportedAlts, ExportedList, ExportedLooks, FigureAnswer, UnusedAltAnswer, answer, answerAlts, answerAltsOf, answerFigure, answerFigureOf, lookedNumbers, outcomeAlts, outcomeNumbers}
+use Rattle.wintabol.specs.Exported.{Exported, ExportedAlts, ExportedList, ExportedLookUp, ExportedLooks, FigureAnswer, LookupNumbers, UnusedAltAnswer, answer, answerAlts, answerAltsOf, answerFigure, answerFigureOf, answerLookup, answerLookupOf, lookedNumbers, lookupNumbers, outcomeAlts, outcomeNumbers}
 
 refused-same : {A : Type 0} {m n : ℕ} → _≡_ {A = Checked A} (refused m) (refused n) → m ≡ n
 refused-same e = cc
@@ -86,6 +90,28 @@ pub exported-looks : {texts : Texts} {contig scratch scratch′ : List ℕ} {r :
 exported-looks {texts = texts} {contig = contig} {scratch = scratch} {r = r} a e =
     let numbers = sym e ∙ looks-numbers r (a .answer) in
     record { numbers = numbers; accepts = looks-accepts (looks-numbered texts (length scratch) contig) numbers; cleared = a .cleared }
+
+-- ---- pairs looked up
+
+lookup-numbers : (r : Lookup) (m : Checked LookedUp) → lookupAnswer r ≡ countsOf m → lookupNumbers r ≡ answerLookupOf m
+unfolding countsOf answerLookupOf
+lookup-numbers (lookup.Found n g) (accepted l) e = ap (λ (c : Counts). answerLookup 0 (c .pairs) (c .groups)) (accepted-same e)
+lookup-numbers (lookup.Found n g) (refused row) e = not-refused (sym e)
+lookup-numbers (lookup.Refused row) (accepted l) e = not-refused e
+lookup-numbers (lookup.Refused row) (refused m) e = rw (refused-same e)
+
+lookup-accepts : {m : Checked LookedUp} {number pairs groups : ℕ} → Numbered 1 18 m → answerLookup number pairs groups ≡ answerLookupOf m
+    → eqb number 0 ≡ isAccepted m
+unfolding answerLookupOf isAccepted
+lookup-accepts (well l) e = ap (λ (a : LookupNumbers). eqb (a .number) 0) e
+lookup-accepts (ill row h) e = ap (λ (a : LookupNumbers). eqb (a .number) 0) e ∙ ne-eqb row 0 (λ z. omega arith)
+
+pub exported-look-up : (s asked out out′ : List ℕ) (r : Lookup) (number pairs groups : ℕ)
+    → Gives (lookUpWithin s asked (length out)) out out′ r → lookupNumbers r ≡ answerLookup number pairs groups
+    → ExportedLookUp (lookUpWithin s asked (length out)) out out′ number pairs groups
+exported-look-up s asked out out′ r number pairs groups g e =
+    let numbers = sym e ∙ lookup-numbers r (lookUpWithin s asked (length out)) (g .answer) in
+    record { numbers = numbers; accepts = lookup-accepts (look-up-numbered s asked (length out)) numbers; output = g .written }
 
 -- ---- three outputs
 

@@ -13,7 +13,10 @@ use Rattle.definitions.specs.AlleleSubset.{UnusedAltSubset}
 use Rattle.definitions.specs.Answers.{Answer, answerOf, outputAfter, scratchAfter}
 use Rattle.definitions.specs.Checked.{Checked, accepted, isAccepted, refused}
 use Rattle.definitions.specs.CombinedList.{Texts, combinedList}
+use Rattle.definitions.specs.LookUp.{LookedUp, numbersWritten}
 use Rattle.definitions.specs.Looks.{looksOf}
+use Rattle.position_lookup.specs.declared.Lookup.the-variants as lookup
+use Rattle.position_lookup.specs.declared.Lookup.{Lookup}
 use Rattle.search_looks.specs.declared.Looked.{Looked}
 use Rattle.search_looks.specs.declared.Looked.the-variants as looked
 
@@ -61,6 +64,32 @@ pub record ExportedLooks (texts : Texts) (contig scratch scratch′ : List ℕ) 
   pub numbers : answerFigure number figure ≡ answerFigureOf (looksOf texts (length scratch) contig)
   pub accepts : eqb number 0 ≡ isAccepted (looksOf texts (length scratch) contig)
   pub cleared : scratch′ ≡ scratchAfter scratch
+
+-- ---- pairs looked up
+
+-- the row that refuses the call, else 0, how many pairs there are and how many record groups were read, 0 where the call is refused
+pub record LookupNumbers : Type 0 where
+  pub number : ℕ
+  pub pairs : ℕ
+  pub groups : ℕ
+
+abbrev pub answerLookup : ℕ → ℕ → ℕ → LookupNumbers
+answerLookup number pairs groups = record { number = number; pairs = pairs; groups = groups }
+
+abbrev pub lookupNumbers : Lookup → LookupNumbers
+lookupNumbers (lookup.Found pairs groups) = answerLookup 0 pairs groups
+lookupNumbers (lookup.Refused row) = answerLookup row 0 0
+
+unfoldable pub answerLookupOf : Checked LookedUp → LookupNumbers
+answerLookupOf (refused row) = answerLookup row 0 0
+answerLookupOf (accepted l) = answerLookup 0 (length (l .found)) (l .groups)
+
+-- the three numbers are those of what was looked up, or the row that refuses it, and so is what the output holds at the end; the first number
+-- is 0 exactly if the call is accepted
+pub record ExportedLookUp (looked : Checked LookedUp) (out out′ : List ℕ) (number pairs groups : ℕ) : Type 0 where
+  pub numbers : answerLookup number pairs groups ≡ answerLookupOf looked
+  pub accepts : eqb number 0 ≡ isAccepted looked
+  pub output : out′ ≡ outputAfter (numbersWritten looked) out
 
 -- ---- three outputs
 

@@ -11,11 +11,13 @@ ghost use Rattle.definitions.specs.CalledGenotypes.{gqFromPl};
 ghost use Rattle.definitions.specs.CalledList.{calledList};
 ghost use Rattle.definitions.specs.Checked.{within};
 ghost use Rattle.definitions.specs.Likelihoods.{log10FromPl};
+ghost use Rattle.definitions.specs.LookUp.{lookUpWithin};
 ghost use Rattle.definitions.specs.ReverseTrim.{trimmedAlleles};
 ghost use Rattle.likelihoods.specs.Written.{NearTenths, noneAbove};
-ghost use Rattle.wintabol.specs.Exported.{Exported, ExportedAlts, ExportedList, ExportedLooks, answer, answerAlts, answerFigure, lookedNumbers, outcomeAlts, outcomeNumbers};
+ghost use Rattle.wintabol.specs.Exported.{Exported, ExportedAlts, ExportedList, ExportedLookUp, ExportedLooks, answer, answerAlts, answerFigure, answerLookup, lookedNumbers, lookupNumbers, outcomeAlts, outcomeNumbers};
 use allele_subsetting_pl::UnusedAltOutcome;
 use answers::Outcome;
+use position_lookup::Lookup;
 use search_looks::Looked;
 
 // An outcome as two numbers.
@@ -105,6 +107,42 @@ pub extern "C" fn wintabol_looks<'a>(
         scratch,
     );
     give_looked(looked, figure)
+}
+
+// How many pairs were looked up and how many record groups were read, or the row that refuses it, as three numbers.
+fn give_lookup(answer: Lookup, pairs: &mut usize, groups: &mut u32) -> usize
+    ensures { λ r. ⌜ lookupNumbers answer ≡ answerLookup r (now (pairs .exit)) (now (groups .exit)) ⌝ }
+{
+    match answer {
+        Lookup::Found(count, read) => {
+            *pairs = count;
+            *groups = read;
+            0
+        }
+        Lookup::Refused(row) => {
+            *pairs = 0;
+            *groups = 0;
+            row
+        }
+    }
+}
+
+// For each pair of `asked`, groups of `contig` and `pos` in list order, the number of the record of a combined list whose stretch holds it,
+// counted from 0, or 4294967295 for none; how many pairs there are; and how many record groups were read, front to back, up to the last pair.
+#[no_mangle]
+pub extern "C" fn wintabol_look_up(
+    list: &[u8],
+    asked: &[u8],
+    out: &mut [u32],
+    pairs: &mut usize,
+    groups: &mut u32,
+) -> usize
+    ensures { λ r. ⌜ ExportedLookUp
+        (lookUpWithin (now (list .entry)) (now (asked .entry)) (length (now (out .entry))))
+        (now (out .entry)) (now (out .exit)) r (now (pairs .exit)) (now (groups .exit)) ⌝ }
+{
+    let answer = position_lookup::look_up(list, asked, out);
+    give_lookup(answer, pairs, groups)
 }
 
 // The called list of a combined list.
