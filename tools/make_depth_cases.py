@@ -132,9 +132,9 @@ def refused():
     refuse("no-mindp", text.replace("mindp=.\n", "", 1), 1)
 
 
-def generated():
-    rng = random.Random(3)
-    for number in range(60):
+def generated(seed, count):
+    rng = random.Random(seed)
+    for number in range(count):
         samples, records = rng.randint(1, 3), []
         for contig in sorted(rng.sample("abc", rng.randint(1, 3))):
             at = rng.randint(1, 20)
@@ -146,14 +146,20 @@ def generated():
             length=rng.randint(1, 40), step=rng.randint(1, 40), contig=rng.choice("abc"), places=rng.choice([3, 40, 400]), samples=samples)
 
 
+def written(cases):
+    """What the program is fed for these calls, and what it must print."""
+    stdin, stdout = "", ""
+    for c in cases:
+        stdin += f"{len(c.text)} 0 0 {c.places} {c.sample} {c.threshold} {c.length} {c.step} {c.contig} {c.name}\n{c.text}"
+        stdout += c.name + (f" refused={c.answer}\n" if isinstance(c.answer, int) else " windows=" + "".join(f" {n}" for n in c.answer) + "\n")
+    return stdin, stdout
+
+
 def main():
     by_hand()
     refused()
-    generated()
-    stdin, stdout = "", ""
-    for c in CASES:
-        stdin += f"{len(c.text)} 0 0 {c.places} {c.sample} {c.threshold} {c.length} {c.step} {c.contig} {c.name}\n{c.text}"
-        stdout += c.name + (f" refused={c.answer}\n" if isinstance(c.answer, int) else " windows=" + "".join(f" {n}" for n in c.answer) + "\n")
+    generated(3, 60)
+    stdin, stdout = written(CASES)
     if len(stdin) > INPUT_ROOM:
         raise SystemExit(f"{len(stdin)} bytes of cases, and room for {INPUT_ROOM}")
     folder = Path("crates/replay_depth")
@@ -162,4 +168,5 @@ def main():
     print(f"{len(CASES)} calls, {len(stdin)} bytes")
 
 
-main()
+if __name__ == "__main__":
+    main()
