@@ -22,31 +22,32 @@ use test_cases::print_refused;
 // Sets every place to a number that no window has.
 fn set_numbers(out: &mut [u32]) {
     for i in 0..out.len() {
-        out[i] = 4294967295;
+        out[i] = 4294967294;
     }
 }
 
-// Prints a line if a place from here on is not as it was set.
-fn print_if_changed(out: &[u32], count: usize) {
-    let mut changed = false;
-    let mut i = count;
-    while i < out.len() {
-        if out[i] != 4294967295 {
-            changed = true;
+// Prints a line if a place from an index on is not as it was set.
+fn print_if_changed(out: &[u32], from: usize) {
+    for i in from..out.len() {
+        if out[i] != 4294967294 {
+            print(b"a place behind the counts has changed\n");
+            return;
         }
-        i += 1;
-    }
-    if changed {
-        print(b"output changed\n");
     }
 }
 
+// Prints a count.
+fn print_count(number: u32) {
+    print(b" ");
+    print_number(number as usize);
+}
+
+// Prints so many counts, as far as there are places.
 fn print_counts(out: &[u32], count: usize) {
-    let mut i = 0;
-    while i < count && i < out.len() {
-        print(b" ");
-        print_number(out[i] as usize);
-        i += 1;
+    for i in 0..out.len() {
+        if i < count {
+            print_count(out[i]);
+        }
     }
 }
 
@@ -71,10 +72,9 @@ fn small_field(line: &[u8], number: usize) -> u32 {
     count_field(line, number, 4294967295) as u32
 }
 
-// The call of a case on its output.
-fn run(line: &[u8], list: &[u8], out: &mut [u32]) {
-    set_numbers(out);
-    let outcome = depth_windows::depth_windows(
+// The call of a case.
+fn run(line: &[u8], list: &[u8], out: &mut [u32]) -> Outcome {
+    depth_windows::depth_windows(
         list,
         field(line, 8),
         SampleIndex::new(number_field(line, 4)),
@@ -82,38 +82,39 @@ fn run(line: &[u8], list: &[u8], out: &mut [u32]) {
         small_field(line, 6),
         small_field(line, 7),
         out,
-    );
-    let count = print_windows(outcome, out);
-    print_if_changed(out, count);
+    )
 }
 
 // The case at an offset; the answer is where the next one begins.
-fn run_case(input: &[u8], at: usize, out: &mut [u32]) -> usize
+fn run_case(input: &[u8], at: usize, numbers: &mut [u32]) -> usize
     requires { ⌜ at < length (now input) ⌝ }
     ensures { λ r. ⌜ at < r ⌝ }
 {
     let case = case_at(input, at);
     let line = line_at(input, at);
-    let places = count_field(line, 3, out.len());
+    let places = count_field(line, 3, numbers.len());
     print(field(line, 9));
-    run(
+    set_numbers(numbers);
+    let outcome = run(
         line,
         tables::part(input, case.first, case.second),
-        &mut out[..places],
+        &mut numbers[..places],
     );
+    let count = print_windows(outcome, numbers);
+    print_if_changed(numbers, count);
     case.next
 }
 
-fn run_cases(input: &[u8], out: &mut [u32]) {
+fn run_cases(input: &[u8], numbers: &mut [u32]) {
     let mut at = 0;
     while at < input.len() {
-        at = run_case(input, at, out);
+        at = run_case(input, at, numbers);
     }
 }
 
 fn main() {
     let mut input = [0u8; 262144];
-    let mut out = [0u32; 4096];
+    let mut numbers = [0u32; 4096];
     let count = io::read_full(0, &mut input);
-    run_cases(tables::part(&input, 0, count), &mut out);
+    run_cases(tables::part(&input, 0, count), &mut numbers);
 }
