@@ -10,12 +10,13 @@ use mathlib.Core.Option.{none, some}
 use mathlib.Core.Path.{_≡_, refl}
 use Rattle.definitions.specs.AlleleSubset.{likelihoodSubset}
 use Rattle.definitions.specs.Alleles.{allelesOf, writtenAlleles}
-use Rattle.definitions.specs.Answers.{callProgram, combineProgram, lookUpProgram, looksProgram, printedAnswer}
+use Rattle.definitions.specs.Answers.{callProgram, combineProgram, depthProgram, lookUpProgram, looksProgram, printedAnswer}
 use Rattle.definitions.specs.Bytes.{joinedBy, sameBytes, text}
 use Rattle.definitions.specs.CalledGenotypes.{LeastPls, gqFromLeastPls, gqFromPl, leastPls, withNextPl}
 use Rattle.definitions.specs.CalledList.{calledData}
 use Rattle.definitions.specs.Checked.{Checked, _>>=_, accepted, refused}
 use Rattle.definitions.specs.CombinedList.{Texts, combinedList, combinedRecords, inputOf}
+use Rattle.definitions.specs.DepthWindows.{depthWindows}
 use Rattle.definitions.specs.Genotypes.{SampleData, bestGenotype, genotypeIndex}
 use Rattle.definitions.specs.Likelihoods.{log10FromPl}
 use Rattle.definitions.specs.Lines.{line}
@@ -361,3 +362,40 @@ sheetRows =
 pub sheetRows-right : T (allOf right sheetRows)
 unfolding evaluated
 sheetRows-right = tt
+
+-- ---- depth along a contig
+
+-- the windows of a list on contig c, with eight places
+abbrev windows : List ℕ → ℕ → ℕ → ℕ → ℕ → List ℕ
+windows list sample threshold size step = shown decimal (depthWindows list (text "c") sample threshold size step 8)
+
+-- blocks from 10 to 19 with DP 7, and from 25 to 30 with DP 3
+abbrev twoBlocks : List ℕ
+twoBlocks = answer (one ++ siteGroup "0" "10" "19" "A" "<NON_REF>" "7" "." "." ++ siteGroup "0" "25" "30" "A" "<NON_REF>" "3" "." ".")
+
+-- a window may run past the last position; a missing DP is below 0; with exactly enough places, and with one fewer
+abbrev pub depths : List Row
+depths =
+    (windows twoBlocks 0 3 8 8 gives "8;3;5")
+    ∷ (windows twoBlocks 0 5 8 8 gives "8;2;0")
+    ∷ (windows twoBlocks 0 3 3 20 gives "3;1")
+    ∷ (windows twoBlocks 0 8 3 20 gives "0;0")
+    ∷ (windows exampleList 1 8 2 1 gives "1;0")
+    ∷ (windows exampleList 1 0 2 1 gives "1;0")
+    ∷ (windows exampleList 2 0 2 1 gives "refused=17\n")
+    ∷ (windows exampleList 0 0 0 1 gives "refused=17\n")
+    ∷ (windows exampleList 0 0 1 1000001 gives "refused=17\n")
+    ∷ (windows twoBlocks 0 3 1 3 gives "1;1;1;1;0;1;1")
+    ∷ (shown decimal (depthWindows twoBlocks (text "c") 0 3 1 3 7) gives "1;1;1;1;0;1;1")
+    ∷ (shown decimal (depthWindows twoBlocks (text "c") 0 3 1 3 6) gives "refused=14\n")
+    ∷ (windows (twoBlocks ++ text "x") 1 0 0 0 gives "refused=1\n")
+    ∷ (shown decimal (depthWindows twoBlocks (text "d") 0 3 8 8 0) gives "")
+    ∷ (shown decimal (depthWindows twoBlocks (text "d") 1 3 8 8 0) gives "refused=17\n")
+    ∷ (depthProgram (some twoBlocks) (some (text "contig=c\nsample=0\nthreshold=3\nlength=8\nstep=8\n")) gives "window=10,8\nwindow=18,3\nwindow=26,5\n")
+    ∷ (depthProgram (some twoBlocks) (some (text "contig=c\nsample=0\nthreshold=3\nlength=8\n")) gives "refused=1\n")
+    ∷ (depthProgram none none gives "refused=1\n")
+    ∷ []
+
+pub depths-right : T (allOf right depths)
+unfolding evaluated
+depths-right = tt

@@ -1,19 +1,21 @@
 -- What a call answers, what its buffers hold at the end, and what the programs print.
-use Prim.Native.Nat.{ℕ}
+use Prim.Native.Nat.{_+_, ℕ}
 use lib.Dec.{eqb, leb}
 use lib.ListN.{drop, length}
 use mathlib.Core.Bool.{Bool}
-use mathlib.Core.List.{List, [], _++_, flatMap, map}
+use mathlib.Core.List.{List, [], _++_, _∷_, flatMap, map}
 use mathlib.Core.Option.{Option, Option·getD}
+use Rattle.definitions.specs.Bytes.{comma}
 use Rattle.definitions.specs.CalledList.{calledList}
 use Rattle.definitions.specs.Checked.{Checked, _>>_, _>>=_, accepted, refused, require}
 use Rattle.definitions.specs.CombinedList.{combinedList}
-use Rattle.definitions.specs.Limits.{programBytes, programScratch}
+use Rattle.definitions.specs.DepthWindows.{windowsAlong}
+use Rattle.definitions.specs.Limits.{programBytes, programScratch, programWindows}
 use Rattle.definitions.specs.Lines.{line, lineAt, linesOf}
 use Rattle.definitions.specs.Lists.{missingOr}
 use Rattle.definitions.specs.LookUp.{LookedUp, lookUp}
 use Rattle.definitions.specs.Looks.{looksOf}
-use Rattle.definitions.specs.Numbers.{decimal, name, writtenOrMissing}
+use Rattle.definitions.specs.Numbers.{decimal, name, number, writtenOrMissing}
 
 -- ---- a call
 
@@ -122,3 +124,43 @@ printedLookedUp (accepted l) = flatMap (λ o. line "record" (writtenOrMissing de
 -- `look_up`, by the contents of its two files, each `none` if it is absent
 unfoldable pub lookUpProgram : Option (List ℕ) → Option (List ℕ) → List ℕ
 lookUpProgram combined asked = printedLookedUp (lookUpFiles (fileText combined) (fileText asked))
+
+-- what depth.kv asks for
+pub record AskedDepth : Type 0 where
+  pub contig : List ℕ
+  pub sample : ℕ
+  pub threshold : ℕ
+  pub size : ℕ
+  pub step : ℕ
+
+-- in five lines
+unfoldable pub askedDepth : List ℕ → Checked AskedDepth
+askedDepth s =
+    let ls = linesOf s in do
+      contig ← lineAt ls 0 "contig" name
+      sample ← lineAt ls 1 "sample" number
+      threshold ← lineAt ls 2 "threshold" number
+      size ← lineAt ls 3 "length" number
+      step ← lineAt ls 4 "step" number
+      require 1 (eqb (length ls) 5)
+      accepted (record { contig = contig; sample = sample; threshold = threshold; size = size; step = step })
+
+-- a line for each window: its first position, a comma and its count
+unfoldable pub printedWindows : ℕ → ℕ → List ℕ → List ℕ
+printedWindows step first [] = []
+printedWindows step first (count ∷ counts) =
+    line "window" (decimal first ++ (comma ∷ decimal count)) ++ printedWindows step (first + step) counts
+
+-- the windows of combined.kv, by what the program takes of it and of depth.kv, which is ranked directly after the texts' length; absent,
+-- they are empty texts
+unfoldable pub depthFiles : Checked (Option (List ℕ)) → Checked (Option (List ℕ)) → Checked (List ℕ)
+depthFiles combined asked = do
+  c ← combined
+  a ← asked
+  q ← askedDepth (Option·getD a [])
+  windows ← windowsAlong (Option·getD c []) (q .contig) (q .sample) (q .threshold) (q .size) (q .step) programWindows
+  accepted (printedWindows (q .step) (windows .first) (windows .counts))
+
+-- `depth`, by the contents of its two files, each `none` if it is absent
+unfoldable pub depthProgram : Option (List ℕ) → Option (List ℕ) → List ℕ
+depthProgram combined asked = printedAnswer (depthFiles (fileText combined) (fileText asked))

@@ -30,9 +30,17 @@ maxAlleles = 16
 abbrev pub maxLetters : ℕ
 maxLetters = 255
 
+-- a window along a contig, its length and its step: positions
+abbrev pub maxWindow : ℕ
+maxWindow = 1000000
+
 -- the programs: bytes of a file and of the list, and places of scratch for breakpoints
 abbrev pub programBytes : ℕ
 programBytes = 65536
 
 abbrev pub programScratch : ℕ
 programScratch = 8192
+
+-- and places for windows along a contig, whose lines then fit the list's bytes
+abbrev pub programWindows : ℕ
+programWindows = 2500

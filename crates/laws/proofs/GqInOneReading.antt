@@ -12,18 +12,9 @@ use native.Mathlib.Omega.{arith}
 use Rattle.definitions.specs.CalledGenotypes.{LeastPls, gqFromLeastPls, gqFromPl, leastPls, withNextPl, withoutFirst}
 use Rattle.definitions.specs.Genotypes.{least}
 use Rattle.definitions.specs.Lists.{filterBy}
-use Rattle.laws.proofs.Genotypes.{least-in, least-le}
+use Rattle.laws.proofs.Genotypes.{least-in, least-is, least-le}
 use Rattle.laws.proofs.Members.{_∈_, at-member, cons-cases, filter-all, filter-append, filter-member, filter-no, filter-none, filter-yes, member-filter}
 use Rattle.laws.proofs.Tests.{or-right}
-
--- ---- the least
-
--- a number of the list, at most any other
-least-is : (l : List ℕ) (m : ℕ) → m ∈ l → ((y : ℕ) → y ∈ l → m ≤ y) → least l ≡ m
-least-is l m here below =
-    let a = least-le l here in
-    let b = below (least l) (least-in l here) in
-    omega arith
 
 -- a list that has a number is not empty
 some-there : (l : List ℕ) {m : ℕ} → m ∈ l → 0 < length l
