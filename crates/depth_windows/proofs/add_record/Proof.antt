@@ -34,7 +34,17 @@ is-deep-requires : tie.Need-is-deep-requires
 is-deep-requires c κs = search needs
 
 returns-2 : tie.Need-returns-2
-returns-2 c = rw (on-is _ ((c .before .before .before .before .before .before .same-bytes .ensures)) ((c .before .before .before .before .before .before .before .part .ensures)) (not-false _ ((c .before .before .before .before .before .if1 .left))), deep-is _ _ ((c .before .is-deep .ensures)) ((c .before .before .dp-of .ensures)) ((c .before .before .before .get .ensures)) (not-true _ ((c .if2 .taken))))
+returns-2 c =
+    let at-dp-of = c .before .before in
+    let at-get = at-dp-of .before in
+    let at-if1 = at-get .before .before in
+    let at-same-bytes = at-if1 .before in
+    let at-part = at-same-bytes .before in
+    rw (
+      on-is _ (at-same-bytes .same-bytes .ensures) (at-part .part .ensures) (not-false _ (at-if1 .if1 .left)),
+      deep-is _ _ (c .before .is-deep .ensures)
+          (at-dp-of .dp-of .ensures) (at-get .get .ensures) (not-true _ (c .if2 .taken)),
+    )
 
 record-end-requires : tie.Need-record-end-requires
 record-end-requires c κs = search needs
@@ -43,13 +53,48 @@ new-requires : tie.Need-new-requires
 new-requires c κs = search needs
 
 add-stretch-requires : tie.Need-add-stretch-requires
-add-stretch-requires c κs = rw ((c .new .ensures .0), (c .new .ensures .1), (c .before .before .record-end .ensures)) (((c .before .before .before .before .before .before .before .before .before .before .before .before .before .before .before .pre)) (rw (on-is _ ((c .before .before .before .before .before .before .before .before .before .before .same-bytes .ensures)) ((c .before .before .before .before .before .before .before .before .before .before .before .part .ensures)) (not-false _ ((c .before .before .before .before .before .before .before .before .before .if1 .left))), deep-is _ _ ((c .before .before .before .before .before .is-deep .ensures)) ((c .before .before .before .before .before .before .dp-of .ensures)) ((c .before .before .before .before .before .before .before .get .ensures)) (not-false _ ((c .before .before .before .before .if2 .left))))))
+add-stretch-requires c κs =
+    let at-record-end = c .before .before in
+    let at-if2 = at-record-end .before .before in
+    let at-is-deep = at-if2 .before in
+    let at-dp-of = at-is-deep .before in
+    let at-get = at-dp-of .before in
+    let at-if1 = at-get .before .before in
+    let at-same-bytes = at-if1 .before in
+    let at-part = at-same-bytes .before in
+    let at-args = at-part .before .before .before .before in
+    rw ((c .new .ensures .0), (c .new .ensures .1), (at-record-end .record-end .ensures))
+    ((at-args .pre)
+    (rw (
+      on-is _ (at-same-bytes .same-bytes .ensures) (at-part .part .ensures) (not-false _ (at-if1 .if1 .left)),
+      deep-is _ _ (at-is-deep .is-deep .ensures)
+          (at-dp-of .dp-of .ensures) (at-get .get .ensures) (not-false _ (at-if2 .if2 .left)),
+    )))
 
 same-length : tie.Need-same-length
 same-length c = search needs
 
 returns-3 : tie.Need-returns-3
-returns-3 c = ((c .before .before .add-stretch .ensures)) ∙ rw ((c .before .before .before .new .ensures .0), (c .before .before .before .new .ensures .1), (c .before .before .before .before .before .record-end .ensures), on-is _ ((c .before .before .before .before .before .before .before .before .before .before .before .before .before .same-bytes .ensures)) ((c .before .before .before .before .before .before .before .before .before .before .before .before .before .before .part .ensures)) (not-false _ ((c .before .before .before .before .before .before .before .before .before .before .before .before .if1 .left))), deep-is _ _ ((c .before .before .before .before .before .before .before .before .is-deep .ensures)) ((c .before .before .before .before .before .before .before .before .before .dp-of .ensures)) ((c .before .before .before .before .before .before .before .before .before .before .get .ensures)) (not-false _ ((c .before .before .before .before .before .before .before .if2 .left))))
+returns-3 c =
+    let at-add-stretch = c .before .before in
+    let at-new = at-add-stretch .before in
+    let at-record-end = at-new .before .before in
+    let at-if2 = at-record-end .before .before in
+    let at-is-deep = at-if2 .before in
+    let at-dp-of = at-is-deep .before in
+    let at-get = at-dp-of .before in
+    let at-if1 = at-get .before .before in
+    let at-same-bytes = at-if1 .before in
+    let at-part = at-same-bytes .before in
+    (at-add-stretch .add-stretch .ensures) ∙ rw (
+      (at-new .new .ensures .0),
+      (at-new .new .ensures .1),
+      (at-record-end .record-end .ensures),
+      on-is _ (at-same-bytes .same-bytes .ensures)
+          (at-part .part .ensures) (not-false _ (at-if1 .if1 .left)),
+      deep-is _ _ (at-is-deep .is-deep .ensures) (at-dp-of .dp-of .ensures) (at-get .get .ensures)
+          (not-false _ (at-if2 .if2 .left)),
+    )
 
 pub add-record-spec : {M : Type 1} → statement M
 add-record-spec =

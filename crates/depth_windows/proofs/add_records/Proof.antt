@@ -45,7 +45,10 @@ same-length c = ((c .before .before .before .before .loop .inv .0))
 
 returns : tie.Need-returns Inv-loop μ-loop
 unfolding SteppedFrom
-returns c = λ ready. not-refused (sym (walk-refused _ _ _ (((c .before .before .before .before .loop .inv .1)) ready) (rw ((c .enum-told .given .1)) at ((c .before .before .step .ensures)))))
+returns c =
+    let at-step = c .before .before in
+    let at-loop = at-step .before .before in
+    λ ready. not-refused (sym (walk-refused _ _ _ ((at-loop .loop .inv .1) ready) (rw (c .enum-told .given .1) at (at-step .step .ensures))))
 
 enum-told-2 : tie.Need-enum-told-2 Inv-loop μ-loop
 enum-told-2 c = search needs
@@ -55,22 +58,44 @@ same-length-2 c = ((c .before .before .before .before .loop .inv .0))
 
 returns-2 : tie.Need-returns-2 Inv-loop μ-loop
 unfolding SteppedFrom
-returns-2 c = λ ready. accepted-same (sym (walk-end _ _ _ (((c .before .before .before .before .loop .inv .1)) ready) (rw ((c .enum-told2 .given .1)) at ((c .before .before .step .ensures)))))
+returns-2 c =
+    let at-step = c .before .before in
+    let at-loop = at-step .before .before in
+    λ ready. accepted-same (sym (walk-end _ _ _ ((at-loop .loop .inv .1) ready) (rw (c .enum-told2 .given .1) at (at-step .step .ensures))))
 
 enum-known-stepped : tie.Need-enum-known-stepped Inv-loop μ-loop
 enum-known-stepped c = search needs
 
 add-record-requires : tie.Need-add-record-requires Inv-loop μ-loop
 unfolding SteppedFrom
-add-record-requires c κs = count-ready ((c .before .before .before .before .before .before .before .before .before .before .before .before .pre)) (((c .before .before .before .before .before .before .before .loop .inv .1)) ((c .before .before .before .before .before .before .before .before .before .before .before .before .pre))) (rw ((c .before .before .before .stepped .given .1)) at ((c .before .before .before .before .before .step .ensures)))
+add-record-requires c κs =
+    let at-stepped = c .before .before .before in
+    let at-step = at-stepped .before .before in
+    let at-loop = at-step .before .before in
+    let at-args = at-loop .before .before .before .before .before in
+    count-ready (at-args .pre) ((at-loop .loop .inv .1) (at-args .pre)) (rw (at-stepped .stepped .given .1) at (at-step .step .ensures))
 
 loop-less : tie.Need-loop-less Inv-loop μ-loop
 unfolding SteppedFrom
-loop-less c = let r = rw ((c .before .before .before .before .before .before .stepped .given .1)) at ((c .before .before .before .before .before .before .before .before .step .ensures)) in omega (arith, r .forward, r .within)
+loop-less c =
+    let at-stepped = c .before .before .before .before .before .before in
+    let at-step = at-stepped .before .before in
+    let r = rw (at-stepped .stepped .given .1) at (at-step .step .ensures) in omega (arith, r .forward, r .within)
 
 loop-again : tie.Need-loop-again Inv-loop μ-loop
 unfolding SteppedFrom
-loop-again c = let r = rw ((c .before .before .before .before .before .before .stepped .given .1)) at ((c .before .before .before .before .before .before .before .before .step .ensures)) in (((c .before .before .add-record .kept .1 .1 .1 .1 .1 .1 .0)) ∙ ((c .before .before .before .before .before .before .before .before .before .before .loop .inv .0)), λ ready. rw (((c .before .before .add-record .ensures)) ∙ place-added (r .to) ((c .before .before .before .before .before .before .before .before .before .before .before .before .before .before .before .args .contig .now)) ((c .before .before .before .before .before .before .before .before .before .before .before .before .before .before .before .args .asked)) ((c .before .before .before .before .before .before .before .before .before .before .before .before .before .before .before .args .windows)) ((c .before .before .before .before .before .before .before .before .before .before .loop .counts)) (ready .sample-there)) (walk-next _ _ _ (((c .before .before .before .before .before .before .before .before .before .before .loop .inv .1)) ready) r))
+loop-again c =
+    let at-add-record = c .before .before in
+    let at-stepped = at-add-record .before .before .before .before in
+    let at-step = at-stepped .before .before in
+    let at-loop = at-step .before .before in
+    let at-args = at-loop .before .before .before .before .before in
+    let r = rw (at-stepped .stepped .given .1) at (at-step .step .ensures) in (
+      (at-add-record .add-record .kept .1 .1 .1 .1 .1 .1 .0) ∙ (at-loop .loop .inv .0),
+      λ ready. rw
+          ((at-add-record .add-record .ensures) ∙ place-added (r .to) (at-args .args .contig .now) (at-args .args .asked) (at-args .args .windows)
+          (at-loop .loop .counts) (ready .sample-there)) (walk-next _ _ _ ((at-loop .loop .inv .1) ready) r),
+    )
 
 pub add-records-spec : {M : Type 1} → statement M
 add-records-spec =

@@ -18,13 +18,25 @@ window-fits-requires-2 : tie.Need-window-fits-requires-2
 window-fits-requires-2 c κs = search needs
 
 returns-2 : tie.Need-returns-2
-returns-2 c = rw (sym ((c .before .before .before .window-fits .ensures)) ∙ not-false _ ((c .before .before .if1 .left)), sym ((c .before .window-fits2 .ensures)) ∙ not-true _ ((c .if2 .taken)))
+returns-2 c =
+    let at-if1 = c .before .before in
+    let at-window-fits = at-if1 .before in
+    rw (sym (at-window-fits .window-fits .ensures) ∙ not-false _ (at-if1 .if1 .left), sym (c .before .window-fits2 .ensures) ∙ not-true _ (c .if2 .taken))
 
 get-requires : tie.Need-get-requires
 get-requires c κs = search needs
 
 returns-3 : tie.Need-returns-3
-returns-3 c = rw (sym ((c .before .before .before .before .window-fits .ensures)) ∙ not-false _ ((c .before .before .before .if1 .left)), sym ((c .before .before .window-fits2 .ensures)) ∙ not-false _ ((c .before .if2 .left)), (c .get .ensures))
+returns-3 c =
+    let at-window-fits2 = c .before .before in
+    let at-if1 = at-window-fits2 .before in
+    let at-window-fits = at-if1 .before in
+    rw (
+      sym (at-window-fits .window-fits .ensures) ∙ not-false _ (at-if1 .if1 .left),
+      sym (at-window-fits2 .window-fits2 .ensures) ∙ not-false _
+          (c .before .if2 .left),
+      (c .get .ensures),
+    )
 
 pub asked-right-spec : {M : Type 1} → statement M
 asked-right-spec =

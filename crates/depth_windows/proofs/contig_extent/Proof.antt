@@ -38,7 +38,10 @@ enum-known-stepped c = search needs
 
 returns : tie.Need-returns Inv-loop μ-loop
 unfolding SteppedFrom
-returns c = sym (walk-refused _ _ _ ((c .before .before .before .before .before .loop .inv)) (rw ((c .before .stepped .given .1)) at ((c .before .before .before .step .ensures))))
+returns c =
+    let at-step = c .before .before .before in
+    let at-loop = at-step .before .before in
+    sym (walk-refused _ _ _ (at-loop .loop .inv) (rw (c .before .stepped .given .1) at (at-step .step .ensures)))
 
 enum-told : tie.Need-enum-told Inv-loop μ-loop
 enum-told c = search needs
@@ -55,11 +58,21 @@ extent-with-requires c κs = search needs
 
 loop-less : tie.Need-loop-less Inv-loop μ-loop
 unfolding SteppedFrom
-loop-less c = let r = rw ((c .before .before .stepped2 .given .1)) at ((c .before .before .before .before .step .ensures)) in omega (arith, r .forward, r .within)
+loop-less c =
+    let at-stepped2 = c .before .before in
+    let at-step = at-stepped2 .before .before in
+    let r = rw (at-stepped2 .stepped2 .given .1) at (at-step .step .ensures) in omega (arith, r .forward, r .within)
 
 loop-again : tie.Need-loop-again Inv-loop μ-loop
 unfolding SteppedFrom
-loop-again c = let r = rw ((c .before .before .stepped2 .given .1)) at ((c .before .before .before .before .step .ensures)) in rw (((c .extent-with .ensures)) ∙ place-span (r .to) ((c .before .before .before .before .before .before .before .before .before .before .args .contig .now)) (extentSpan ((c .before .before .before .before .before .before .loop .extent)))) (walk-next _ _ _ ((c .before .before .before .before .before .before .loop .inv)) r)
+loop-again c =
+    let at-stepped2 = c .before .before in
+    let at-step = at-stepped2 .before .before in
+    let at-loop = at-step .before .before in
+    let at-args = at-loop .before .before .before .before in
+    let r = rw (at-stepped2 .stepped2 .given .1) at (at-step .step .ensures) in
+    rw ((c .extent-with .ensures) ∙ place-span (r .to) (at-args .args .contig .now) (extentSpan (at-loop .loop .extent)))
+    (walk-next _ _ _ (at-loop .loop .inv) r)
 
 pub contig-extent-spec : {M : Type 1} → statement M
 contig-extent-spec =

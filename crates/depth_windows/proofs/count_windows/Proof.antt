@@ -12,13 +12,20 @@ clear-numbers-requires : tie.Need-clear-numbers-requires
 clear-numbers-requires c κs = search needs
 
 add-records-requires : tie.Need-add-records-requires
-add-records-requires c κs = rw (((c .before .before .before .clear-numbers .ensures)) ∙ cleared-zeros ((c .before .before .before .before .before .before .before .before .args .counts .now))) ((c .before .before .before .before .before .before .before .before .pre))
+add-records-requires c κs =
+    let at-clear-numbers = c .before .before .before in
+    let at-args = at-clear-numbers .before .before .before .before .before in
+    rw ((at-clear-numbers .clear-numbers .ensures) ∙ cleared-zeros (at-args .args .counts .now)) (at-args .pre)
 
 same-length : tie.Need-same-length
 same-length c = search needs
 
 returns : tie.Need-returns
-returns c = counted-as (((c .before .before .before .before .before .before .clear-numbers .ensures)) ∙ cleared-zeros ((c .before .before .before .before .before .before .before .before .before .before .before .args .counts .now))) ((c .before .before .add-records .ensures))
+returns c =
+    let at-add-records = c .before .before in
+    let at-clear-numbers = at-add-records .before .before .before .before in
+    let at-args = at-clear-numbers .before .before .before .before .before in
+    counted-as ((at-clear-numbers .clear-numbers .ensures) ∙ cleared-zeros (at-args .args .counts .now)) (at-add-records .add-records .ensures)
 
 pub count-windows-spec : {M : Type 1} → statement M
 count-windows-spec =

@@ -27,7 +27,12 @@ widened-requires : tie.Need-widened-requires
 widened-requires c κs = search needs
 
 returns-2 : tie.Need-returns-2
-returns-2 c = ((c .widened .ensures)) ∙ rw (on-is _ ((c .before .before .before .before .same-bytes .ensures)) ((c .before .before .before .before .before .part .ensures)) (not-false _ ((c .before .before .before .if1 .left))), (c .before .record-end .ensures))
+returns-2 c =
+    let at-if1 = c .before .before .before in
+    let at-same-bytes = at-if1 .before in
+    let at-part = at-same-bytes .before in
+    (c .widened .ensures) ∙ rw
+    (on-is _ (at-same-bytes .same-bytes .ensures) (at-part .part .ensures) (not-false _ (at-if1 .if1 .left)), (c .before .record-end .ensures))
 
 pub extent-with-spec : {M : Type 1} → statement M
 extent-with-spec =

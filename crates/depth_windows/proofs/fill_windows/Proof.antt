@@ -22,13 +22,22 @@ slice-aggregate-count-windows : tie.Need-slice-aggregate-count-windows
 slice-aggregate-count-windows c = sym (length-take-le _ _ ((c .before .if1 .left)))
 
 count-windows-requires : tie.Need-count-windows-requires
-count-windows-requires c κs = zero-ready ((c .before .before .before .before .before .before .pre)) ((c .before .before .before .before .before .before .args .out .now)) _ ((c .before .before .window-count .ensures)) ((c .before .if1 .left))
+count-windows-requires c κs =
+    let at-window-count = c .before .before in
+    let at-args = at-window-count .before .before .before .before in
+    zero-ready (at-args .pre) (at-args .args .out .now) _ (at-window-count .window-count .ensures) (c .before .if1 .left)
 
 same-length : tie.Need-same-length
 same-length c = search needs
 
 returns-2 : tie.Need-returns-2
-returns-2 c = λ ready. filled-given ready ((c .before .before .before .before .before .before .before .before .before .before .args .out .now)) _ ((c .before .before .before .before .before .before .window-count .ensures)) ((c .before .before .before .before .before .if1 .left)) _ refl ((c .before .before .before .count-windows .ensures))
+returns-2 c =
+    let at-count-windows = c .before .before .before in
+    let at-if1 = at-count-windows .before .before in
+    let at-window-count = at-if1 .before in
+    let at-args = at-window-count .before .before .before .before in
+    λ ready. filled-given ready (at-args .args .out .now) _ (at-window-count .window-count .ensures) (at-if1 .if1 .left) _ refl
+    (at-count-windows .count-windows .ensures)
 
 pub fill-windows-spec : {M : Type 1} → statement M
 fill-windows-spec =

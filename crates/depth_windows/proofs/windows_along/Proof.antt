@@ -27,14 +27,23 @@ windows-behind-requires c κs = (rw ((c .before .before .header2 .given .1)) at 
 
 returns-2 : tie.Need-returns-2
 unfolding HeaderRead
-returns-2 c = given-refused (all-refused _ _ _ _ ((c .before .before .before .before .before .if1 .left)) _ ((rw ((c .before .header .given .1)) at ((c .before .before .before .read-header .ensures))) .value)) refl
+returns-2 c =
+    let at-read-header = c .before .before .before in
+    let at-if1 = at-read-header .before .before in
+    given-refused (all-refused _ _ _ _ (at-if1 .if1 .left) _ ((rw (c .before .header .given .1) at (at-read-header .read-header .ensures)) .value)) refl
 
 same-length : tie.Need-same-length
 same-length c = search needs
 
 returns-3 : tie.Need-returns-3
 unfolding HeaderRead
-returns-3 c = given-same (sym (all-behind _ _ _ _ ((c .before .before .before .before .before .before .before .before .before .if1 .left)) (rw ((c .before .before .before .before .before .header2 .given .1)) at ((c .before .before .before .before .before .before .before .read-header .ensures))))) ((c .before .before .windows-behind .ensures))
+returns-3 c =
+    let at-windows-behind = c .before .before in
+    let at-header2 = at-windows-behind .before .before .before in
+    let at-read-header = at-header2 .before .before in
+    let at-if1 = at-read-header .before .before in
+    given-same (sym (all-behind _ _ _ _ (at-if1 .if1 .left) (rw (at-header2 .header2 .given .1) at (at-read-header .read-header .ensures))))
+    (at-windows-behind .windows-behind .ensures)
 
 pub windows-along-spec : {M : Type 1} → statement M
 windows-along-spec =

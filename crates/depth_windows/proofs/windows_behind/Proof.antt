@@ -19,16 +19,28 @@ enum-known-read-2 : tie.Need-enum-known-read-2
 enum-known-read-2 c = search needs
 
 windows-over-requires : tie.Need-windows-over-requires
-windows-over-requires c κs = over-ready _ ((c .before .before .before .before .before .before .before .before .pre)) (rw ((c .before .before .read2 .given .1)) at ((c .before .before .before .before .contig-extent .ensures)))
+windows-over-requires c κs =
+    let at-read2 = c .before .before in
+    let at-contig-extent = at-read2 .before .before in
+    let at-args = at-contig-extent .before .before .before .before in
+    over-ready _ (at-args .pre) (rw (at-read2 .read2 .given .1) at (at-contig-extent .contig-extent .ensures))
 
 returns : tie.Need-returns
-returns c = given-refused (records-refused _ _ _ _ _ _ (refused-along _ _ _ (rw ((c .before .read .given .1)) at ((c .before .before .before .contig-extent .ensures))))) refl
+returns c =
+    let contig-extent = c .before .before .before .contig-extent in
+    given-refused (records-refused _ _ _ _ _ _ (refused-along _ _ _ (rw (c .before .read .given .1) at (contig-extent .ensures)))) refl
 
 same-length : tie.Need-same-length
 same-length c = search needs
 
 returns-2 : tie.Need-returns-2
-returns-2 c = let ready = over-ready _ ((c .before .before .before .before .before .before .before .before .before .before .before .pre)) (rw ((c .before .before .before .before .before .read2 .given .1)) at ((c .before .before .before .before .before .before .before .contig-extent .ensures))) in given-same (sym (records-behind _ _ _ _ _ (ready .value))) (((c .before .before .windows-over .ensures)) ready)
+returns-2 c =
+    let at-windows-over = c .before .before in
+    let at-read2 = at-windows-over .before .before .before in
+    let at-contig-extent = at-read2 .before .before in
+    let at-args = at-contig-extent .before .before .before .before in
+    let ready = over-ready _ (at-args .pre) (rw (at-read2 .read2 .given .1) at (at-contig-extent .contig-extent .ensures)) in
+    given-same (sym (records-behind _ _ _ _ _ (ready .value))) ((at-windows-over .windows-over .ensures) ready)
 
 pub windows-behind-spec : {M : Type 1} → statement M
 windows-behind-spec =

@@ -33,16 +33,36 @@ cast-t16 : tie.Need-cast-t16
 cast-t16 c = search needs
 
 fill-windows-requires : tie.Need-fill-windows-requires
-fill-windows-requires c κs = fill-ready _ _ _ _ 0 ((c .before .before .before .before .before .before .before .before .before .before .before .before .before .pre .value)) (sym ((c .before .before .before .before .before .before .before .before .before .asked-right .ensures)) ∙ not-false _ ((c .before .before .before .before .before .before .before .before .if1 .left))) _ _ (sym (ap extentSpan ((c .before .before .before .before .before .before .extent .given .1))) ∙ (c .before .before .before .before .before .before .before .before .before .before .before .before .before .pre .extent-is)) refl refl refl refl ((c .before .before .before .before .before .before .before .before .before .before .before .before .before .pre .few))
+fill-windows-requires c κs =
+    let at-extent = c .before .before .before .before .before .before in
+    let at-if1 = at-extent .before .before in
+    let at-asked-right = at-if1 .before in
+    let at-args = at-asked-right .before .before .before .before in
+    fill-ready _ _ _ _ 0 (at-args .pre .value) (sym (at-asked-right .asked-right .ensures) ∙ not-false _ (at-if1 .if1 .left)) _ _
+    (sym (ap extentSpan (at-extent .extent .given .1)) ∙ (at-args .pre .extent-is)) refl refl refl refl (at-args .pre .few)
 
 returns-2 : tie.Need-returns-2
-returns-2 c = λ ready. given-windows _ (no-windows _ _ _ _ _ (ready .value) (sym ((c .before .before .before .before .asked-right .ensures)) ∙ not-false _ ((c .before .before .before .if1 .left))) (sym (ap extentSpan ((c .before .enum-told .given .1))) ∙ ready .extent-is)) ((c .new-1based .ensures)) refl refl
+returns-2 c =
+    let at-if1 = c .before .before .before in
+    let at-asked-right = at-if1 .before in
+    λ ready. given-windows _
+    (no-windows _ _ _ _ _ (ready .value) (sym (at-asked-right .asked-right .ensures) ∙ not-false _ (at-if1 .if1 .left))
+    (sym (ap extentSpan (c .before .enum-told .given .1)) ∙ ready .extent-is)) (c .new-1based .ensures) refl refl
 
 same-length : tie.Need-same-length
 same-length c = search needs
 
 returns-3 : tie.Need-returns-3
-returns-3 c = λ ready. given-same (filled-over _ _ _ _ _ (ready .value) (sym ((c .before .before .before .before .before .before .before .before .before .before .before .before .asked-right .ensures)) ∙ not-false _ ((c .before .before .before .before .before .before .before .before .before .before .before .if1 .left))) _ _ (sym (ap extentSpan ((c .before .before .before .before .before .before .before .before .before .extent .given .1))) ∙ ready .extent-is) refl refl refl refl (ready .few)) (((c .before .before .fill-windows .ensures)) (fill-ready _ _ _ _ _ (ready .value) (sym ((c .before .before .before .before .before .before .before .before .before .before .before .before .asked-right .ensures)) ∙ not-false _ ((c .before .before .before .before .before .before .before .before .before .before .before .if1 .left))) _ _ (sym (ap extentSpan ((c .before .before .before .before .before .before .before .before .before .extent .given .1))) ∙ ready .extent-is) refl refl refl refl (ready .few)))
+returns-3 c =
+    let at-fill-windows = c .before .before in
+    let at-extent = at-fill-windows .before .before .before .before .before .before .before in
+    let at-if1 = at-extent .before .before in
+    let at-asked-right = at-if1 .before in
+    λ ready. given-same
+    (filled-over _ _ _ _ _ (ready .value) (sym (at-asked-right .asked-right .ensures) ∙ not-false _ (at-if1 .if1 .left)) _ _
+    (sym (ap extentSpan (at-extent .extent .given .1)) ∙ ready .extent-is) refl refl refl refl (ready .few)) ((at-fill-windows .fill-windows .ensures)
+    (fill-ready _ _ _ _ _ (ready .value) (sym (at-asked-right .asked-right .ensures) ∙ not-false _ (at-if1 .if1 .left)) _ _
+    (sym (ap extentSpan (at-extent .extent .given .1)) ∙ ready .extent-is) refl refl refl refl (ready .few)))
 
 pub windows-over-spec : {M : Type 1} → statement M
 windows-over-spec =

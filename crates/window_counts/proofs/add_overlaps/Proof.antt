@@ -40,13 +40,34 @@ slice-read-count : tie.Need-slice-read-count Inv-loop μ-loop
 slice-read-count c = search needs
 
 overlap-requires : tie.Need-overlap-requires Inv-loop μ-loop
-overlap-requires c κs = overlap-ready ((c .before .if1 .taken)) ((c .before .before .before .before .before .get2 .ensures)) ((c .before .before .before .before .before .before .before .before .pre .end-small)) ((c .before .before .before .before .before .before .before .before .pre .size-small))
+overlap-requires c κs =
+    let at-get2 = c .before .before .before .before .before in
+    let at-args = at-get2 .before .before .before in
+    overlap-ready (c .before .if1 .taken) (at-get2 .get2 .ensures) (at-args .pre .end-small) (at-args .pre .size-small)
 
 cast-counts : tie.Need-cast-counts Inv-loop μ-loop
-cast-counts c = let e = (c .overlap .ensures) in let s = overlap-small ((c .before .before .before .before .before .before .before .get .result)) ((c .before .before .before .before .before .before .get2 .result)) ((c .before .before .before .before .before .before .before .before .before .args .windows .size)) 0 ((c .before .before .before .before .loop .begin)) in let p = (c .before .before .before .before .before .before .before .before .before .pre .size-small) in record { fits = omega arith }
+cast-counts c =
+    let at-loop = c .before .before .before .before in
+    let at-get2 = at-loop .before .before in
+    let at-get = at-get2 .before in
+    let at-args = at-get .before .before in
+    let e = (c .overlap .ensures) in
+    let s = overlap-small (at-get .get .result) (at-get2 .get2 .result) (at-args .args .windows .size) 0 (at-loop .loop .begin) in
+    let p = (at-args .pre .size-small) in
+    record { fits = omega arith }
 
 add-counts : tie.Need-add-counts Inv-loop μ-loop
-add-counts c = record { fits = count-fits _ _ _ _ ((c .before .before .before .before .loop .inv)) ((c .before .before .before .before .before .before .before .get .ensures)) ((c .before .before .before .before .before .before .get2 .ensures)) ((c .before .before .before .before .before .get3 .ensures)) ((c .before .before .before .loop-test .taken)) ((c .before .before .before .before .before .before .before .before .before .pre .fits)) ((c .overlap .ensures)) }
+add-counts c =
+    let at-loop-test = c .before .before .before in
+    let at-loop = at-loop-test .before in
+    let at-get3 = at-loop .before in
+    let at-get2 = at-get3 .before in
+    let at-get = at-get2 .before in
+    let at-args = at-get .before .before in
+    record {
+      fits = count-fits _ _ _ _ (at-loop .loop .inv) (at-get .get .ensures) (at-get2 .get2 .ensures) (at-get3 .get3 .ensures)
+          (at-loop-test .loop-test .taken) (at-args .pre .fits) (c .overlap .ensures);
+    }
 
 mul-counts : tie.Need-mul-counts Inv-loop μ-loop
 mul-counts c = omega (arith, (c .before .before .before .before .loop .inv .len))
@@ -55,7 +76,11 @@ slice-write-counts : tie.Need-slice-write-counts Inv-loop μ-loop
 slice-write-counts c = search needs
 
 add-begin : tie.Need-add-begin Inv-loop μ-loop
-add-begin c = record { fits = next-begin _ ((c .before .before .if1 .taken)) ((c .before .before .before .before .before .before .get2 .ensures)) ((c .before .before .before .before .before .before .before .before .before .pre .end-small)) ((c .before .before .before .before .before .before .before .before .before .pre .step-small)) }
+add-begin c =
+    let at-if1 = c .before .before in
+    let at-get2 = at-if1 .before .before .before .before in
+    let at-args = at-get2 .before .before .before in
+    record { fits = next-begin _ (at-if1 .if1 .taken) (at-get2 .get2 .ensures) (at-args .pre .end-small) (at-args .pre .step-small) }
 
 add-k : tie.Need-add-k Inv-loop μ-loop
 add-k c = search needs
@@ -64,19 +89,31 @@ loop-less : tie.Need-loop-less Inv-loop μ-loop
 loop-less c = simp length-set (omega arith)
 
 loop-again : tie.Need-loop-again Inv-loop μ-loop
-loop-again c = rw add-one (one-window _ _ _ _ ((c .before .before .before .before .loop .inv)) _ ((c .before .before .before .loop-test .taken)) (rw ((c .overlap .ensures))))
+loop-again c =
+    let at-loop-test = c .before .before .before in
+    let at-loop = at-loop-test .before in
+    rw add-one (one-window _ _ _ _ (at-loop .loop .inv) _ (at-loop-test .loop-test .taken) (rw (c .overlap .ensures)))
 
 same-length : tie.Need-same-length Inv-loop μ-loop
 same-length c = (c .before .before .loop .inv .len)
 
 returns : tie.Need-returns Inv-loop μ-loop
-returns c = past-stretch _ _ _ _ ((c .before .before .loop .inv)) (leb-false _ _ ((c .if1 .left))) ∙ rw ((c .before .before .before .before .before .get .ensures), (c .before .before .before .before .get2 .ensures), (c .before .before .before .get3 .ensures))
+returns c =
+    let at-loop = c .before .before in
+    let at-get3 = at-loop .before in
+    let at-get2 = at-get3 .before in
+    let at-get = at-get2 .before in
+    past-stretch _ _ _ _ (at-loop .loop .inv) (leb-false _ _ (c .if1 .left)) ∙ rw ((at-get .get .ensures), (at-get2 .get2 .ensures), (at-get3 .get3 .ensures))
 
 same-length-2 : tie.Need-same-length-2 Inv-loop μ-loop
 same-length-2 c = (c .before .loop .inv .len)
 
 returns-2 : tie.Need-returns-2 Inv-loop μ-loop
-returns-2 c = past-all _ _ _ _ ((c .before .loop .inv)) ((c .loop-test .left)) ∙ rw ((c .before .before .before .before .get .ensures), (c .before .before .before .get2 .ensures), (c .before .before .get3 .ensures))
+returns-2 c =
+    let at-get3 = c .before .before in
+    let at-get2 = at-get3 .before in
+    let at-get = at-get2 .before in
+    past-all _ _ _ _ (c .before .loop .inv) (c .loop-test .left) ∙ rw ((at-get .get .ensures), (at-get2 .get2 .ensures), (at-get3 .get3 .ensures))
 
 pub add-overlaps-spec : {M : Type 1} → statement M
 add-overlaps-spec =

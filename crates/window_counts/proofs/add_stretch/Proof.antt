@@ -20,10 +20,17 @@ get-requires-2 : tie.Need-get-requires-2
 get-requires-2 c κs = search needs
 
 mul-begin : tie.Need-mul-begin
-mul-begin c = record { fits = skips-fit ((c .before .before .before .before .pre)) (skipping ((c .before .before .get .ensures)) ((c .before .windows-before .ensures)) ((c .get2 .ensures)) refl) }
+mul-begin c =
+    let at-get = c .before .before in
+    let at-args = at-get .before .before in
+    record { fits = skips-fit (at-args .pre) (skipping (at-get .get .ensures) (c .before .windows-before .ensures) (c .get2 .ensures) refl) }
 
 add-begin : tie.Need-add-begin
-add-begin c = rw ((c .get2 .ensures)) (record { fits = starts-fit ((c .before .before .before .before .pre)) (skipping ((c .before .before .get .ensures)) ((c .before .windows-before .ensures)) ((c .get2 .ensures)) refl) })
+add-begin c =
+    let at-get = c .before .before in
+    let at-args = at-get .before .before in
+    rw (c .get2 .ensures)
+    (record { fits = starts-fit (at-args .pre) (skipping (at-get .get .ensures) (c .before .windows-before .ensures) (c .get2 .ensures) refl) })
 
 new-1based-requires : tie.Need-new-1based-requires
 new-1based-requires c κs = search needs
@@ -41,16 +48,38 @@ part-add-overlaps-end : tie.Need-part-add-overlaps-end
 part-add-overlaps-end c = search needs
 
 add-overlaps-requires : tie.Need-add-overlaps-requires
-add-overlaps-requires c κs = later-ready ((c .before .before .before .before .before .before .before .pre)) (skipping ((c .before .before .before .before .before .get .ensures)) ((c .before .before .before .before .windows-before .ensures)) ((c .before .before .before .get2 .ensures)) ((c .before .new-1based .ensures))) ((c .before .before .if1 .taken)) _ refl refl refl
+add-overlaps-requires c κs =
+    let at-if1 = c .before .before in
+    let at-get2 = at-if1 .before in
+    let at-windows-before = at-get2 .before in
+    let at-get = at-windows-before .before in
+    let at-args = at-get .before .before in
+    later-ready (at-args .pre)
+    (skipping (at-get .get .ensures) (at-windows-before .windows-before .ensures) (at-get2 .get2 .ensures) (c .before .new-1based .ensures))
+    (at-if1 .if1 .taken) _ refl refl refl
 
 same-length : tie.Need-same-length
 same-length c = search needs
 
 returns : tie.Need-returns
-returns c = later-added ((c .before .before .before .before .before .before .before .before .before .before .pre)) (skipping ((c .before .before .before .before .before .before .before .before .get .ensures)) ((c .before .before .before .before .before .before .before .windows-before .ensures)) ((c .before .before .before .before .before .before .get2 .ensures)) ((c .before .before .before .before .new-1based .ensures))) ((c .before .before .before .before .before .if1 .taken)) _ refl refl refl ((c .before .before .add-overlaps .ensures))
+returns c =
+    let at-add-overlaps = c .before .before in
+    let at-new-1based = at-add-overlaps .before .before in
+    let at-if1 = at-new-1based .before in
+    let at-get2 = at-if1 .before in
+    let at-windows-before = at-get2 .before in
+    let at-get = at-windows-before .before in
+    let at-args = at-get .before .before in
+    later-added (at-args .pre)
+    (skipping (at-get .get .ensures) (at-windows-before .windows-before .ensures) (at-get2 .get2 .ensures) (at-new-1based .new-1based .ensures))
+    (at-if1 .if1 .taken) _ refl refl refl (at-add-overlaps .add-overlaps .ensures)
 
 returns-2 : tie.Need-returns-2
-returns-2 c = none-added ((c .before .before .before .before .before .pre)) (skipping ((c .before .before .before .get .ensures)) ((c .before .before .windows-before .ensures)) ((c .before .get2 .ensures)) refl) ((c .if1 .left))
+returns-2 c =
+    let at-windows-before = c .before .before in
+    let at-get = at-windows-before .before in
+    let at-args = at-get .before .before in
+    none-added (at-args .pre) (skipping (at-get .get .ensures) (at-windows-before .windows-before .ensures) (c .before .get2 .ensures) refl) (c .if1 .left)
 
 pub add-stretch-spec : {M : Type 1} → statement M
 add-stretch-spec =

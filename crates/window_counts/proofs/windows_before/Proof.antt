@@ -19,17 +19,25 @@ add-past c = search needs
 
 returns : tie.Need-returns
 unfolding windowsBefore
-returns c = rw (lt-ltb ((c .before .before .before .args .pos)) ((c .before .before .before .args .windows .first .0) + (c .before .before .before .args .windows .size)) (omega arith))
+returns c =
+    let args = c .before .before .before .args in
+    rw (lt-ltb (args .pos) ((args .windows .first .0) + (args .windows .size)) (omega arith))
 
 div-result : tie.Need-div-result
 div-result c = search needs
 
 add-result : tie.Need-add-result
-add-result c = omega (arith, div-le-self ((c .before .before .before .before .args .pos) - ((c .before .before .before .get .result) + (c .before .before .before .before .args .windows .size))) ((c .before .before .before .before .args .windows .step)))
+add-result c =
+    let at-get = c .before .before .before in
+    let at-args = at-get .before in
+    omega (arith, div-le-self ((at-args .args .pos) - ((at-get .get .result) + (at-args .args .windows .size))) (at-args .args .windows .step))
 
 returns-2 : tie.Need-returns-2
 unfolding windowsBefore
-returns-2 c = rw ((c .before .before .before .get .ensures), le-ltb ((c .before .before .before .before .args .pos)) ((c .before .before .before .before .args .windows .first .0) + (c .before .before .before .before .args .windows .size)) (omega arith), add-one)
+returns-2 c =
+    let at-get = c .before .before .before in
+    let at-args = at-get .before in
+    rw ((at-get .get .ensures), le-ltb (at-args .args .pos) ((at-args .args .windows .first .0) + (at-args .args .windows .size)) (omega arith), add-one)
 
 pub windows-before-spec : {M : Type 1} → statement M
 windows-before-spec =
