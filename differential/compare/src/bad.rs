@@ -11,7 +11,7 @@ use oracle::rng::{mix, Rng};
 /// Bytes that mean something in a text, so that a change often leaves it nearly right.
 const TELLING: &[u8] = b"\n\n==,,..0019ACGTNacgtn*<>sx \r\0\xff";
 
-fn changed(rng: &mut Rng, text: &[u8]) -> Vec<u8> {
+pub fn changed(rng: &mut Rng, text: &[u8]) -> Vec<u8> {
     let mut text = text.to_vec();
     for _ in 0..rng.range(1, 2) {
         let at = rng.below(text.len() as u64 + 1) as usize;

@@ -71,4 +71,11 @@ impl Guarded {
         // SAFETY: both ends of the room are multiples of 8, and so is the length.
         unsafe { std::slice::from_raw_parts_mut(bytes.as_mut_ptr().cast(), len) }
     }
+
+    /// So many numbers, each of four bytes of one value.
+    pub fn words(&mut self, len: usize, value: u8, at_end: bool) -> &mut [u32] {
+        let bytes = self.bytes(len * 4, value, at_end);
+        // SAFETY: both ends of the room are multiples of 4, and so is the length.
+        unsafe { std::slice::from_raw_parts_mut(bytes.as_mut_ptr().cast(), len) }
+    }
 }

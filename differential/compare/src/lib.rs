@@ -9,6 +9,7 @@ pub mod fuzz;
 pub mod groups;
 pub mod guarded;
 pub mod list_rows;
+pub mod look_up;
 pub mod looks;
 pub mod orders;
 pub mod ours;

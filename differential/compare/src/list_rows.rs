@@ -35,7 +35,7 @@ fn genotype_right(value: &[u8], n: u64) -> bool {
 }
 
 /// Contig and last position of the record, or the row that refuses its group.
-fn record_end<'a>(group: &Group<'a>, samples: usize, before: Option<(&[u8], u64)>) -> Result<(&'a [u8], u64), usize> {
+pub fn record_end<'a>(group: &Group<'a>, samples: usize, before: Option<(&[u8], u64)>) -> Result<(&'a [u8], u64), usize> {
     let head = || {
         Some((
             value(group, 0, "contig").and_then(name)?,

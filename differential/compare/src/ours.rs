@@ -75,6 +75,18 @@ impl Library {
         answer.map_err(|Refused(row)| row)
     }
 
+    /// The records that hold the pairs of a text and how many record groups were read, or the row that refuses the call; places behind the
+    /// answers, or all of them after a refusal, as they were.
+    pub fn look_up(&mut self, list: &[u8], asked: &[u8], places: usize) -> Result<(Vec<u32>, u32), usize> {
+        self.at_end = !self.at_end;
+        let [first, second, _] = &mut self.texts;
+        let out = self.out.words(places, BEFORE, self.at_end);
+        let answer = wintabol::look_up(first.text(list, self.at_end), second.text(asked, self.at_end), out);
+        let count = answer.as_ref().map_or(0, |found| found.pairs);
+        assert!(out[count..].iter().all(|&n| n == u32::from_ne_bytes([BEFORE; 4])), "the output is changed behind the answers");
+        answer.map(|found| (out[..count].to_vec(), found.groups)).map_err(|Refused(row)| row)
+    }
+
     /// The called list of a combined list, or the row that refuses it; the output as above.
     pub fn call(&mut self, list: &[u8], room: usize) -> Result<Vec<u8>, usize> {
         self.at_end = !self.at_end;
