@@ -1,3 +1,0 @@
-pub mod FiveLines
-pub mod WindowLines
-pub mod DepthFiles

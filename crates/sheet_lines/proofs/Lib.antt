@@ -1,2 +1,0 @@
-pub mod SampleSums
-pub mod SampleLines

@@ -1,6 +1,0 @@
-pub mod Places
-pub mod Cells
-pub mod Wanted
-pub mod Due
-pub mod Records
-pub mod Walking
