@@ -5,7 +5,7 @@ use borrow.Author.Tests.{eq-eqb, eqb-true, le-leb, leb-true, lt-leb, lt-ltb, ltb
 use lib.Dec.{leb, ltb}
 use lib.Ieee.{Float}
 use lib.ListN.{length}
-use mathlib.Core.Bool.{and_false, false, true}
+use mathlib.Core.Bool.{and-false, false, true}
 use mathlib.Core.List.{List}
 use mathlib.Core.Path.{◌≡◌}
 use native.Mathlib.Omega.{arith}
@@ -42,11 +42,11 @@ module _ (gl : List Float) (n : ℕ) (keep : List ℕ) where
 
   pub too_many : 16 < length keep → subset_fits gl n keep ≡ false
   unfolding subset_fits
-  too_many h = simp (lt-leb (length keep) 16 h, and_false)
+  too_many h = simp (lt-leb (length keep) 16 h, and-false)
 
   pub out_of_range : all_of in_range gl ≡ false → subset_fits gl n keep ≡ false
   unfolding subset_fits
-  out_of_range h = simp (h, and_false)
+  out_of_range h = simp (h, and-false)
 
   pub only_alleles : length gl ≡ genotype_count n → length keep ≤ 16 → all_of in_range gl ≡ true → subset_fits gl n keep ≡ all_of (λ a. ltb a n) keep
   unfolding subset_fits

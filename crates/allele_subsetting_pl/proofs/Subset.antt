@@ -5,7 +5,7 @@ use lib.Dec.{T}
 use lib.Ieee.{Float, nan}
 use lib.ListN.{length}
 use lib.Seq.{sets}
-use mathlib.Core.Bool.{and_false, false, true}
+use mathlib.Core.Bool.{and-false, false, true}
 use mathlib.Core.List.{List}
 use mathlib.Core.Path.{◌∙◌, ◌≡◌, ap, refl, sym}
 use native.Mathlib.Omega.{arith}
@@ -61,7 +61,7 @@ module _ (gl : List Float) (n : ℕ) (keep : List ℕ) where
 
     pub subset_refused : subset_fits gl n keep ≡ false → Answered (likelihood_subset gl n keep (length out)) out out (outcome.Refused 15)
     unfolding likelihood_subset
-    subset_refused h = answered_refused (not_required 15 _ _ (simp (h, and_false))) refl
+    subset_refused h = answered_refused (not_required 15 _ _ (simp (h, and-false))) refl
 
     module _ (allowed : allele_count_fits n ≡ true) (fits : subset_fits gl n keep ≡ true) {count : ℕ} (size : count ≡ genotype_count (length keep)) where
       pub subset_long : length out < count → Answered (likelihood_subset gl n keep (length out)) out out (outcome.Refused 14)

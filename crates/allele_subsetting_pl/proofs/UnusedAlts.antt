@@ -6,7 +6,7 @@ use lib.Dec.{T, leb, ltb}
 use lib.Ieee.{Float}
 use lib.ListN.{length}
 use lib.Seq.{sets}
-use mathlib.Core.Bool.{Bool, ◌&&◌, and_false, false, true}
+use mathlib.Core.Bool.{Bool, ◌&&◌, and-false, false, true}
 use mathlib.Core.List.{List, tail}
 use mathlib.Core.Path.{◌∙◌, ◌≡◌, ap, refl, sym}
 use native.Mathlib.Omega.{arith}
@@ -96,7 +96,7 @@ module _ (alts : List ℕ) {n : ℕ} (keep : List ℕ) (gl : List Float) (ad : L
 
   pub without_ad : all_of (λ a. ltb a (length ad)) keep ≡ false → subset_to keep (alt_fields alts) gl ad ≡ refused 15
   unfolding subset_to
-  without_ad h = not_required 15 _ _ (simp (h, and_false))
+  without_ad h = not_required 15 _ _ (simp (h, and-false))
 
   pub subset_accepted : subset_fits gl n keep ≡ true → all_of (λ a. ltb a (length ad)) keep ≡ true → subset_to keep (alt_fields alts) gl ad ≡ accepted subset_record
   unfolding subset_to subset_record alts_with alt_with
@@ -200,7 +200,7 @@ module _ (alts gt : List ℕ) (gl : List Float) (ad : List ℕ) where
 
     pub too_many_alts : 15 < count → unused_alt_subset alts gt gl ad ≡ refused 15
     unfolding unused_alt_subset allele_count_fits
-    too_many_alts h = not_required 15 _ _ (simp (lt-leb (suc (length (alt_fields alts))) 16 (omega arith), and_false))
+    too_many_alts h = not_required 15 _ _ (simp (lt-leb (suc (length (alt_fields alts))) 16 (omega arith), and-false))
 
     allowed : count ≤ 15 → allele_count_fits (count + 1) ≡ true
     unfolding allele_count_fits

@@ -347,7 +347,7 @@ fn has_room(
 }
 
 // What `subset_unused_alts_after_merged_genotyping` answers.
-#[derive(Drop)]
+#[derive(Clone, Copy)]
 pub enum UnusedAltOutcome {
     // How much is written of the ALTs, the likelihoods and AD.
     Written(usize, usize, usize),

@@ -104,7 +104,7 @@ fn are_alleles(list: &[u8], most: usize) -> bool
 }
 
 // How many alleles a REF and its ALTs are, and whether `<NON_REF>` is there; or a fault in them.
-#[derive(Drop)]
+#[derive(Clone, Copy)]
 pub enum AllelesRead {
     Alleles(usize, bool),
     Fault,

@@ -1,7 +1,7 @@
 // What a call of the library answers.
 
 // The number of values written, or the row that refuses the call.
-#[derive(Drop)]
+#[derive(Clone, Copy)]
 pub enum Outcome {
     Written(usize),
     Refused(usize),

@@ -3,7 +3,7 @@ use Prim.Native.Nat.{Ordering, ◌+◌, ◌<◌, ◌≤◌, compare, ℕ}
 use borrow.Author.Tests.{le-leb, le-ltb, lt-leb, lt-ltb}
 use lib.Dec.{leb, ltb}
 use lib.ListN.{drop, length, length-reverse, take}
-use mathlib.Core.Bool.{◌&&◌, and_false, false, true}
+use mathlib.Core.Bool.{◌&&◌, and-false, false, true}
 use mathlib.Core.List.{List, [], ◌∷◌, reverse}
 use mathlib.Core.Path.{◌∙◌, ◌≡◌, ap, refl, sym}
 use native.Mathlib.Omega.{arith}
@@ -121,7 +121,7 @@ module _ {s : List ℕ} {at count begin end : ℕ} {position : GenomePosition} (
       counting_many h = not_in_order (rw (le-ltb (length k.before) max_places (omega (arith, k.count_is))))
 
       pub counting_unordered : not_after (place_with (between s begin end) position) (place_in s p) ≡ false → places_of s ≡ refused 18
-      counting_unordered e = not_in_order (rw (k.follows_is (place_in s p), e, and_false))
+      counting_unordered e = not_in_order (rw (k.follows_is (place_in s p), e, and-false))
 
       pub counting_next : count < max_places → not_after (place_with (between s begin end) position) (place_in s p) ≡ true
           → Counting s p.next (count + 1) p.at p.end p.position

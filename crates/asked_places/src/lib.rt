@@ -7,7 +7,7 @@ use bio_ids::GenomePosition;
 use kv_text::{NumberAt, Order, ValueAt};
 
 // A pair: where its contig stands, its position, and where the next pair begins.
-#[derive(Drop)]
+#[derive(Clone, Copy)]
 pub struct Pair {
     pub at: usize,
     pub end: usize,
@@ -15,7 +15,7 @@ pub struct Pair {
     pub next: usize,
 }
 
-#[derive(Drop)]
+#[derive(Clone, Copy)]
 pub enum PairAt {
     Pair(Pair),
     Wrong,
@@ -61,7 +61,7 @@ pub fn not_after(
 }
 
 // How many pairs a text has; or the row that refuses it, 1 or 18.
-#[derive(Drop)]
+#[derive(Clone, Copy)]
 pub enum PairsCounted {
     Pairs(usize),
     Refused(usize),

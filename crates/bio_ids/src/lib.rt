@@ -2,7 +2,7 @@
 ghost use Rattle.std.specs.Prelude.{◌≡◌, leb, ◌&&◌};
 
 // Document 01, allele number: an allele in a record's list of at most 16, from 0, which is REF. A byte: no place of a pair wraps.
-#[derive(Drop)]
+#[derive(Clone, Copy)]
 pub struct AlleleIndex(u8);
 
 impl AlleleIndex {
@@ -26,7 +26,7 @@ impl AlleleIndex {
 }
 
 // Document 01, sample number: a sample in the order of the cohort's names, from 0.
-#[derive(Drop)]
+#[derive(Clone, Copy)]
 pub struct SampleIndex(usize);
 
 impl SampleIndex {
@@ -44,7 +44,7 @@ impl SampleIndex {
 }
 
 // Document 01, position: a base of a contig, from 1. The contig is named beside it.
-#[derive(Drop)]
+#[derive(Clone, Copy)]
 pub struct GenomePosition(u64);
 
 impl GenomePosition {
@@ -63,7 +63,7 @@ impl GenomePosition {
 }
 
 // Positions of a contig from a first to a last one. The contig is named beside it.
-#[derive(Drop)]
+#[derive(Clone, Copy)]
 pub struct GenomeLoc {
     pub start: GenomePosition,
     pub end: GenomePosition,

@@ -56,7 +56,7 @@ fn settle(places: &mut [u64], count: usize) -> usize
 }
 
 // How many places are taken, and the limit: breakpoints from there on are left for a later window.
-#[derive(Drop)]
+#[derive(Clone, Copy)]
 struct Taken {
     count: usize,
     limit: u64,
@@ -150,14 +150,14 @@ fn add_positions(places: &mut [u64], taken: Taken, past: u64, first: u64, behind
 // ---- the breakpoints of sites
 
 // The positions from `first` to before `behind`.
-#[derive(Drop)]
+#[derive(Clone, Copy)]
 struct Run {
     first: u64,
     behind: u64,
 }
 
 // The places taken, and a run of positions that were given: those in the window are among the places.
-#[derive(Drop)]
+#[derive(Clone, Copy)]
 struct Adding {
     taken: Taken,
     run: Run,
@@ -294,7 +294,7 @@ fn add_spans(clip: &[u8], contig: &[u8], past: u64, places: &mut [u64], taken: T
 // ---- one window
 
 // How many breakpoints stand at the front, and whether there are more behind them.
-#[derive(Drop)]
+#[derive(Clone, Copy)]
 pub struct Window {
     pub count: usize,
     pub more: bool,

@@ -11,14 +11,14 @@ use site_groups::{NumbersPart, Part, PartAt, SiteAlleles};
 // ---- the lines of a sample
 
 // Where AD and PL of a sample stand, and where the next sample begins.
-#[derive(Drop)]
+#[derive(Clone, Copy)]
 pub struct CalledValues {
     ad: NumbersPart,
     pl: NumbersPart,
     next: usize,
 }
 
-#[derive(Drop)]
+#[derive(Clone, Copy)]
 enum SampleAt {
     Sample(CalledValues),
     Wrong,
@@ -61,14 +61,14 @@ fn sample_lines(s: &[u8], at: usize) -> SampleAt
 // ---- the lines of a record
 
 // The first four lines of a record group. `next` of the alleles is where the first sample begins.
-#[derive(Drop)]
+#[derive(Clone, Copy)]
 pub struct CalledHead {
     contig: Part,
     pos: GenomePosition,
     alleles: SiteAlleles,
 }
 
-#[derive(Drop)]
+#[derive(Clone, Copy)]
 enum HeadAt {
     Head(CalledHead),
     Wrong,
@@ -107,13 +107,13 @@ fn record_head(s: &[u8], at: usize) -> HeadAt
 
 // What the samples of a record say together: whether AD and PL of each have as many numbers as they should for at most 16 alleles,
 // and where the next group begins.
-#[derive(Drop)]
+#[derive(Clone, Copy)]
 struct SamplesRead {
     fit: bool,
     next: usize,
 }
 
-#[derive(Drop)]
+#[derive(Clone, Copy)]
 enum TextAt {
     Text(CalledHead, SamplesRead),
     Wrong,
@@ -148,7 +148,7 @@ fn record_text(s: &[u8], at: usize, samples: usize, pls: &mut [usize]) -> TextAt
 // ---- rows 4, 5 and 8
 
 // How many alleles there are; or the row, 4, 5 or 8, that refuses the record.
-#[derive(Drop)]
+#[derive(Clone, Copy)]
 enum RecordCheck {
     Right(usize),
     Refused(usize),
@@ -181,7 +181,7 @@ fn check_record(s: &[u8], head: CalledHead, previous: Previous, fit: bool) -> Re
 // ---- the record
 
 // A record of the list: where its contig and its alleles stand, POS, how many alleles it has with REF, and where the next group begins.
-#[derive(Drop)]
+#[derive(Clone, Copy)]
 pub struct CalledPlace {
     pub contig: Part,
     pub pos: GenomePosition,
@@ -190,7 +190,7 @@ pub struct CalledPlace {
     pub next: usize,
 }
 
-#[derive(Drop)]
+#[derive(Clone, Copy)]
 pub enum RecordAt {
     Record(CalledPlace),
     Refused(usize),

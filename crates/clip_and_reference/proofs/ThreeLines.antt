@@ -4,7 +4,7 @@ use Prim.Native.String.{String}
 use borrow.Author.Tests.{le-leb, lt-leb}
 use lib.Dec.{leb}
 use lib.ListN.{drop, length, take}
-use mathlib.Core.Bool.{◌&&◌, and_false, false}
+use mathlib.Core.Bool.{◌&&◌, and-false, false}
 use mathlib.Core.List.{List}
 use mathlib.Core.Option.{Option}
 use mathlib.Core.Path.{◌≡◌, refl}
@@ -125,7 +125,7 @@ module _ {A B : Type 0} (k : Kind A B) (s : List ℕ) (at : ℕ) where
         number_zero h = test_failed (rw (lt-leb 1 n h))
 
         pub out_of_order : k.upper n b < k.lower n b → GroupFaulty s at (three_lines k)
-        out_of_order h = test_failed (rw (lt-leb (k.lower n b) (k.upper n b) h, and_false))
+        out_of_order h = test_failed (rw (lt-leb (k.lower n b) (k.upper n b) h, and-false))
 
         pub group_read : 1 ≤ n → k.lower n b ≤ k.upper n b → GroupTo s at (three_lines k) (k.make contig n b) (e₃ + 1)
         unfolding three_lines LineReads line_start

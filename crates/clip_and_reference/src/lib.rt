@@ -14,7 +14,7 @@ use kv_text::{NumberAt, ValueAt};
 // ---- clip.kv
 
 // A clip group: where its contig stands, its positions, and where the next group begins.
-#[derive(Drop)]
+#[derive(Clone, Copy)]
 pub enum SpanAt {
     Span {
         contig_at: usize,
@@ -91,7 +91,7 @@ fn letters_line(s: &[u8], at: usize, key: &[u8]) -> ValueAt
 }
 
 // A reference group: where its contig stands, the position of its first letter, where its letters stand, and where the next group begins.
-#[derive(Drop)]
+#[derive(Clone, Copy)]
 pub enum SegmentAt {
     Segment {
         contig_at: usize,

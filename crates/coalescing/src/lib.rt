@@ -11,7 +11,7 @@ use bio_ids::{GenomeLoc, GenomePosition};
 
 // A block record that is held back: its first and last position, its one letter of REF, and how long its samples' lines are, which stand in
 // a buffer.
-#[derive(Drop)]
+#[derive(Clone, Copy)]
 pub enum Pending {
     Nothing,
     Block(GenomeLoc, u8, usize),
@@ -87,7 +87,7 @@ pub fn count_pending(count: usize, pending: Pending) -> usize
 }
 
 // What a record leaves: the block that is held back now, where the list goes on, and how many records it has so far.
-#[derive(Drop)]
+#[derive(Clone, Copy)]
 pub struct Stepped {
     pub pending: Pending,
     pub at: usize,

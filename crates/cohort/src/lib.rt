@@ -92,7 +92,7 @@ pub fn contig_number(s: &[u8], rows: &[usize], count: usize, contig: &[u8]) -> u
 }
 
 // How many sites there are; or the row that refuses the first faulty group; or the table has no row for a site.
-#[derive(Drop)]
+#[derive(Clone, Copy)]
 pub enum SitesAt {
     Sites(usize),
     Refused(usize),
@@ -131,7 +131,7 @@ fn read_sites(s: &[u8], at: usize, samples: usize, rows: &mut [usize]) -> SitesA
 }
 
 // The number of samples, and of sites; or the row that refuses the text; or a table is too short.
-#[derive(Drop)]
+#[derive(Clone, Copy)]
 pub enum CohortRead {
     Cohort(usize, usize),
     Refused(usize),

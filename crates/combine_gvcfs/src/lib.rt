@@ -78,7 +78,7 @@ fn index_reference(referenced: bool, reference: &[u8], rows: &mut [usize])
 
 // What reading the texts into tables gave: how many samples and sites these hold; the row that refuses the texts; or the tables have no
 // room for the cohort.
-#[derive(Drop)]
+#[derive(Clone, Copy)]
 pub enum TextsRead {
     Loaded(usize, usize),
     Refused(usize),
@@ -134,7 +134,7 @@ pub fn read_texts(
 }
 
 // What tables gave: the outcome, or they have no room for the cohort.
-#[derive(Drop)]
+#[derive(Clone, Copy)]
 enum Tried {
     Done(Outcome),
     NoRoom,

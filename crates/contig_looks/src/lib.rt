@@ -7,7 +7,7 @@ ghost use Rattle.definitions.specs.Intervals.{clipped_intervals};
 ghost use Rattle.definitions.specs.Looks.{contig_looks};
 
 // How far the count has come: the last breakpoint, 0 before the first; how many clip spans cover it; how many intervals lie in the clip.
-#[derive(Drop)]
+#[derive(Clone, Copy)]
 struct Along {
     past: u64,
     depth: u64,

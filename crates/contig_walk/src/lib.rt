@@ -11,7 +11,7 @@ use coalescing::{Pending, Stepped};
 use merged_records::RecordAt;
 
 // Where the list goes on and how many records it has so far; or the row that refuses it.
-#[derive(Drop)]
+#[derive(Clone, Copy)]
 pub enum Walked {
     To(usize, usize),
     Refused(usize),
@@ -149,7 +149,7 @@ fn lay_record(
 }
 
 // What a turn of the walk leaves; or the row that refuses the interval's record.
-#[derive(Drop)]
+#[derive(Clone, Copy)]
 pub enum Turned {
     To(Stepped),
     Refused(usize),

@@ -21,7 +21,7 @@ use window_counts::Windows;
 // ---- the first reading: where a contig begins and ends
 
 // A contig's first and last position in a record, as far as the list is read.
-#[derive(Drop)]
+#[derive(Clone, Copy)]
 pub enum Extent {
     Reach(GenomeLoc),
     Nothing,
@@ -55,7 +55,7 @@ fn extent_with(list: &[u8], place: RecordPlace, contig: &[u8], extent: Extent) -
 }
 
 // The extent of a contig in a whole list, or the row that refuses the list.
-#[derive(Drop)]
+#[derive(Clone, Copy)]
 pub enum ExtentRead {
     Extent(Extent),
     Refused(usize),
@@ -89,7 +89,7 @@ fn contig_extent(list: &[u8], header: ListHeader, contig: &[u8]) -> ExtentRead
 // ---- the second reading: the counts
 
 // What is asked along a contig: a sample, the DP that is deep enough, and the length and the step of windows.
-#[derive(Drop)]
+#[derive(Clone, Copy)]
 pub struct Asked {
     pub sample: SampleIndex,
     pub threshold: u32,
@@ -187,7 +187,7 @@ fn count_windows(
 // ---- the windows
 
 // Where the first window begins and how many there are, or the row that refuses the call.
-#[derive(Drop)]
+#[derive(Clone, Copy)]
 pub enum Windowed {
     Windows(GenomePosition, usize),
     Refused(usize),

@@ -7,7 +7,7 @@ ghost use Rattle.diploid_pairs.specs.Pairs.{in_place, pair_of, passes_from};
 use bio_ids::AlleleIndex;
 
 // The numbers of a genotype's two alleles, the lower first.
-#[derive(Drop)]
+#[derive(Clone, Copy)]
 pub struct AllelePair(pub u8, pub u8);
 
 // The pairs of 16 alleles, by place.
@@ -158,7 +158,7 @@ pub fn table() -> [AllelePair; 136]
 }
 
 // What stands at a place.
-#[derive(Drop)]
+#[derive(Clone, Copy)]
 pub enum PairAt {
     // The lower and the higher allele.
     Pair(AlleleIndex, AlleleIndex),

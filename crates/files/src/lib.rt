@@ -15,7 +15,7 @@ use libc::{ENOENT, STDOUT_FILENO};
 // ---- a file
 
 // What came of reading a file: how many bytes it has, or why there is no text of it.
-#[derive(Drop)]
+#[derive(Clone, Copy)]
 pub enum FileRead {
     Text(usize),
     Absent,

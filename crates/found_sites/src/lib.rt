@@ -6,7 +6,7 @@ ghost use Rattle.found_sites.specs.Own.{found_at, found_list, own_rows, put_all,
 use bio_ids::SampleIndex;
 
 // A site found over a position: whose it is, and its row in the table, where all its offsets stand.
-#[derive(Drop)]
+#[derive(Clone, Copy)]
 pub struct Found {
     pub sample: SampleIndex,
     pub row: usize,

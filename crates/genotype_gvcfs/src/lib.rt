@@ -38,7 +38,7 @@ fn record_end(pos: GenomePosition, end: OptionalPosition) -> GenomePosition
 }
 
 // Where the called list goes on, and how many records it has so far.
-#[derive(Drop)]
+#[derive(Clone, Copy)]
 struct Stepped {
     at: usize,
     count: usize,
@@ -86,7 +86,7 @@ fn genotype_one_record(
 // ---- all records
 
 // Where the called list ends and how many records it has; or the row that refuses the combined list.
-#[derive(Drop)]
+#[derive(Clone, Copy)]
 enum Walked {
     To(usize, usize),
     Refused(usize),

@@ -62,7 +62,7 @@ fn mapped_allele(map: &[u8], allele: AlleleIndex) -> AlleleIndex
 }
 
 // Where a pair of the record's alleles stands in the sample's PL.
-#[derive(Drop)]
+#[derive(Clone, Copy)]
 pub enum MappedAt {
     At(usize),
     // The record's PL has no such place: it is 136 or more.
@@ -217,7 +217,7 @@ fn put_genotype_line(out: &mut [u8], at: usize, gt: PairAt) -> usize
 }
 
 // DP and MIN_DP of a sample.
-#[derive(Drop)]
+#[derive(Clone, Copy)]
 pub struct Depths {
     pub dp: OptionalNumber,
     pub mindp: OptionalNumber,

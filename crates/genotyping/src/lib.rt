@@ -27,7 +27,7 @@ pub fn least_pl(pl: &[u32]) -> u32
 }
 
 // What one reading of some PLs finds: the least, how often it occurs, and the least above it; 0 where there is none.
-#[derive(Drop)]
+#[derive(Clone, Copy)]
 pub struct LeastPls {
     pub least: u32,
     pub count: usize,
@@ -114,7 +114,7 @@ fn equal_pls(p: u32, count: usize) -> LeastPls
 }
 
 // What was found in the first PLs, and the place of the next.
-#[derive(Drop)]
+#[derive(Clone, Copy)]
 struct FirstPls {
     found: LeastPls,
     next: usize,

@@ -7,7 +7,7 @@ ghost use Rattle.indexed_groups.specs.Indexed.{SegmentsGiven, SegmentsStored, ro
 use clip_and_reference::SegmentAt;
 
 // How many segments have rows, and where the others begin in the text.
-#[derive(Drop)]
+#[derive(Clone, Copy)]
 pub struct Stored {
     count: usize,
     next: usize,

@@ -2,7 +2,7 @@
 use Prim.Native.Nat.{◌*◌, ◌+◌, ◌-◌, ◌<◌, ◌≤◌, ℕ}
 use borrow.Author.Tests.{le-leb, leb-true, lt-leb, ne_eqb}
 use lib.Dec.{leb}
-use mathlib.Core.Bool.{◌&&◌, and_false, and_true, false, not, true}
+use mathlib.Core.Bool.{◌&&◌, and-false, and-true, false, not, true}
 use mathlib.Core.List.{List, [], ◌∷◌, foldl}
 use mathlib.Core.Logic.{◌≢◌}
 use mathlib.Core.Option.{Option, none, some}
@@ -46,7 +46,7 @@ number_zero = refl
 
 pub number_leading_zero : (c : ℕ) (t : List ℕ) → number (48 ∷ c ∷ t) ≡ none
 unfolding number no_leading_zero only_if
-number_leading_zero c t = simp and_false
+number_leading_zero c t = simp and-false
 
 pub number_other : (b : ℕ) (t : List ℕ) → is_digit b ≡ false → number (b ∷ t) ≡ none
 unfolding number all_of only_if
@@ -54,7 +54,7 @@ number_other b t d = simp d
 
 pub number_digit : (b : ℕ) (t : List ℕ) → is_digit b ≡ true → b ≢ 48 → number (b ∷ t) ≡ rest_from (b - 48) t
 unfolding number all_of digits_value rest_from step no_leading_zero
-number_digit b t d n = rw (leads t, value) (simp (d, and_true))
+number_digit b t d n = rw (leads t, value) (simp (d, and-true))
   where
     value : digits_value (b ∷ t) ≡ foldl step (b - 48) t
     value = let e : 0 * 10 + (b - 48) ≡ b - 48 = omega arith in ap (λ (n : ℕ). foldl step n t) e
@@ -78,7 +78,7 @@ module _ (n b : ℕ) (t : List ℕ) where
   unfolding rest_from all_of only_if step max_number
   rest_too_great h =
       let w : 2147483647 < foldl step (n * 10 + (b - 48)) t = omega (arith, grows t (n * 10 + (b - 48))) in
-      simp (lt-leb _ _ w, and_false)
+      simp (lt-leb _ _ w, and-false)
 
   pub rest_digit : is_digit b ≡ true → rest_from n (b ∷ t) ≡ rest_from (n * 10 + (b - 48)) t
   unfolding rest_from all_of step

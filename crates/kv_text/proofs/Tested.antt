@@ -4,7 +4,7 @@ use borrow.Author.Tests.{le-leb, lt-leb}
 use lib.Dec.{leb}
 use lib.ListN.{drop, drop_of_length-le, get_or, length}
 use lib.Seq.{drop-cons}
-use mathlib.Core.Bool.{Bool, ◌&&◌, and_false, false, true}
+use mathlib.Core.Bool.{Bool, ◌&&◌, and-false, false, true}
 use mathlib.Core.List.{List}
 use mathlib.Core.Path.{◌≡◌}
 use native.Mathlib.Numerals.{add-one}
@@ -20,7 +20,7 @@ module _ (p : ℕ → Bool) (most : ℕ) (s : List ℕ) where
   passed_empty h = simp (only_if_is, lt-leb 1 (length s) h)
 
   pub passed_long : most < length s → false ≡ Passed
-  passed_long h = simp (only_if_is, lt-leb (length s) most h, and_false)
+  passed_long h = simp (only_if_is, lt-leb (length s) most h, and-false)
 
   pub passed_start : 1 ≤ length s → length s ≤ most → Passed ≡ all_of p s
   passed_start h k = simp (only_if_is, le-leb 1 (length s) h, le-leb (length s) most k)

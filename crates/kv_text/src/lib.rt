@@ -11,7 +11,7 @@ ghost use Rattle.kv_text.specs.Lines.{LineReads, ListStored, NextBehind, Placed,
 // ---- bytes
 
 // How two byte strings stand to each other in byte order.
-#[derive(Drop)]
+#[derive(Clone, Copy)]
 pub enum Order {
     Less,
     Same,
@@ -92,7 +92,7 @@ pub fn field_end(s: &[u8], at: usize, separator: u8) -> usize
 }
 
 // Where a field stands: from an offset to just before another.
-#[derive(Drop)]
+#[derive(Clone, Copy)]
 pub enum FieldAt {
     At(usize, usize),
     Absent,
@@ -154,7 +154,7 @@ fn is_field_end(s: &[u8], at: usize) -> bool
 }
 
 // What the field at an offset of a list spells: a number, and where the field ends.
-#[derive(Drop)]
+#[derive(Clone, Copy)]
 enum DigitsAt {
     Found(u32, usize),
     Fault,
@@ -198,7 +198,7 @@ fn read_digits(s: &[u8], at: usize) -> DigitsAt
 }
 
 // What a field spells as a number.
-#[derive(Drop)]
+#[derive(Clone, Copy)]
 pub enum NumberRead {
     Value(u32),
     Fault,
@@ -219,7 +219,7 @@ pub fn read_number(s: &[u8]) -> NumberRead
 }
 
 // What a field spells as a list of numbers.
-#[derive(Drop)]
+#[derive(Clone, Copy)]
 pub enum NumbersRead {
     Count(usize),
     Fault,
@@ -294,7 +294,7 @@ fn is_letter(b: u8) -> bool
     ensures { result ≡ is_letter (capital b) }
 {
     match b {
-        b'_a' | b'_c' | b'_g' | b'_t' | b'_n' | b'a' | b'c' | b'g' | b't' | b'n' => true,
+        b'A' | b'C' | b'G' | b'T' | b'N' | b'a' | b'c' | b'g' | b't' | b'n' => true,
         _ => false,
     }
 }
@@ -356,7 +356,7 @@ pub fn is_letters(s: &[u8], most: usize) -> bool
 }
 
 // What a field spells as an ALT.
-#[derive(Drop)]
+#[derive(Clone, Copy)]
 pub enum AlleleRead {
     Letters,
     SpanDel,
@@ -383,21 +383,21 @@ pub fn read_allele(s: &[u8], most: usize) -> AlleleRead
 // ---- lines
 
 // Where the value of a line stands, from an offset to the line's LF.
-#[derive(Drop)]
+#[derive(Clone, Copy)]
 pub enum ValueAt {
     At(usize, usize),
     Absent,
 }
 
 // Where the value of a line begins.
-#[derive(Drop)]
+#[derive(Clone, Copy)]
 pub enum ValueStart {
     At(usize),
     Absent,
 }
 
 // What reading a line gives: where its value begins, and where the text goes on.
-#[derive(Drop)]
+#[derive(Clone, Copy)]
 struct LineRead {
     value: ValueStart,
     next: usize,
@@ -438,14 +438,14 @@ fn value_before(value: ValueStart, next: usize) -> ValueAt
 }
 
 // A lent text and an offset of it, any offset: every line is read through one.
-#[derive(Drop)]
+#[derive(Clone, Copy)]
 pub struct Reader<'a> {
     pub text: &'a [u8],
     pub at: usize,
 }
 
 // Where the value of a line begins, and the reader, moved behind the line's LF; without a value it stays where it stood.
-#[derive(Drop)]
+#[derive(Clone, Copy)]
 pub struct NextValue<'a> {
     pub value: ValueStart,
     pub reader: Reader<'a>,
@@ -490,7 +490,7 @@ pub fn value_line(s: &[u8], at: usize, key: &[u8]) -> ValueAt
 }
 
 // A number, and where its line ends.
-#[derive(Drop)]
+#[derive(Clone, Copy)]
 pub enum NumberAt {
     Found(u32, usize),
     Wrong,
@@ -526,7 +526,7 @@ pub fn name_line(s: &[u8], at: usize, key: &[u8]) -> ValueAt
 }
 
 // A number that may be missing, and where its line ends.
-#[derive(Drop)]
+#[derive(Clone, Copy)]
 pub enum OptionalAt {
     Missing(usize),
     Found(u32, usize),
@@ -552,7 +552,7 @@ pub fn optional_number_line(s: &[u8], at: usize, key: &[u8]) -> OptionalAt
 }
 
 // A list of numbers that may be missing: where it stands, to its line's LF, and how many numbers it has.
-#[derive(Drop)]
+#[derive(Clone, Copy)]
 pub enum ListAt {
     Missing(usize),
     Found(usize, usize, usize),

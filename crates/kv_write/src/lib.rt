@@ -289,7 +289,7 @@ pub fn put_missing_line(out: &mut [u8], at: usize, key: &[u8]) -> usize
 }
 
 // A number that may be missing.
-#[derive(Drop)]
+#[derive(Clone, Copy)]
 pub enum OptionalNumber {
     Missing,
     Present(u32),

@@ -16,7 +16,7 @@ use Rattle.definitions.specs.Intervals.{span_breakpoints}
 use Rattle.definitions.specs.Lists.{ascending, by_order, filter_by, insert_new}
 use Rattle.laws.proofs.ClipDepth.{Bounded, begun, count_cons, covers, depth, depth_step, ended, one}
 use Rattle.laws.proofs.Every.{Every, Pairwise, before_all, every_all, every_at, every_member, every_of, every_of_map_back, map_every}
-use Rattle.laws.proofs.Members.{◌∈◌, cons_cases, filter_all, filter_append, filter_both, filter_few, filter_map, filter_member, filter_no, filter_none, filter_same, filter_within, filter_yes, map_flat_map, member_filter, member_map}
+use Rattle.laws.proofs.Members.{◌∈◌, cons_cases, filter_all, filter_append, filter_both, filter_few, filter_by_map, filter_member, filter_no, filter_none, filter_same, filter_within, filter_yes, map_flat_map, member_filter, member_map}
 use Rattle.laws.proofs.Orders.{ascending_member, compare_eq, member_ascending}
 use Rattle.laws.proofs.Places.{join_ascends, join_sorted, join_from, join_places, low_append, low_at, low_part, low_part_at, low_place, no_change, place_at, places, places_again, places_filter, places_places, places_positions, places_same, position, position_at, weight, weights, weights_append, weights_places}
 use Rattle.laws.proofs.Sorted.{insert, sorted}
@@ -392,7 +392,7 @@ filled past limit bs spans light f =
     filling_done past limit f light_given
     ∙ sym (places_filter (within past limit) (given_places bs spans) light_given)
     ∙ ap (places_within past limit) (given_places_lem bs spans light)
-    ∙ filter_map (place_of spans) (λ e. within past limit (position e)) all
+    ∙ filter_by_map (place_of spans) (λ e. within past limit (position e)) all
     ∙ ap (map (place_of spans)) (filter_same (λ b. within past limit (position (place_of spans b))) (within past limit) all
     (λ b m. ap (within past limit) (position_of_place spans light b)))
 
@@ -445,7 +445,7 @@ module _ (past limit : ℕ) (given ps qs : List ℕ) (fewer : (p : ℕ) → p �
   unfolding window kept
   plain_kept rs =
       filter_append (λ e. within past limit (position e)) given (map plain_place rs)
-      ∙ ap (λ (l : List ℕ). kept ++ l) (filter_map plain_place (λ e. within past limit (position e)) rs
+      ∙ ap (λ (l : List ℕ). kept ++ l) (filter_by_map plain_place (λ e. within past limit (position e)) rs
       ∙ ap (map plain_place) (filter_same _ (within past limit) rs (λ r m. ap (within past limit) (position_at r no_change (omega arith)))))
 
   -- the positions in the window are the same

@@ -10,7 +10,7 @@ use mathlib.Core.Option
 use mathlib.Core.Option.{Option, none, some}
 use mathlib.Core.Path.{◌∙◌, ◌≡◌, ap, refl, sym}
 use Rattle.definitions.specs.Lists.{first_greatest, greater_by}
-use Rattle.laws.proofs.Every.{Every, IfThere, Pairwise, before_all, every_member}
+use Rattle.laws.proofs.Every.{Every, IfThere, Pairwise, alone, before_all, every_member}
 use Rattle.laws.proofs.Members.{◌∈◌, cons_cases}
 use Rattle.laws.proofs.Tests.{not_none, some_same}
 
@@ -48,6 +48,7 @@ module _ {A : Type 0} (value : A → ℕ) where
   pub greatest_is : {R : A → A → Type 0} {l : List A} {a : A} → Pairwise R l → a ∈ l → ((b : A) → b ∈ l → R b a → value b < value a)
       → ((b : A) → b ∈ l → R a b → value b ≤ value a) → first_greatest value l ≡ some a
   unfolding first_greatest greater_by
+  greatest_is {R = R} {a = a} alone m less most = elim m [ ]
   greatest_is {R} {a = a} (before_all {x = x} {xs = l} h hs) m less most =
       cons_cases m (λ q. here q (first_greatest value l) refl)
       (λ n. later n (greatest_is hs n (λ b k. less b (Memᴰ.tail k)) (λ b k. most b (Memᴰ.tail k))))

@@ -15,7 +15,7 @@ use native.Mathlib.Decide.{ℕ_discrete}
 use native.Mathlib.Omega.{arith}
 use Rattle.definitions.specs.Lists.{any_of, ascending, by_order, filter_by, insert_new}
 use Rattle.laws.proofs.Every.{Every, Pairwise, alone, also, before_all, every_all, every_fails, every_map, every_member, every_of_map, every_of_map_back, filter_passes, map_every, nothing, pairwise_map}
-use Rattle.laws.proofs.Members.{◌∈◌, any_member, cons_cases, filter_map, filter_no, filter_same, filter_yes, member_map}
+use Rattle.laws.proofs.Members.{◌∈◌, any_member, cons_cases, filter_by_map, filter_no, filter_same, filter_yes, member_map}
 use Rattle.laws.proofs.Orders.{ascending_member, ascending_numbers, ascending_same, compare_eq, every_ascending, filter_ascending, lt_compare, member_ascending}
 use Rattle.laws.proofs.Sorted.{insert, member_sorted, sorted, sorted_ascends, sorted_member}
 use Rattle.laws.proofs.Tests.{told_apart}
@@ -540,8 +540,8 @@ places_filter q es light =
     let ps = ascending compare (map position es) in
     let left : filter_by (λ p. q (position (of es p))) ps ≡ ascending compare (map position kept) =
     filter_same (λ p. q (position (of es p))) q ps (λ p m. ap q (position_of es light p))
-    ∙ filter_ascending q (map position es) ∙ ap (ascending compare) (filter_map position q es) in
+    ∙ filter_ascending q (map position es) ∙ ap (ascending compare) (filter_by_map position q es) in
     let passed : Every (λ p. q p ≡ true) (ascending compare (map position kept)) =
     every_ascending compare _ (every_of_map position (filter_passes test es)) in
-    filter_map (of es) test ps ∙ ap (map (of es)) left
+    filter_by_map (of es) test ps ∙ ap (map (of es)) left
     ∙ map_every (every_map (λ p h. ap (place_at p) (sym (low_filter q p es h))) passed)

@@ -48,7 +48,7 @@ fn is_gt(value: &[u8], alts: usize) -> bool
 }
 
 // Where the line of a GT ends.
-#[derive(Drop)]
+#[derive(Clone, Copy)]
 enum GtAt {
     End(usize),
     Wrong,
@@ -79,7 +79,7 @@ pub fn part_line(s: &[u8], at: usize, key: &[u8]) -> PartAt
     site_groups::part_line(s, at, key, &mut room[..0])
 }
 
-#[derive(Drop)]
+#[derive(Clone, Copy)]
 enum SampleAt {
     Sample(SiteValues),
     Wrong,
@@ -137,14 +137,14 @@ fn sample_lines(s: &[u8], at: usize, alts: usize) -> SampleAt
 // ---- the lines of a record
 
 // END of a record: a position, or none is given.
-#[derive(Drop)]
+#[derive(Clone, Copy)]
 pub enum OptionalPosition {
     At(GenomePosition),
     Missing,
 }
 
 // END in an `end` line, and where the line ends.
-#[derive(Drop)]
+#[derive(Clone, Copy)]
 enum EndAt {
     End(OptionalPosition, usize),
     Wrong,
@@ -165,7 +165,7 @@ fn end_line(s: &[u8], at: usize) -> EndAt
 }
 
 // The first five lines of a record group. `next` of the alleles is where the first sample begins.
-#[derive(Drop)]
+#[derive(Clone, Copy)]
 struct RecordHead {
     contig: Part,
     pos: GenomePosition,
@@ -173,7 +173,7 @@ struct RecordHead {
     alleles: SiteAlleles,
 }
 
-#[derive(Drop)]
+#[derive(Clone, Copy)]
 enum HeadAt {
     Head(RecordHead),
     Wrong,
@@ -249,14 +249,14 @@ pub fn counts_fit(before: bool, alts: usize, pl: usize, ad: usize) -> bool
 
 // What the samples of a record say together: whether some has PL, whether AD and PL of each have as many numbers as they should
 // for at most 16 alleles, and where the next group begins.
-#[derive(Drop)]
+#[derive(Clone, Copy)]
 struct SamplesRead {
     has_pl: bool,
     fit: bool,
     next: usize,
 }
 
-#[derive(Drop)]
+#[derive(Clone, Copy)]
 enum TextAt {
     Text(RecordHead, SamplesRead),
     Wrong,
@@ -301,7 +301,7 @@ fn record_text(s: &[u8], at: usize, samples: usize, rows: &mut [usize]) -> TextA
 // ---- rows 4 to 8
 
 // What the record before this one left: none, or its contig and its last position.
-#[derive(Drop)]
+#[derive(Clone, Copy)]
 pub enum Previous {
     None,
     Last(Part, GenomePosition),
@@ -343,7 +343,7 @@ fn end_allowed(end: OptionalPosition, alleles: usize, letters: usize) -> bool
 }
 
 // How many alleles there are; or the row, 4 to 8, that refuses the record.
-#[derive(Drop)]
+#[derive(Clone, Copy)]
 enum RecordCheck {
     Right(usize),
     Refused(usize),
@@ -387,7 +387,7 @@ fn check_record(s: &[u8], head: RecordHead, previous: Previous, fit: bool) -> Re
 
 // A record of the list: where its contig and its alleles stand, POS, END, how many alleles it has with REF,
 // whether some sample has PL, and where the next group begins.
-#[derive(Drop)]
+#[derive(Clone, Copy)]
 pub struct RecordPlace {
     pub contig: Part,
     pub pos: GenomePosition,
@@ -398,7 +398,7 @@ pub struct RecordPlace {
     pub next: usize,
 }
 
-#[derive(Drop)]
+#[derive(Clone, Copy)]
 pub enum RecordAt {
     Record(RecordPlace),
     Refused(usize),

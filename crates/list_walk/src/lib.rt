@@ -12,14 +12,14 @@ use list_reader::{OptionalPosition, Previous, RecordAt, RecordPlace};
 // ---- the header
 
 // How many samples and records a list says it has, and where its first record group begins.
-#[derive(Drop)]
+#[derive(Clone, Copy)]
 pub struct ListHeader {
     pub samples: usize,
     pub records: u32,
     pub next: usize,
 }
 
-#[derive(Drop)]
+#[derive(Clone, Copy)]
 pub enum HeaderAt {
     Header(ListHeader),
     Refused(usize),
@@ -57,7 +57,7 @@ pub fn read_header(list: &[u8], names: &mut [usize; 128]) -> HeaderAt
 // ---- the record groups
 
 // Where the next record group begins, how many were read, and the contig and last position of the record before.
-#[derive(Drop)]
+#[derive(Clone, Copy)]
 pub struct ListCursor {
     pub next: usize,
     pub read: u32,
@@ -86,7 +86,7 @@ pub fn record_end(pos: GenomePosition, end: OptionalPosition) -> GenomePosition
 }
 
 // A record, and the cursor behind its group; or the list ends; or the row that refuses the group, 1 or 4 to 8.
-#[derive(Drop)]
+#[derive(Clone, Copy)]
 pub enum Stepped {
     Record(RecordPlace, ListCursor),
     End,

@@ -105,7 +105,7 @@ fn after_line(s: &[u8], at: usize) -> ValueAt
 }
 
 // The six lines of a marker, and where the next one begins.
-#[derive(Drop)]
+#[derive(Clone, Copy)]
 pub struct MarkerLines {
     name: Part,
     contig: Part,
@@ -116,7 +116,7 @@ pub struct MarkerLines {
     next: usize,
 }
 
-#[derive(Drop)]
+#[derive(Clone, Copy)]
 enum LinesAt {
     Lines(MarkerLines),
     Wrong,
@@ -233,7 +233,7 @@ fn store(numbers: &mut [usize], place: usize, number: usize)
 }
 
 // How many markers a list names; or that no marker has one of the names.
-#[derive(Drop)]
+#[derive(Clone, Copy)]
 enum AftersAt {
     Markers(usize),
     Unnamed,
@@ -299,7 +299,7 @@ fn put_marker(
 }
 
 // Where the next marker begins; or the row that refuses this one.
-#[derive(Drop)]
+#[derive(Clone, Copy)]
 enum MarkerAt {
     Next(usize),
     Refused(usize),
@@ -332,7 +332,7 @@ fn marker_at(s: &[u8], at: usize, rows: &mut [usize], count: usize) -> MarkerAt
 }
 
 // How many markers there are; or the row that refuses the text; or that the table is too short to tell.
-#[derive(Drop)]
+#[derive(Clone, Copy)]
 pub enum MarkersAt {
     Markers(usize),
     Refused(usize),

@@ -15,7 +15,7 @@ ghost use Rattle.merged_alleles.specs.SoundSites.{ShortField, ShortFields, Sound
 use bio_ids::GenomePosition;
 
 // A list of ALTs: how long its text is and how many they are, or that they are too many.
-#[derive(Drop)]
+#[derive(Clone, Copy)]
 pub enum AltsAt {
     Alts(usize, usize),
     TooMany,

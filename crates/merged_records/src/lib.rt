@@ -12,7 +12,7 @@ use merged_alleles::AltsAt;
 use merged_ref::RefAt;
 
 // What stands at a position: no site; or the row that refuses the record; or so many found sites, REF, the length of the ALTs' text and their number.
-#[derive(Drop)]
+#[derive(Clone, Copy)]
 pub enum RecordAt {
     NoSites,
     Refused(usize),

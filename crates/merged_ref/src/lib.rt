@@ -16,7 +16,7 @@ use clip_and_reference::SegmentAt;
 // ---- the reference letter
 
 // Where a letter stands in a text.
-#[derive(Drop)]
+#[derive(Clone, Copy)]
 pub enum LetterAt {
     At(usize),
     Absent,
@@ -151,7 +151,7 @@ pub fn find_letter(
 // ---- the sites that start at the position
 
 // The site with the longest REF of those that start at the position.
-#[derive(Drop)]
+#[derive(Clone, Copy)]
 pub enum LongestAt {
     Site(usize),
     NoneStarts,
@@ -283,7 +283,7 @@ fn reached_letter(s: &[u8], rows: &[usize], found: &[usize], position: GenomePos
 // ---- REF
 
 // Where a letter stands: at an offset of the reference text, or of the cohort text; or nowhere, where no REF reaches the position.
-#[derive(Drop)]
+#[derive(Clone, Copy)]
 pub enum Place {
     Reference(usize),
     Cohort(usize),
@@ -291,7 +291,7 @@ pub enum Place {
 }
 
 // Where REF stands: in the cohort text, from an offset to before another, or it is a letter; or the row that refuses it.
-#[derive(Drop)]
+#[derive(Clone, Copy)]
 pub enum RefAt {
     Allele(usize, usize),
     Letter(Place),

@@ -3,7 +3,7 @@ use Prim.Native.Nat.{◌*◌, ◌+◌, ◌-◌, ◌<◌, ◌≤◌, suc, ℕ}
 use borrow.Author.Tests.{le-leb, lt-leb}
 use lib.ListN.{drop, length, length-map, take}
 use lib.Seq.{length-sets, sets, take_at}
-use mathlib.Core.Bool.{◌&&◌, and_false, false, true}
+use mathlib.Core.Bool.{◌&&◌, and-false, false, true}
 use mathlib.Core.List.{List, [], ◌++◌, ◌∷◌, map}
 use mathlib.Core.Path.{◌∙◌, ◌≡◌, ap, refl, sym}
 use native.Mathlib.Omega.{arith}
@@ -119,7 +119,7 @@ module _ (s asked : List ℕ) (room : ℕ) where
 
   pub asked_too_long : 16777216 < length asked → look_up_within s asked room ≡ refused 2
   unfolding fits
-  asked_too_long h = too_long_lem (rw (lt-leb (length asked) 16777216 h, and_false))
+  asked_too_long h = too_long_lem (rw (lt-leb (length asked) 16777216 h, and-false))
 
   module _ (short : length s ≤ 16777216) (few : length asked ≤ 16777216) where
     fitting : fits s && fits asked ≡ true

@@ -3,7 +3,7 @@ use Prim.Native.Nat.{◌-◌, ◌<◌, ◌≤◌, ℕ}
 use borrow.Author.Tests.{le-leb, lt-leb}
 use lib.Dec.{leb}
 use lib.ListN.{length}
-use mathlib.Core.Bool.{Bool, ◌&&◌, and_false, false, true}
+use mathlib.Core.Bool.{Bool, ◌&&◌, and-false, false, true}
 use mathlib.Core.List.{List, [], ◌∷◌}
 use mathlib.Core.Option.{get_or}
 use mathlib.Core.Path.{◌∙◌, ◌≡◌, ap, ap₂, sym}
@@ -66,10 +66,10 @@ module _ {s : List ℕ} {w : Search} (stands : Stands s w) where
       other_contig t = not_held (rw t)
 
       pub before_first : p.position < w.first.0 → no_record ≡ number_of p
-      before_first h = not_held (rw (lt-leb w.first.0 p.position h, and_false))
+      before_first h = not_held (rw (lt-leb w.first.0 p.position h, and-false))
 
       pub past_end : end.0 < p.position → no_record ≡ number_of p
-      past_end h = not_held (rw (lt-leb p.position end.0 h, and_false))
+      past_end h = not_held (rw (lt-leb p.position end.0 h, and-false))
 
       pub holds : same_bytes p.contig (bytes_of s part) ≡ true → w.first.0 ≤ p.position → p.position ≤ end.0
           → w.cursor.read - 1 ≡ number_of p

@@ -17,7 +17,7 @@ use list_walk::{HeaderAt, ListCursor, ListHeader, Stepped};
 // ---- one pair
 
 // Where a search stands: behind the record that was read last, which begins at `first`.
-#[derive(Drop)]
+#[derive(Clone, Copy)]
 pub struct Search {
     pub cursor: ListCursor,
     pub first: GenomePosition,
@@ -35,7 +35,7 @@ fn is_reached(list: &[u8], previous: Previous, contig: &[u8], position: GenomePo
 }
 
 // Where a search stands for a position, or the row that refuses a record group before it.
-#[derive(Drop)]
+#[derive(Clone, Copy)]
 pub enum Reached {
     At(Search),
     Refused(usize),
@@ -104,7 +104,7 @@ fn holder(list: &[u8], search: Search, contig: &[u8], position: GenomePosition) 
 // ---- all pairs
 
 // How many record groups were read, or the row that refuses one of them.
-#[derive(Drop)]
+#[derive(Clone, Copy)]
 pub enum Searched {
     Groups(u32),
     Refused(usize),
@@ -167,7 +167,7 @@ fn copy_numbers(numbers: &[u32], out: &mut [u32])
 }
 
 // How many pairs were looked up, and how many record groups were read for them; or the row that refuses the call.
-#[derive(Drop)]
+#[derive(Clone, Copy)]
 pub enum Lookup {
     Found(usize, u32),
     Refused(usize),

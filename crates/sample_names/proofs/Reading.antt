@@ -4,7 +4,7 @@ use Prim.Native.String.{String}
 use borrow.Author.Tests.{lt-leb}
 use lib.Dec.{leb}
 use lib.ListN.{get_or}
-use mathlib.Core.Bool.{◌&&◌, and_false, false, true}
+use mathlib.Core.Bool.{◌&&◌, and-false, false, true}
 use mathlib.Core.List.{List, [], ◌∷◌}
 use mathlib.Core.Option.{Option, none}
 use mathlib.Core.Path.{◌≡◌, refl}
@@ -76,7 +76,7 @@ module _ (s : List ℕ) where
     count_zero h = not_allowed (rw (lt-leb 1 count h))
 
     pub count_many : max_samples < count → samples_of (lines_of s) ≡ refused 2
-    count_many h = not_allowed (rw (lt-leb count max_samples h, and_false))
+    count_many h = not_allowed (rw (lt-leb count max_samples h, and-false))
 
     pub count_read : 1 ≤ count → count ≤ max_samples → CountTo s count (e + 1)
     count_read h k = record {

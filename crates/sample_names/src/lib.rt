@@ -24,7 +24,7 @@ fn name_known(s: &[u8], names: &[usize], count: usize, name: &[u8]) -> bool
 }
 
 // Where the name in a `sample` line stands, to its LF; or the row that refuses the line.
-#[derive(Drop)]
+#[derive(Clone, Copy)]
 enum SampleAt {
     Name(usize, usize),
     Refused(usize),
@@ -46,7 +46,7 @@ fn sample_at(s: &[u8], at: usize, names: &[usize], count: usize) -> SampleAt
 }
 
 // Where the text goes on behind the `sample` lines; or the row that refuses the first faulty one.
-#[derive(Drop)]
+#[derive(Clone, Copy)]
 enum NamesAt {
     Next(usize),
     Refused(usize),
@@ -77,7 +77,7 @@ fn sample_lines(s: &[u8], at: usize, count: usize, names: &mut [usize]) -> Names
 }
 
 // How many samples there are, and where their lines begin; or the row that refuses the first line.
-#[derive(Drop)]
+#[derive(Clone, Copy)]
 enum CountAt {
     Count(usize, usize),
     Refused(usize),
@@ -101,7 +101,7 @@ fn samples_line(s: &[u8]) -> CountAt
 }
 
 // What the header of a cohort gives: so many samples, and where the first site group begins; or the row that refuses it, 1, 2 or 3.
-#[derive(Drop)]
+#[derive(Clone, Copy)]
 pub enum HeaderRead {
     Samples(usize, usize),
     Refused(usize),

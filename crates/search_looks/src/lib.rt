@@ -11,7 +11,7 @@ use combine_gvcfs::TextsRead;
 use contig_walk::Walked;
 
 // The figure, or the row that refuses the call.
-#[derive(Drop)]
+#[derive(Clone, Copy)]
 pub enum Looked {
     Figure(usize),
     Refused(usize),

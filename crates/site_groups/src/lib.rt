@@ -23,7 +23,7 @@ pub fn code_line(s: &[u8], at: usize, key: &[u8]) -> NumberAt
 }
 
 // Where a list of numbers stands, to its line's LF, and how many numbers it has; a missing one has none.
-#[derive(Drop)]
+#[derive(Clone, Copy)]
 pub enum PartAt {
     Part(usize, usize, usize),
     Wrong,
@@ -42,14 +42,14 @@ pub fn part_line(s: &[u8], at: usize, key: &[u8], out: &mut [u32]) -> PartAt
 }
 
 // A part of the text: from an offset to just before another.
-#[derive(Drop)]
+#[derive(Clone, Copy)]
 pub struct Part {
     pub at: usize,
     pub end: usize,
 }
 
 // The first four lines of a site group: sample number, contig, start and end. `next` is where the fifth line begins.
-#[derive(Drop)]
+#[derive(Clone, Copy)]
 pub struct SitePlace {
     pub sample: SampleIndex,
     pub contig: Part,
@@ -58,7 +58,7 @@ pub struct SitePlace {
     pub next: usize,
 }
 
-#[derive(Drop)]
+#[derive(Clone, Copy)]
 enum PlaceAt {
     Place(SitePlace),
     Wrong,
@@ -94,14 +94,14 @@ fn site_place(s: &[u8], at: usize) -> PlaceAt
 }
 
 // The fifth and sixth line: REF and the ALTs. `next` is where the seventh line begins.
-#[derive(Drop)]
+#[derive(Clone, Copy)]
 pub struct SiteAlleles {
     pub refs: Part,
     pub alts: Part,
     pub next: usize,
 }
 
-#[derive(Drop)]
+#[derive(Clone, Copy)]
 enum AllelesAt {
     Alleles(SiteAlleles),
     Wrong,
@@ -126,7 +126,7 @@ fn site_alleles(s: &[u8], at: usize) -> AllelesAt
 }
 
 // A list of numbers in the text: where it stands, and how many numbers it has. None: it is missing.
-#[derive(Drop)]
+#[derive(Clone, Copy)]
 pub struct NumbersPart {
     pub at: usize,
     pub end: usize,
@@ -134,7 +134,7 @@ pub struct NumbersPart {
 }
 
 // The last five lines: GQ, DP, MIN_DP, AD and PL. `next` is where the next group begins.
-#[derive(Drop)]
+#[derive(Clone, Copy)]
 pub struct SiteValues {
     pub gq: u32,
     pub dp: u32,
@@ -144,7 +144,7 @@ pub struct SiteValues {
     pub next: usize,
 }
 
-#[derive(Drop)]
+#[derive(Clone, Copy)]
 enum ValuesAt {
     Values(SiteValues),
     Wrong,
@@ -192,7 +192,7 @@ fn site_values(s: &[u8], at: usize, ad: &mut [u32], pl: &mut [u32]) -> ValuesAt
 }
 
 // The eleven lines of a site group.
-#[derive(Drop)]
+#[derive(Clone, Copy)]
 enum TextAt {
     Text(SitePlace, SiteAlleles, SiteValues),
     Wrong,
@@ -245,7 +245,7 @@ fn counts_fit(alleles: u8, pl: usize, ad: usize) -> bool
 }
 
 // Whether a site whose lines are spelled right is a block; or the row, 2 to 8, that refuses it.
-#[derive(Drop)]
+#[derive(Clone, Copy)]
 enum SiteCheck {
     Right(bool),
     Refused(usize),
@@ -296,7 +296,7 @@ fn check_site(
 }
 
 // A site of a cohort, by its lines, and whether it is a block; or the row that refuses it.
-#[derive(Drop)]
+#[derive(Clone, Copy)]
 pub enum SiteAt {
     Site(SitePlace, SiteAlleles, SiteValues, bool),
     Refused(usize),

@@ -82,7 +82,7 @@ fn after_bytes(s: &[u8], at: usize, count: usize) -> usize
 }
 
 // Where the texts of a case stand, each up to the next one.
-#[derive(Drop)]
+#[derive(Clone, Copy)]
 pub struct Case {
     pub first: usize,
     pub second: usize,

@@ -6,7 +6,7 @@ ghost use Rattle.window_counts.specs.Counts.{AddReady, LastReady, OverlapReady, 
 use bio_ids::{GenomeLoc, GenomePosition};
 
 // Windows along a contig: where the first begins, how many positions each has, and how many the next begins further on.
-#[derive(Drop)]
+#[derive(Clone, Copy)]
 pub struct Windows {
     pub first: GenomePosition,
     pub size: u64,

@@ -10,7 +10,7 @@ use coalescing::{Pending, Stepped};
 use contig_walk::{Turned, Walked};
 
 // How far the walk has come: the last breakpoint, 0 before the first; how many clip spans cover it; what is laid and what is held back.
-#[derive(Drop)]
+#[derive(Clone, Copy)]
 struct Along {
     past: u64,
     depth: u64,
@@ -18,7 +18,7 @@ struct Along {
 }
 
 // How far it has come; or the row that refuses an interval's record.
-#[derive(Drop)]
+#[derive(Clone, Copy)]
 enum Reached {
     To(Along),
     Refused(usize),

@@ -1,0 +1,8 @@
+-- The byte of `*`.
+use borrow.Author.Rules.{rules}
+use Rattle.definitions.specs.Bytes.{text}
+use Rattle.alleles.proofs.is_span_del.Goals as goal
+
+pub returns : goal.returns
+unfolding text
+returns c = c.same_bytes.ensures

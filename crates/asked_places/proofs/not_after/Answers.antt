@@ -1,0 +1,20 @@
+-- By the order of the two contigs.
+use Rattle.asked_places.proofs.Pairs.{not_greater}
+use Rattle.definitions.specs.Bytes.{and_then}
+use Rattle.definitions.specs.Lists.{by_order}
+use Rattle.definitions.specs.LookUp.{not_after}
+use borrow.Author.Rules.{rules}
+use Rattle.asked_places.proofs.not_after.Goals as goal
+
+pub returns-in-Less : goal.returns-in-Less
+unfolding not_after by_order and_then
+returns-in-Less c = rw (← c.compare_bytes-order.ensures, c.in-Less.is)
+
+pub returns-in-Same : goal.returns-in-Same
+unfolding not_after by_order and_then
+returns-in-Same c = rw (← c.compare_bytes-order.ensures, c.in-Same.is, c.get.ensures, c.get-in-Same.ensures)
+    (not_greater (c.args.position.0) (c.args.last.0))
+
+pub returns-in-Greater : goal.returns-in-Greater
+unfolding not_after by_order and_then
+returns-in-Greater c = rw (← c.compare_bytes-order.ensures, c.in-Greater.is)

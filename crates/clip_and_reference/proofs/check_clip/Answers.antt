@@ -1,0 +1,27 @@
+-- The loop's invariant: the text is in order if it is from here on.
+use Prim.Native.Nat.{◌-◌}
+use borrow.Author.Rules.{rules}
+use lib.ListN.{length}
+use native.Mathlib.Omega.{arith}
+use Rattle.clip_and_reference.proofs.Groups.{Left, left_end, left_faulty, left_next, left_start}
+use Rattle.clip_and_reference.specs.Groups.{SpanRead}
+use Rattle.definitions.specs.ClipAndReference.{span_of}
+use Rattle.clip_and_reference.proofs.check_clip.Goals as goal
+
+pub loop-at-init : goal.loop-at-init
+loop-at-init c = left_start span_of _
+
+pub returns-in_default : goal.returns-in_default
+unfolding SpanRead
+returns-in_default c = left_faulty span_of _ _ c.loop-at.invariant (rw c.in_default.is at c.span_at-group.ensures) c.loop-at-test.true
+
+pub loop-at-smaller : goal.loop-at-smaller
+unfolding SpanRead
+loop-at-smaller c = let g = rw c.in-Span.is at c.span_at-group.ensures in omega (arith, g.0.forward, g.0.within)
+
+pub loop-at-preserved : goal.loop-at-preserved
+unfolding SpanRead
+loop-at-preserved c = let g = rw c.in-Span.is at c.span_at-group.ensures in left_next span_of _ _ c.loop-at.invariant _ _ g.0
+
+pub returns : goal.returns
+returns c = left_end span_of _ _ c.loop-at.invariant c.loop-at-test.false

@@ -1,0 +1,27 @@
+-- The loop's invariant: the text is in order if it is from here on.
+use Prim.Native.Nat.{◌-◌}
+use borrow.Author.Rules.{rules}
+use lib.ListN.{length}
+use native.Mathlib.Omega.{arith}
+use Rattle.clip_and_reference.proofs.Groups.{Left, left_end, left_faulty, left_next, left_start}
+use Rattle.clip_and_reference.specs.Groups.{SegmentRead}
+use Rattle.definitions.specs.ClipAndReference.{segment_of}
+use Rattle.clip_and_reference.proofs.check_reference.Goals as goal
+
+pub loop-at-init : goal.loop-at-init
+loop-at-init c = left_start segment_of _
+
+pub returns-in_default : goal.returns-in_default
+unfolding SegmentRead
+returns-in_default c = left_faulty segment_of _ _ c.loop-at.invariant (rw c.in_default.is at c.segment_at-group.ensures) c.loop-at-test.true
+
+pub loop-at-smaller : goal.loop-at-smaller
+unfolding SegmentRead
+loop-at-smaller c = let g = rw c.in-Segment.is at c.segment_at-group.ensures in omega (arith, g.0.forward, g.0.within)
+
+pub loop-at-preserved : goal.loop-at-preserved
+unfolding SegmentRead
+loop-at-preserved c = let g = rw c.in-Segment.is at c.segment_at-group.ensures in left_next segment_of _ _ c.loop-at.invariant _ _ g.0
+
+pub returns : goal.returns
+returns c = left_end segment_of _ _ c.loop-at.invariant c.loop-at-test.false

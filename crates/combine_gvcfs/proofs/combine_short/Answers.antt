@@ -1,0 +1,12 @@
+-- The tables have room for 256 sites.
+use borrow.Author.Rules.{rules}
+use mathlib.Core.Path.{refl}
+use native.Mathlib.Omega.{arith}
+use Rattle.combine_gvcfs.proofs.Loading.{short_fit}
+use Rattle.combine_gvcfs.proofs.combine_short.Goals as goal
+
+pub combine_with-requires : goal.combine_with-requires
+combine_with-requires c = (c.requires, short_fit 256 (omega arith) refl refl refl refl refl)
+
+pub returns : goal.returns
+returns c = c.combine_with.ensures

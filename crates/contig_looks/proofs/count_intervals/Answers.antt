@@ -1,0 +1,67 @@
+-- Window by window.
+use Prim.Native.Nat.{◌+◌, ℕ}
+use borrow.Author.Rules.{rules}
+use lib.Dec.{ltb}
+use lib.ListN.{length}
+use mathlib.Core.Bool.{Bool, cond, false}
+use mathlib.Core.List.{List, []}
+use mathlib.Core.Path.{◌∙◌, ◌≡◌, refl}
+use native.Mathlib.Omega.{arith}
+use Rattle.breakpoint_windows.proofs.ContigWindows.{contig_window, fewer_left, none_left, stored_exactly, stored_within}
+use Rattle.breakpoint_windows.specs.Breakpoints.{all_breakpoints, spans_of}
+use Rattle.definitions.specs.Lists.{filter_by}
+use Rattle.contig_looks.proofs.Counting.{count_ready, so_far_end, so_far_start}
+use Rattle.contig_looks.specs.Counting.{LooksReady, SoFar}
+use Rattle.contig_looks.specs.declared.Along.{Along}
+use Rattle.breakpoint_windows.proofs.next_breakpoints.Reads as next-breakpoints-reads
+use Rattle.contig_looks.proofs.count_window.Reads as count-window-reads
+use Rattle.contig_looks.proofs.count_intervals.Goals as goal
+
+pub loop-more-init : goal.loop-more-init
+loop-more-init c = record {
+  scratch-long = refl;
+  none-past = λ never. let z : ◌≡◌ {A = ℕ} 0 1 = cc in absurd (omega arith);
+  so_far = λ ready. so_far_start ready;
+}
+
+pub next_breakpoints-window-requires : goal.next_breakpoints-window-requires
+next_breakpoints-window-requires c = let (ready, room) = c.requires in
+    (omega (arith, c.loop-more.invariant.scratch-long, room), (ready.points.rows_in_range, ready.points.short))
+
+pub slice_bounds-count_window-end : goal.slice_bounds-count_window-end
+slice_bounds-count_window-end c = stored_within c.next_breakpoints-window.ensures
+
+pub slice_bounds-count_window-end-in-loop-more : goal.slice_bounds-count_window-end-in-loop-more
+slice_bounds-count_window-end-in-loop-more c = stored_exactly c.next-breakpoints.ensures
+
+pub count_window-along-requires : goal.count_window-along-requires
+unfolding count_ready
+count_window-along-requires c = let ready = c.requires.0 in
+    count_ready ready (c.loop.invariant.so_far ready) c.next-breakpoints.ensures
+
+pub loop-more-smaller : goal.loop-more-smaller
+unfolding count_ready contig_window
+loop-more-smaller c = let found = c.next-breakpoints.ensures in
+    let ready = c.requires.0 in
+    let counted = c.count_window-along.ensures (count_ready ready (c.loop.invariant.so_far ready) found) in
+    fewer_left ready.points found counted.there c.loop-test.true
+
+pub loop-more-preserved : goal.loop-more-preserved
+unfolding count_ready contig_window
+loop-more-preserved c = let found = c.next-breakpoints.ensures in
+    let inv = c.loop.invariant in
+    let ready = c.requires.0 in
+    let counted = c.count_window-along.ensures (count_ready ready (inv.so_far ready) found) in
+    record {
+      scratch-long = found.long ∙ inv.scratch-long;
+      none-past = none_left ready.points found counted.there;
+      so_far = λ ready. (c.count_window-along.ensures (count_ready ready (inv.so_far ready) found)).so_far;
+    }
+
+pub shape_of-scratch : goal.shape_of-scratch
+shape_of-scratch c = c.loop-more.invariant.scratch-long
+
+pub returns : goal.returns
+returns c = λ ready.
+    let inv = c.loop-more.invariant in
+    so_far_end ready (inv.so_far ready) (inv.none-past c.loop-more-test.false)

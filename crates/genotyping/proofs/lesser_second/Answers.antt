@@ -1,0 +1,10 @@
+-- By whether there is a second.
+use borrow.Author.Rules.{rules}
+use borrow.Author.Tests.{eq-eqb, ne_eqb}
+use Rattle.genotyping.proofs.lesser_second.Goals as goal
+
+pub returns-then-second-eq0 : goal.returns-then-second-eq0
+returns-then-second-eq0 c = rw (eq-eqb _ 0 c.if-second-eq0.true)
+
+pub returns : goal.returns
+returns c = rw (ne_eqb _ 0 c.if-second-eq0.false) c.lesser.ensures

@@ -1,0 +1,37 @@
+-- The loop's invariant: storing the first numbers from here on gives what storing all of them was to give.
+use Prim.Native.Nat.{◌+◌, ◌-◌, ◌<◌, ◌≤◌, ℕ}
+use borrow.Author.Rules.{rules}
+use lib.ListN.{drop, length, set}
+use lib.Seq.{sets}
+use mathlib.Core.List.{List, [], ◌∷◌}
+use mathlib.Core.Option.{none, some}
+use mathlib.Core.Path.{◌∙◌, ◌≡◌, ap, refl, sym}
+use native.Mathlib.Numerals.{add-one}
+use native.Mathlib.Omega.{arith}
+use Rattle.definitions.specs.Bytes.{comma, fields_of}
+use Rattle.definitions.specs.Numbers.{number, number_list}
+use Rattle.kv_text.proofs.Fields.{field_first, field_forward, field_last, first_between, first_of}
+use Rattle.kv_text.proofs.Numbers.{all_fault, all_later_fault, all_number, all_nothing, all_numbers, first_fault, first_number}
+use Rattle.kv_text.specs.Fields.{between, digits_read, field_length, first_numbers, numbers_read}
+use Rattle.kv_text.specs.declared.DigitsAt.TheVariants as digits
+use Rattle.kv_text.specs.declared.NumbersRead.TheVariants.{Count, Fault}
+use Rattle.kv_text.proofs.read_numbers.Given as goal
+
+-- the fields from an offset on, and all of them
+abbrev pub from : List ℕ → ℕ → List (List ℕ)
+from s at = fields_of 44 (drop at s)
+
+pub record Turn (s out₀ out : List ℕ) (at count : ℕ) : Type 0 where
+  pub within : at ≤ length s
+  pub few : count ≤ at
+  pub long : length out ≡ length out₀
+  pub same : sets out count (first_numbers (from s at)) ≡ sets out₀ 0 (first_numbers (from s 0))
+  pub place : count + length (first_numbers (from s at)) ≡ length (first_numbers (from s 0))
+  pub reads : all_numbers (from s at) ≡ some (first_numbers (from s at)) → all_numbers (from s 0) ≡ some (first_numbers (from s 0))
+  pub faulty : all_numbers (from s at) ≡ none → all_numbers (from s 0) ≡ none
+
+abbrev pub invariant-loop-v : goal.invariant-loop-v
+invariant-loop-v l = Turn l.s l.initial.out l.out l.at l.count
+
+abbrev pub decreases-loop-v : goal.decreases-loop-v
+decreases-loop-v l = length l.s - l.at

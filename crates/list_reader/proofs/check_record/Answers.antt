@@ -1,0 +1,61 @@
+-- Row by row, as the laws of RecordChecks have them.
+use borrow.Author.Rules.{rules}
+use borrow.Author.Tests.{not-false, not-true}
+use mathlib.Core.Path.{◌∙◌, sym}
+use native.Mathlib.Omega.{arith}
+use Rattle.alleles.specs.Alleles.{AllelesFound}
+use Rattle.list_reader.proofs.RecordChecks.{allele_faulty, counts_wrong, end_not_past, end_wrong, no_non_ref, position_0, record_right, too_early}
+use Rattle.list_reader.proofs.check_record.Goals as goal
+
+pub returns-then-get-lt1 : goal.returns-then-get-lt1
+returns-then-get-lt1 c = position_0 _ c.args.head c.args.previous c.args.fit (omega (arith, c.if-get-lt1.true, c.get.ensures))
+
+pub returns-then-not-end_past : goal.returns-then-not-end_past
+returns-then-not-end_past c = end_not_past _ c.args.head c.args.previous c.args.fit (omega (arith, c.if-get-lt1.false, c.get.ensures))
+    (sym c.end_past.ensures ∙ c.if-not-end_past.true)
+
+pub returns-then-not-comes_after : goal.returns-then-not-comes_after
+returns-then-not-comes_after c = too_early _ c.args.head c.args.previous c.args.fit (omega (arith, c.if-get-lt1.false, c.get.ensures))
+    (sym c.end_past.ensures ∙ c.if-not-end_past.false)
+    (rw c.part-contig.ensures at (sym c.comes_after.ensures ∙ c.if-not-comes_after.true))
+
+pub returns-in_default : goal.returns-in_default
+unfolding AllelesFound
+returns-in_default c = allele_faulty _ c.args.head c.args.previous c.args.fit (omega (arith, c.if-get-lt1.false, c.get.ensures))
+    (sym c.end_past.ensures ∙ c.if-not-end_past.false)
+    (rw c.part-contig.ensures at (sym c.comes_after.ensures ∙ c.if-not-comes_after.false))
+    (rw (c.part-reference.ensures, c.part-alts.ensures, c.in_default.is) at c.check_alleles-read.ensures)
+
+pub returns-then-not-non_ref : goal.returns-then-not-non_ref
+unfolding AllelesFound
+returns-then-not-non_ref c = let r = rw (c.part-reference.ensures, c.part-alts.ensures, c.in-Alleles.is) at c.check_alleles-read.ensures in
+    no_non_ref _ c.args.head c.args.previous c.args.fit (omega (arith, c.if-get-lt1.false, c.get.ensures))
+    (sym c.end_past.ensures ∙ c.if-not-end_past.false)
+    (rw c.part-contig.ensures at (sym c.comes_after.ensures ∙ c.if-not-comes_after.false))
+    _ _ r (c.if-not-non_ref.true)
+
+pub returns-then-not-end_allowed : goal.returns-then-not-end_allowed
+unfolding AllelesFound
+returns-then-not-end_allowed c = let r = rw (c.part-reference.ensures, c.part-alts.ensures, c.in-Alleles.is) at c.check_alleles-read.ensures in
+    end_wrong _ c.args.head c.args.previous c.args.fit (omega (arith, c.if-get-lt1.false, c.get.ensures))
+    (sym c.end_past.ensures ∙ c.if-not-end_past.false)
+    (rw c.part-contig.ensures at (sym c.comes_after.ensures ∙ c.if-not-comes_after.false))
+    _ _ r (c.if-not-non_ref.false) (rw c.part-reference.ensures at (sym c.end_allowed.ensures ∙ c.if-not-end_allowed.true))
+
+pub returns-then-not-fit : goal.returns-then-not-fit
+unfolding AllelesFound
+returns-then-not-fit c = let r = rw (c.part-reference.ensures, c.part-alts.ensures, c.in-Alleles.is) at c.check_alleles-read.ensures in
+    counts_wrong _ c.args.head c.args.previous c.args.fit (omega (arith, c.if-get-lt1.false, c.get.ensures))
+    (sym c.end_past.ensures ∙ c.if-not-end_past.false)
+    (rw c.part-contig.ensures at (sym c.comes_after.ensures ∙ c.if-not-comes_after.false))
+    _ _ r (c.if-not-non_ref.false) (rw c.part-reference.ensures at
+    (sym c.end_allowed.ensures ∙ c.if-not-end_allowed.false)) (c.if-not-fit.true)
+
+pub returns : goal.returns
+unfolding AllelesFound
+returns c = let r = rw (c.part-reference.ensures, c.part-alts.ensures, c.in-Alleles.is) at c.check_alleles-read.ensures in
+    record_right _ c.args.head c.args.previous c.args.fit (omega (arith, c.if-get-lt1.false, c.get.ensures))
+    (sym c.end_past.ensures ∙ c.if-not-end_past.false)
+    (rw c.part-contig.ensures at (sym c.comes_after.ensures ∙ c.if-not-comes_after.false))
+    _ _ r (c.if-not-non_ref.false) (rw c.part-reference.ensures at
+    (sym c.end_allowed.ensures ∙ c.if-not-end_allowed.false)) (c.if-not-fit.false)

@@ -1,0 +1,14 @@
+-- Sample by sample, each behind those in the table.
+use Prim.Native.Nat.{◌-◌}
+use borrow.Author.Rules.{rules}
+use native.Mathlib.Omega.{arith}
+use Rattle.definitions.specs.Bytes.{comma}
+use Rattle.list_reader.proofs.Samples.{Reading, reading_start, sample_next, sample_wrong, samples_end}
+use Rattle.list_reader.specs.RecordGroups.{HeadRead, SampleRead, TextRead}
+use Rattle.list_reader.proofs.record_text.Given as goal
+
+abbrev pub invariant-loop-i : goal.invariant-loop-i
+invariant-loop-i l = Reading l.s l.at l.samples l.initial.rows l.head l.rows l.next l.has_pl l.fit l.i
+
+abbrev pub decreases-loop-i : goal.decreases-loop-i
+decreases-loop-i l = l.samples - l.i

@@ -1,0 +1,31 @@
+-- The line reads, or the names are cleared.
+use Rattle.definitions.specs.Bytes.{text}
+use Rattle.definitions.specs.Lines.{key_of}
+use Rattle.kv_text.specs.Lines.{LineReads}
+use Rattle.list_walk.specs.Walk.{FigureRead}
+use borrow.Author.Rules.{rules}
+use mathlib.Core.Path.{refl}
+use native.Mathlib.Omega.{arith}
+use Rattle.list_walk.proofs.records_line.Goals as goal
+
+pub returns-in_default : goal.returns-in_default
+unfolding FigureRead LineReads key_of text
+returns-in_default c = record {
+      row_is = refl;
+      value = rw c.in_default.is at c.number_line-line.ensures;
+      cleared = c.clear.ensures;
+    }
+
+pub overflow_add-next : goal.overflow_add-next
+unfolding LineReads
+overflow_add-next c = let l = rw c.in-Found.is at c.number_line-line.ensures in omega (arith, l.within, c.well-formed)
+
+pub returns : goal.returns
+unfolding FigureRead LineReads key_of text
+returns c = record {
+      end = _;
+      line = rw c.in-Found.is at c.number_line-line.ensures;
+      samples_are = refl;
+      next_is = refl;
+      same = refl;
+    }

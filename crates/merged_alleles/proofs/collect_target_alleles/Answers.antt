@@ -1,0 +1,17 @@
+-- The letter ALTs, and behind them `*`, if it is shown, and `<NON_REF>`.
+use borrow.Author.Rules.{rules}
+use Rattle.merged_alleles.proofs.Ends.{merged_added, merged_too_many}
+use Rattle.merged_alleles.specs.Alts.{Added, AltsLaid}
+use Rattle.merged_alleles.proofs.collect_target_alleles.Goals as goal
+
+pub returns-in_default : goal.returns-in_default
+unfolding AltsLaid Added
+returns-in_default c = merged_too_many _ _ _ _ c.args.found.now (rw (c.in_default.is) at (c.letter_alts-letters.ensures))
+
+pub put_ends-requires : goal.put_ends-requires
+unfolding Added
+put_ends-requires c = (rw (c.in-Alts.is) at (c.letter_alts-letters.ensures)).0
+
+pub returns : goal.returns
+unfolding Added
+returns c = rw (merged_added _ _ _ _ _, ← (rw (c.in-Alts.is) at (c.letter_alts-letters.ensures)).1, ← c.any_span_del-shown.ensures _) (c.put_ends.ensures)

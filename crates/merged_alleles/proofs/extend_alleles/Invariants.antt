@@ -1,0 +1,21 @@
+-- Field by field.
+use Prim.Native.Nat.{◌-◌, ℕ}
+use borrow.Author.Rules.{rules}
+use lib.ListN.{length}
+use mathlib.Core.List.{List, flat_map}
+use mathlib.Core.Path.{◌∙◌, refl}
+use native.Mathlib.Omega.{arith}
+use Rattle.definitions.specs.Bytes.{comma, fields_of}
+use Rattle.kv_text.proofs.Fields.{field_within}
+use Rattle.merged_alleles.proofs.Turns.{FieldsLeft, field_short, fields_done, fields_more, fields_too_many}
+use Rattle.merged_alleles.specs.Alts.{Added, add_all, extended_letters, listed}
+use Rattle.merged_alleles.proofs.extend_alleles.Given as goal
+
+abbrev pub whole : List ℕ → List ℕ → List ℕ → ℕ → ℕ → List (List ℕ)
+whole list end alts len n = add_all (listed alts len n) (flat_map (extended_letters end) (fields_of comma list))
+
+abbrev pub invariant-loop-next : goal.invariant-loop-next
+invariant-loop-next l = FieldsLeft l.list l.end (whole l.list l.end l.initial.alts l.initial.written l.initial.count) l.initial.alts l.alts l.written l.count l.at
+
+abbrev pub decreases-loop-next : goal.decreases-loop-next
+decreases-loop-next l = length l.list - l.at

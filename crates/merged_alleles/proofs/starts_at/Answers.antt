@@ -1,0 +1,6 @@
+-- Two numbers are compared.
+use borrow.Author.Rules.{rules}
+use Rattle.merged_alleles.proofs.starts_at.Goals as goal
+
+pub returns : goal.returns
+returns c = cc

@@ -1,0 +1,17 @@
+-- The row's numbers are those of the segment.
+use borrow.Author.Rules.{rules}
+use mathlib.Core.Path.{◌∙◌}
+use Rattle.indexed_groups.specs.Indexed.{placed_at}
+use Rattle.tables.specs.Tables.{segment_at}
+use Rattle.merged_ref.proofs.letter_in_row.Goals as goal
+
+pub returns : goal.returns
+unfolding placed_at segment_at
+returns c = let is_first = c.new_1based.ensures ∙ c.segment_column-first.ensures in
+    rw (
+      ← c.segment_column-contig_at.ensures,
+      ← c.segment_column-contig_end.ensures,
+      ← is_first,
+      ← c.segment_column-bases_at.ensures,
+      ← c.segment_column-bases_end.ensures,
+    ) c.letter_in.ensures

@@ -1,0 +1,16 @@
+-- By the answer.
+use borrow.Author.Rules.{rules}
+use Rattle.merged_ref.specs.Answers.{ref_or}
+use Rattle.merged_ref.proofs.ref_bytes.Goals as goal
+
+pub returns-in-Allele : goal.returns-in-Allele
+unfolding ref_or
+returns-in-Allele c = rw (c.in-Allele.is) (c.part.ensures)
+
+pub returns-in-Letter : goal.returns-in-Letter
+unfolding ref_or
+returns-in-Letter c = rw (c.in-Letter.is, ← c.letter.ensures) (c.part_or.ensures)
+
+pub returns-in-Refused : goal.returns-in-Refused
+unfolding ref_or
+returns-in-Refused c = rw (c.in-Refused.is)

@@ -1,0 +1,24 @@
+-- By whether a file is too long.
+use mathlib.Core.Path.{◌∙◌, sym}
+use Rattle.programs.proofs.Looks.{asked_long, files_looked, texts_refused}
+use borrow.Author.Rules.{rules}
+use Rattle.programs.proofs.looks_files.Goals as goal
+
+pub returns-then-any_too_long : goal.returns-then-any_too_long
+returns-then-any_too_long c = let args = c.args in
+    texts_refused args.of-cohort args.of-clip args.of-reference args.cohort.now args.clip.now args.reference.now _
+    (sym c.any_too_long.ensures ∙ c.if-any_too_long.true) c.clear_places.ensures
+
+pub returns-then-is_too_long : goal.returns-then-is_too_long
+returns-then-is_too_long c = let args = c.args in
+    asked_long args.of-cohort args.of-clip args.of-reference args.cohort.now args.clip.now args.reference.now
+    (sym c.any_too_long.ensures ∙ c.if-any_too_long.false) args.of-contig args.contig.now
+    (sym c.is_too_long.ensures ∙ c.if-is_too_long.true) c.clear_places-then-is_too_long.ensures
+
+pub looks_asked-requires : goal.looks_asked-requires
+looks_asked-requires c = sym c.any_too_long.ensures ∙ c.if-any_too_long.false
+
+pub returns : goal.returns
+returns c = let args = c.args in
+    files_looked _ _ _ args.of-contig args.contig.now (sym c.is_too_long.ensures ∙ c.if-is_too_long.false)
+    c.text.ensures c.looks_asked.ensures

@@ -1,0 +1,27 @@
+-- The loop's invariant: the lines of the samples from this one on are left.
+use Prim.Native.Nat.{◌-◌}
+use borrow.Author.Rules.{rules}
+use lib.ListN.{drop}
+use mathlib.Core.List.{map}
+use Rattle.definitions.specs.Alleles.{capital}
+use Rattle.definitions.specs.Printed.{printed_sample_data}
+use Rattle.kv_write.proofs.Laying.{Left, done, left_length, recast, room, several, start}
+use Rattle.laws.proofs.Every.{every_at}
+use Rattle.record_lines.proofs.OwnSamples.{own_next, own_none}
+use Rattle.record_lines.specs.Samples.{printed_own}
+use Rattle.record_lines.proofs.put_own_samples.Goals as goal
+
+pub loop-i-init : goal.loop-i-init
+loop-i-init c = start ((c.requires.0.fits))
+
+pub put_sample-next-requires : goal.put_sample-next-requires
+put_sample-next-requires c = (record { sound = every_at _ _ ((c.loop-i-test.true)) ((c.requires.0.sound)); few = (c.requires.0.few); fits = room (printed_sample_data _) _ (recast (own_next _ _ _ _ _ _ _ ((c.loop-i-test.true))) ((c.loop-i.invariant))) }, c.requires.1)
+
+pub loop-i-preserved : goal.loop-i-preserved
+loop-i-preserved c = several ((c.put_sample-next.ensures)) (recast (own_next _ _ _ _ _ _ _ ((c.loop-i-test.true))) ((c.loop-i.invariant)))
+
+pub shape_of-out : goal.shape_of-out
+shape_of-out c = left_length ((c.loop-i.invariant))
+
+pub returns : goal.returns
+returns c = done (recast (own_none _ _ _ _ _ _ _ ((c.loop-i-test.false))) ((c.loop-i.invariant)))

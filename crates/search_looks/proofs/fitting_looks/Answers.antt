@@ -1,0 +1,31 @@
+-- The texts are read into the tables, which have room for all; then the figure is that of the input.
+use borrow.Author.Rules.{rules}
+use mathlib.Core.Logic.{inl}
+use mathlib.Core.Path.{refl}
+use native.Mathlib.Omega.{arith}
+use Rattle.combine_gvcfs.proofs.Loading.{full_table}
+use Rattle.combine_gvcfs.specs.Combined.{ReadTo}
+use Rattle.search_looks.proofs.Figure.{loaded_answered, tables_ready, texts_refused}
+use Rattle.search_looks.proofs.fitting_looks.Goals as goal
+
+pub read_texts-read-requires : goal.read_texts-read-requires
+read_texts-read-requires c = (c.requires, record { for_names = omega arith; whole = inl (omega arith) })
+
+pub loaded_looks-requires : goal.loaded_looks-requires
+unfolding ReadTo
+loaded_looks-requires c = let loaded = rw c.in-Loaded.is at c.read_texts-read.ensures in
+    let few = loaded.few_sites in
+    (tables_ready loaded, record { for_order = omega arith; for_firsts = omega arith; for_chosen = omega arith })
+
+pub returns-in-NoRoom : goal.returns-in-NoRoom
+unfolding ReadTo
+returns-in-NoRoom c = full_table _ refl (rw c.in-NoRoom.is at c.read_texts-read.ensures)
+
+pub returns-in-Refused : goal.returns-in-Refused
+unfolding ReadTo
+returns-in-Refused c = texts_refused _ _ _ (rw c.in-Refused.is at c.read_texts-read.ensures)
+
+pub returns-in-Loaded : goal.returns-in-Loaded
+unfolding ReadTo
+returns-in-Loaded c = let loaded = rw c.in-Loaded.is at c.read_texts-read.ensures in
+    loaded_answered loaded _ _ c.loaded_looks.result c.loaded_looks.ensures

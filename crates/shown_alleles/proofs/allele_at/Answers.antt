@@ -1,0 +1,21 @@
+-- REF, or a field of the ALTs.
+use borrow.Author.Rules.{rules}
+use mathlib.Core.Path.{◌∙◌, sym}
+use native.Mathlib.Omega.{arith}
+use Rattle.definitions.specs.Bytes.{comma, fields_of}
+use Rattle.kv_text.specs.Fields.{FieldFound}
+use Rattle.shown_alleles.proofs.Pairs.{field_number, past_fields}
+use Rattle.shown_alleles.proofs.allele_at.Goals as goal
+
+pub returns-in-At : goal.returns-in-At
+unfolding FieldFound comma
+returns-in-At c = let h = rw c.in-At.is at c.field_at-field.ensures in
+    c.part.ensures ∙ sym h.1 ∙ sym
+    (field_number _ (fields_of comma c.args.alts.now) c.args.number (omega (arith, c.if-number-eq0.false)))
+
+pub returns-in-Absent : goal.returns-in-Absent
+unfolding FieldFound comma
+returns-in-Absent c = let h = rw c.in-Absent.is at c.field_at.ensures in
+    sym
+    (field_number _ (fields_of comma c.args.alts.now) c.args.number (omega (arith, c.if1.false)) ∙ past_fields
+    (fields_of comma c.args.alts.now) _ h)

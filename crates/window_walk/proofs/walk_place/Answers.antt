@@ -1,0 +1,64 @@
+-- By whether there is an interval to walk, then by its turn.
+use borrow.Author.Rules.{rules}
+use borrow.Author.Tests.{not-false, not-true}
+use mathlib.Core.Path.{◌∙◌, sym}
+use native.Mathlib.Omega.{arith}
+use Rattle.breakpoint_windows.proofs.ContigWindows.{depth_from, depth_sum_lem, goes_on}
+use Rattle.window_walk.proofs.OnePlace.{turn_ready, underway, walked_on, walked_past, walked_refused}
+use Rattle.bio_ids.proofs.GenomeLoc.new.Reads as new-reads
+use Rattle.bio_ids.proofs.GenomePosition.new_1based.Reads as new-1based-reads
+use Rattle.contig_walk.proofs.walk_interval.Reads as walk-interval-reads
+use Rattle.covering_sites.proofs.skip_ended.Reads as skip-ended-reads
+use Rattle.breakpoint_windows.proofs.has_interval.Reads as has-interval-reads
+use Rattle.window_walk.proofs.walk_place.Goals as goal
+
+pub overflow_add-depth : goal.overflow_add-depth
+overflow_add-depth c = let (rest, ready, way) = c.requires in
+    omega (arith, depth_sum_lem ready.window way.carried.deep)
+
+pub overflow_sub-depth : goal.overflow_sub-depth
+overflow_sub-depth c = let (rest, ready, way) = c.requires in
+    depth_from ready.window way.carried.deep
+
+pub returns-then-not-has_interval : goal.returns-then-not-has_interval
+returns-then-not-has_interval c = λ rest ready way.
+    let test = c.has_interval.ensures in
+    walked_past ready way (sym test ∙ c.if-not-has_interval.true)
+
+pub overflow_sub-position : goal.overflow_sub-position
+overflow_sub-position c = let (rest, ready, way) = c.requires in
+    omega (arith, goes_on ready.window)
+
+pub skip_ended-requires : goal.skip_ended-requires
+skip_ended-requires c = let (rest, ready, way) = c.requires in
+    (ready.runs.in_runs.bounded, ready.ended.long)
+
+pub walk_interval-turn-requires : goal.walk_interval-turn-requires
+walk_interval-turn-requires c = let loc = c.new-loc.ensures in
+    let first = loc.0 ∙ c.new_1based-first.ensures in
+    let last = loc.1 ∙ c.new_1based-last.ensures in
+    let test = sym c.has_interval.ensures ∙ c.if-not-has_interval.false in
+    let (rest, ready, way) = c.requires in
+    (turn_ready ready way test _ _ first last c.skip-ended.ensures, underway ready way)
+
+pub returns-in-Refused : goal.returns-in-Refused
+unfolding turn_ready underway
+returns-in-Refused c = λ rest ready way.
+    let loc = c.new-loc.ensures in
+    let first = loc.0 ∙ c.new_1based-first.ensures in
+    let last = loc.1 ∙ c.new_1based-last.ensures in
+    let test = sym c.has_interval.ensures ∙ c.if-not-has_interval.false in
+    let searched = c.skip-ended.ensures in
+    let turned = c.walk_interval-turn.ensures (turn_ready ready way test _ _ first last searched) (underway ready way) in
+    walked_refused ready way test _ _ first last searched _ _ _ (rw c.in-Refused.is at turned)
+
+pub returns-in-To : goal.returns-in-To
+unfolding turn_ready underway
+returns-in-To c = λ rest ready way.
+    let loc = c.new-loc.ensures in
+    let first = loc.0 ∙ c.new_1based-first.ensures in
+    let last = loc.1 ∙ c.new_1based-last.ensures in
+    let test = sym c.has_interval.ensures ∙ c.if-not-has_interval.false in
+    let searched = c.skip-ended.ensures in
+    let turned = c.walk_interval-turn.ensures (turn_ready ready way test _ _ first last searched) (underway ready way) in
+    walked_on ready way test _ _ first last searched _ _ _ (rw c.in-To.is at turned)

@@ -1,0 +1,7 @@
+-- The outcome of the entry as two numbers.
+use borrow.Author.Rules.{rules}
+use Rattle.wintabol.proofs.Exported.{exported_list}
+use Rattle.wintabol.proofs.wintabol_combine.Goals as goal
+
+pub returns : goal.returns
+returns c = exported_list c.combine-outcome.ensures c.give.ensures

@@ -1,0 +1,7 @@
+-- The answer of the entry as three numbers.
+use Rattle.wintabol.proofs.Exported.{exported_look_up}
+use borrow.Author.Rules.{rules}
+use Rattle.wintabol.proofs.wintabol_look_up.Goals as goal
+
+pub returns : goal.returns
+returns c = exported_look_up _ _ _ _ _ _ _ _ c.look_up-answer.ensures c.give_lookup.ensures
