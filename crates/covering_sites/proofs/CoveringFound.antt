@@ -20,7 +20,7 @@ use Rattle.definitions.specs.Lists.{filter_by, first_greatest, numbers_from}
 use Rattle.kv_text.specs.Fields.{between}
 use Rattle.laws.proofs.Every.{Pairwise, before_all, every_member, numbers_ascend, pairwise_at, pairwise_filter}
 use Rattle.laws.proofs.Greatest.{greatest_is, greatest_map}
-use Rattle.laws.proofs.Members.{◌∈◌, cons_cases, filter_map, filter_member, flat_map_member, length_numbers, member_filter, member_filter_map, member_flat_map, member_numbers, nil_of, numbers_member}
+use Rattle.laws.proofs.Members.{◌∈◌, cons_cases, filter_by_map, filter_member, flat_map_member, length_numbers, member_filter, member_filter_map, member_flat_map, member_numbers, nil_of, numbers_member}
 use Rattle.laws.proofs.Tests.{both, both_of, not_none, some_same}
 use Rattle.tables.proofs.SameContig.{same_contig_lem}
 use Rattle.tables.specs.Tables.{SiteRows, column, part_at, site_at}
@@ -214,7 +214,7 @@ module _ {s rows : List ℕ} {sites : List Site} (t : SiteRows s rows sites) (fe
       let own : Site → Bool = λ z. eqb z.sample x && covers (part_at 7 8 s rows first) position z in
       ap (Option.map (site_at s rows)) last_is
       ∙ sym (greatest_map (site_at s rows) (λ (z : Site). z.start) all)
-      ∙ ap (first_greatest (λ (z : Site). z.start)) (sym (filter_map (site_at s rows) own (numbers_from 0 (length sites))))
+      ∙ ap (first_greatest (λ (z : Site). z.start)) (sym (filter_by_map (site_at s rows) own (numbers_from 0 (length sites))))
       ∙ sym (ap (λ (l : List Site). first_greatest (λ (z : Site). z.start) (filter_by own l)) t.read)
 
 -- those of all samples: what is found in the runs of a contig, which is named by its first site, are the cohort's covering sites

@@ -13,7 +13,7 @@ use Rattle.definitions.specs.Lists.{distinct_by, filter_by, only_if}
 use Rattle.definitions.specs.MergedAlleles.{extended_allele, letter_allele, letter_alts, remapped_alleles, spanning_reading}
 use Rattle.definitions.specs.MergedRef.{site_ref, starts_at}
 use Rattle.laws.proofs.AllelesAsRead.{allele_as_read, ref_alts_as_read}
-use Rattle.laws.proofs.Members.{drop_map, filter_map}
+use Rattle.laws.proofs.Members.{drop_map, filter_by_map}
 use Rattle.tables.specs.Tables.{column, part_at, site_at}
 use Rattle.merged_alleles.proofs.Adding.{added_distinct}
 use Rattle.merged_alleles.specs.Alts.{add_all, extended_letters, site_letters, sites_at}
@@ -93,7 +93,7 @@ unfolding distinct_by same_allele
 distinct_letters [] = refl
 distinct_letters (x ∷ l) =
     ap (λ (t : List Allele). letters x ∷ filter_by (λ y. not (same_allele (letters x) y)) t) (distinct_letters l)
-    ∙ ap (λ (t : List Allele). letters x ∷ t) (filter_map letters (λ y. not (same_allele (letters x) y)) (distinct_by same_bytes l))
+    ∙ ap (λ (t : List Allele). letters x ∷ t) (filter_by_map letters (λ y. not (same_allele (letters x) y)) (distinct_by same_bytes l))
 
 module _ (s rows ref : List ℕ) (position : ℕ) where
   each_site : (sites : List ℕ)

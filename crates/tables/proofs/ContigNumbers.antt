@@ -11,7 +11,7 @@ use Rattle.definitions.specs.Cohort.{Site}
 use Rattle.definitions.specs.Intervals.{sites_on}
 use Rattle.definitions.specs.Lists.{filter_by, numbers_from}
 use Rattle.laws.proofs.Every.{Every, every_member, pairwise_filter}
-use Rattle.laws.proofs.Members.{◌∈◌, filter_map, filter_member, member_filter, member_map, member_numbers, numbers_member}
+use Rattle.laws.proofs.Members.{◌∈◌, filter_by_map, filter_member, member_filter, member_map, member_numbers, numbers_member}
 use Rattle.laws.proofs.NoneTwice.{Once, as_many, numbers_once}
 use Rattle.tables.specs.Tables.{SiteRows, site_at}
 
@@ -41,7 +41,7 @@ module _ {s rows : List ℕ} {sites : List Site} (h : SiteRows s rows sites) whe
     unfolding sites_on in_file
     file_length =
         ap (λ (l : List Site). length (filter_by (λ (z : Site). same_bytes contig z.contig) l)) h.read
-        ∙ ap length (filter_map (site_at s rows) (λ (z : Site). same_bytes contig z.contig) (numbers_from 0 (length sites)))
+        ∙ ap length (filter_by_map (site_at s rows) (λ (z : Site). same_bytes contig z.contig) (numbers_from 0 (length sites)))
         ∙ length-map (filter_by (λ k. same_bytes contig (site_at s rows k).contig) (numbers_from 0 (length sites))) (site_at s rows)
 
     -- each once, they are as many as the contig's sites

@@ -8,17 +8,17 @@ use Rattle.allele_subsetting_pl.proofs.copy_record.Goals as goal
 
 pub returns-then-not-has_room : goal.returns-then-not-has_room
 returns-then-not-has_room c = let whole = whole_record c.args.alts.now c.args.gl.now c.args.ad.now in
-    let out = outputs c.args.alts_out.now c.args.gl_out.now c.args.ad-out.now in
+    let out = outputs c.args.alts_out.now c.args.gl_out.now c.args.ad_out.now in
     answered_refused (without_room whole out (failed c.has_room.ensures c.if-not-has_room.true-raw) refl)
 
 pub copy_ad-requires : goal.copy_ad-requires
 copy_ad-requires c = let whole = whole_record c.args.alts.now c.args.gl.now c.args.ad.now in
-    let out = outputs c.args.alts_out.now c.args.gl_out.now c.args.ad-out.now in
+    let out = outputs c.args.alts_out.now c.args.gl_out.now c.args.ad_out.now in
     (room_of whole out (passed c.has_room.ensures c.if-not-has_room.false-raw)).ad
 
 pub returns : goal.returns
 returns c = let whole = whole_record c.args.alts.now c.args.gl.now c.args.ad.now in
-    let out = outputs c.args.alts_out.now c.args.gl_out.now c.args.ad-out.now in
+    let out = outputs c.args.alts_out.now c.args.gl_out.now c.args.ad_out.now in
     let fits = passed c.has_room.ensures c.if-not-has_room.false-raw in
     answered_written (with_room_lem whole out fits refl) refl refl refl (room_of whole out fits)
     (record {

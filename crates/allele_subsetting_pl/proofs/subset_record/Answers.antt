@@ -39,7 +39,7 @@ pub num_genotype_likelihoods-gl_len-requires : goal.num_genotype_likelihoods-gl_
 num_genotype_likelihoods-gl_len-requires c = (assigned_keep_list c.requires).few
 
 pub returns-then-not-has_room : goal.returns-then-not-has_room
-returns-then-not-has_room c = let out = outputs c.args.alts_out.now c.args.gl_out.now c.args.ad-out.now in
+returns-then-not-has_room c = let out = outputs c.args.alts_out.now c.args.gl_out.now c.args.ad_out.now in
     let fits = passed c.subset_fits.ensures c.if-not-subset_fits.false-raw in
     let counts = passed c.all_below.ensures c.if-not-all_below.false-raw in
     let measured = rw (tail_part c.args.keep.now) at c.alts_length-alts_len.ensures in
@@ -63,7 +63,7 @@ returns c = let alts = c.args.alts.now in
     let keep = c.args.keep.now in
     let gl = c.args.gl.now in
     let ad = c.args.ad.now in
-    let out = outputs c.args.alts_out.now c.args.gl_out.now c.args.ad-out.now in
+    let out = outputs c.args.alts_out.now c.args.gl_out.now c.args.ad_out.now in
     let fits = passed c.subset_fits.ensures c.if-not-subset_fits.false-raw in
     let counts = passed c.all_below.ensures c.if-not-all_below.false-raw in
     let measured = rw (tail_part c.args.keep.now) at c.alts_length-alts_len.ensures in
@@ -75,6 +75,6 @@ returns c = let alts = c.args.alts.now in
     (room_of (subset_record alts keep gl ad c.requires) out room)
     (record {
       alts = alts_stored alts keep gl ad c.requires (rw (tail_part c.args.keep.now) at c.put_alts.ensures);
-      likelihoods = likelihoods_stored alts keep gl ad c.requires c.args.gl-out.now fits c.subset_likelihoods.ensures;
-      ad = ad_stored alts keep gl ad c.requires c.args.ad-out.now c.subset_ad.ensures;
+      likelihoods = likelihoods_stored alts keep gl ad c.requires c.args.gl_out.now fits c.subset_likelihoods.ensures;
+      ad = ad_stored alts keep gl ad c.requires c.args.ad_out.now c.subset_ad.ensures;
     })

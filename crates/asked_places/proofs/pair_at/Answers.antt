@@ -23,7 +23,7 @@ returns-in_default-number c = let l = rw c.in-At.is at c.name_line-name.ensures 
     second_unread _ _ _ _ l.0 (rw c.in_default-number.is at c.number_line-number.ensures)
 
 pub overflow_add-next : goal.overflow_add-next
-overflow_add-next c = let l = rw c.in-Found.is at c.number_line-number.ensures in omega (arith, line_within _ _ _ number _ _ l, c.well-formed)
+overflow_add-next c = let l = rw c.in-Found.is at c.number_line-number.ensures in omega (arith, line_within _ _ _ number _ _ l, c.well_formed)
 
 pub returns : goal.returns
 unfolding key_of text PairRead

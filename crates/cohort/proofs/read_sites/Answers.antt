@@ -40,30 +40,30 @@ unfolding SiteRead
 returns-then-rows-count c = let to = (rw c.in-Site.is at c.site_at-group.ensures).0 in record { answer = no_row_answer _ _ _ _ _ _ _ c.loop-next.invariant.0 c.loop-next-test.true _ _ _ _ to (omega (arith, c.if-rows-count.true)); table = no_row _ _ _ _ _ _ _ c.loop-next.invariant.0 c.loop-next-test.true to.value (omega (arith, c.if-rows-count.true)) }
 
 pub contig_number-contig-requires : goal.contig_number-contig-requires
-contig_number-contig-requires c = c.loop.invariant.0.numbered.contigs
+contig_number-contig-requires c = c.loop-next.invariant.0.numbered.contigs
 
 pub put_site-requires : goal.put_site-requires
 put_site-requires c = omega (arith, c.if-rows-count.false)
 
 pub slice_bounds-put_numbers-end : goal.slice_bounds-put_numbers-end
-slice_bounds-put_numbers-end c = sym (c.site-at.auto.1.1.1.1.0 ∙ c.loop.invariant.1)
+slice_bounds-put_numbers-end c = sym (c.site_at-group.auto.1.1.1.1.0 ∙ c.loop.invariant.1)
 
 pub slice_bounds-put_numbers-end-in-Site : goal.slice_bounds-put_numbers-end-in-Site
-slice_bounds-put_numbers-end-in-Site c = sym (c.site-at.auto.1.1.1.1.1.0 ∙ c.loop.invariant.2)
+slice_bounds-put_numbers-end-in-Site c = sym (c.site_at-group.auto.1.1.1.1.1.0 ∙ c.loop.invariant.2)
 
 pub put_numbers-requires : goal.put_numbers-requires
 put_numbers-requires c = omega (arith, c.if1.false, c.put_site.auto.0)
 
 pub overflow_add-count-in-Site : goal.overflow_add-count-in-Site
-overflow_add-count-in-Site c = omega (arith, c.loop.invariant.0.few)
+overflow_add-count-in-Site c = omega (arith, c.loop-next.invariant.0.few)
 
 pub loop-next-smaller : goal.loop-next-smaller
 unfolding SiteRead
-loop-next-smaller c = let to = (rw c.in-Site.is at c.site-at.ensures).0 in omega (arith, to.forward, to.within)
+loop-next-smaller c = let to = (rw c.in-Site.is at c.site_at-group.ensures).0 in omega (arith, to.forward, to.within)
 
 pub loop-next-preserved : goal.loop-next-preserved
 unfolding SiteRead
-loop-next-preserved c = let g = rw c.in-Site.is at c.site-at.ensures in
+loop-next-preserved c = let g = rw c.in-Site.is at c.site_at-group.ensures in
     let ad_long = c.site-at.auto.1.1.1.1.0 ∙ c.loop.invariant.1 in
     let pl_long = c.site-at.auto.1.1.1.1.1.0 ∙ c.loop.invariant.2 in (
       numbers_read_lem c.loop.invariant.0 c.loop-test.true g.0 _

@@ -10,11 +10,11 @@ pub returns-then-rows-lt95234 : goal.returns-then-rows-lt95234
 returns-then-rows-lt95234 c = no_segments_given _ _ c.if-rows-lt95234.true
 
 pub bounds-rows-95233 : goal.bounds-rows-95233
-bounds-rows-95233 c = simp length-set (omega (arith, c.if-rows-lt95234.false, c.store_segments-stored.auto.rows.0))
+bounds-rows-95233 c = simp length-set (omega (arith, c.if-rows-lt95234.false, c.store_segments-stored.auto.rows))
 
 pub shape_of-rows : goal.shape_of-rows
-shape_of-rows c = simp length-set c.store_segments-stored.auto.rows.0
+shape_of-rows c = simp length-set c.store_segments-stored.auto.rows
 
 pub returns : goal.returns
-returns c = let room : 95234 ≤ length c.store_segments-stored.new.rows.0 = omega (arith, c.if-rows-lt95234.false, c.store_segments-stored.auto.1.0) in
+returns c = let room : 95234 ≤ length c.store_segments-stored.new.rows = omega (arith, c.if-rows-lt95234.false, c.store_segments-stored.auto.rows) in
     segments_given room c.store_segments-stored.ensures.stored c.store_segments-stored.ensures.counted

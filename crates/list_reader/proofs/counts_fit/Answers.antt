@@ -13,10 +13,10 @@ product : (k : ℕ) → k < 16 → (k + 1) * (k + 1 + 1) ≤ 16 * 17
 product k h = mul-le-mul {n₂ = 16} {m₂ = 17} (omega arith) (omega arith)
 
 pub returns-then-not-before : goal.returns-then-not-before
-returns-then-not-before c = rw (not-true c.args.before c.if-not-before.true)
+returns-then-not-before c = rw (c.if-not-before.true)
 
 pub returns-then-alts-ge16 : goal.returns-then-alts-ge16
-returns-then-alts-ge16 c = rw (not-false c.args.before c.if-not-before.false, le-ltb _ _ c.if-alts-ge16.true)
+returns-then-alts-ge16 c = rw (c.if-not-before.false, le-ltb _ _ c.if-alts-ge16.true)
 
 pub overflow_mul-genotypes : goal.overflow_mul-genotypes
 overflow_mul-genotypes c = omega (arith, product c.args.alts (omega arith))
@@ -24,7 +24,7 @@ overflow_mul-genotypes c = omega (arith, product c.args.alts (omega arith))
 pub returns-then-not-missing_or : goal.returns-then-not-missing_or
 unfolding genotype_count
 returns-then-not-missing_or c = rw (
-      not-false c.args.before c.if-not-before.false,
+      c.if-not-before.false,
       lt-ltb _ _ c.if-alts-ge16.false,
       ← add-one c.args.alts,
       ← add-one
@@ -35,7 +35,7 @@ returns-then-not-missing_or c = rw (
 pub returns : goal.returns
 unfolding genotype_count
 returns c = rw (
-      not-false c.args.before c.if-not-before.false,
+      c.if-not-before.false,
       lt-ltb _ _ c.if-alts-ge16.false,
       ← add-one c.args.alts,
       ← add-one

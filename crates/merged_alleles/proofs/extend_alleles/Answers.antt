@@ -22,14 +22,14 @@ pub extend_allele-step-requires : goal.extend_allele-step-requires
 extend_allele-step-requires c = (c.loop-next.invariant.listing, field_short _ _ _ c.loop-next.invariant (c.field_end-stop.ensures), c.requires.2)
 
 pub shape_of-alts-in_default : goal.shape_of-alts-in_default
-shape_of-alts-in_default c = c.extend_allele-step.auto.alts.1.0 ∙ c.loop-next.invariant.sized
+shape_of-alts-in_default c = c.extend_allele-step.auto.alts ∙ c.loop-next.invariant.sized
 
 pub returns-in_default : goal.returns-in_default
 unfolding Added
 returns-in_default c = fields_too_many _ _ _ c.loop-next.invariant (c.field_end-stop.ensures) (rw (c.in_default.is) at (c.extend_allele-step.ensures))
 
 pub shape_of-alts-then-list-stop : goal.shape_of-alts-then-list-stop
-shape_of-alts-then-list-stop c = c.extend_allele-step.auto.alts.1.0 ∙ c.loop-next.invariant.sized
+shape_of-alts-then-list-stop c = c.extend_allele-step.auto.alts ∙ c.loop-next.invariant.sized
 
 pub returns-then-list-stop : goal.returns-then-list-stop
 unfolding Added
@@ -40,4 +40,4 @@ loop-next-smaller c = omega (arith, c.field_end-stop.ensures)
 
 pub loop-next-preserved : goal.loop-next-preserved
 unfolding Added
-loop-next-preserved c = fields_more _ _ _ c.loop-next.invariant (c.field_end-stop.ensures) (rw (c.in-Alts.is) at (c.extend_allele-step.ensures)) (omega arith) (c.extend_allele-step.auto.alts.1.0)
+loop-next-preserved c = fields_more _ _ _ c.loop-next.invariant (c.field_end-stop.ensures) (rw (c.in-Alts.is) at (c.extend_allele-step.ensures)) (omega arith) (c.extend_allele-step.auto.alts)

@@ -19,7 +19,7 @@ pub remap_alleles-step-requires : goal.remap_alleles-step-requires
 remap_alleles-step-requires c = (c.loop-left.invariant.listing, every_at _ 0 (omega (arith, c.loop-left.invariant.within)) (c.requires.1.sites), c.requires.1.reference)
 
 pub shape_of-alts-in_default : goal.shape_of-alts-in_default
-shape_of-alts-in_default c = c.remap_alleles-step.auto.alts.1.1.1.1.0 ∙ c.loop-left.invariant.sized
+shape_of-alts-in_default c = c.remap_alleles-step.auto.alts ∙ c.loop-left.invariant.sized
 
 pub returns-in_default : goal.returns-in_default
 unfolding Added
@@ -27,7 +27,7 @@ returns-in_default c = sites_too_many _ _ _ _ _ _ c.loop-left.invariant c.loop-l
 
 pub loop-left-preserved : goal.loop-left-preserved
 unfolding Added
-loop-left-preserved c = sites_more _ _ _ _ _ _ c.loop-left.invariant c.loop-left-test.true (rw (c.in-Alts.is) at (c.remap_alleles-step.ensures)) (c.remap_alleles-step.auto.alts.1.1.1.1.0)
+loop-left-preserved c = sites_more _ _ _ _ _ _ c.loop-left.invariant c.loop-left-test.true (rw (c.in-Alts.is) at (c.remap_alleles-step.ensures)) (c.remap_alleles-step.auto.alts)
 
 pub shape_of-alts : goal.shape_of-alts
 shape_of-alts c = c.loop-left.invariant.sized
