@@ -22,13 +22,13 @@ put_in : {keep keep' : List ℕ} {count : ℕ} (a : ℕ) (b : Bool) → b ≡ tr
 put_in a b e h = rw e (record { next = refl; laid = h })
 
 pub returns-then-not-assigned : goal.returns-then-not-assigned
-returns-then-not-assigned c = left_out c.args.allele.0 c.args.assigned (c.if-not-assigned.true-raw)
+returns-then-not-assigned c = left_out c.args.allele.0 c.args.assigned (c.if-not-assigned.true)
 
 pub overflow_add-next : goal.overflow_add-next
-overflow_add-next c = omega (arith, room_for c.args.count c.args.allele.0 c.args.assigned (c.if-not-assigned.false-raw) c.requires)
+overflow_add-next c = omega (arith, room_for c.args.count c.args.allele.0 c.args.assigned (c.if-not-assigned.false) c.requires)
 
 pub returns-then-count-keep : goal.returns-then-count-keep
-returns-then-count-keep c = put_in c.args.allele.0 c.args.assigned (c.if-not-assigned.false-raw) (rw c.get-number.ensures)
+returns-then-count-keep c = put_in c.args.allele.0 c.args.assigned (c.if-not-assigned.false) (rw c.get-number.ensures)
 
 pub returns-else-count-keep : goal.returns-else-count-keep
-returns-else-count-keep c = put_in c.args.allele.0 c.args.assigned (c.if-not-assigned.false-raw) (sym (set_out _ _ _ c.if-count-keep.false))
+returns-else-count-keep c = put_in c.args.allele.0 c.args.assigned (c.if-not-assigned.false) (sym (set_out _ _ _ c.if-count-keep.false))

@@ -14,9 +14,9 @@ returns-then-keep-gt16 c = sym (too_many c.args.gl.now c.args.alleles c.args.kee
 
 pub returns-then-not-all_in_range : goal.returns-then-not-all_in_range
 returns-then-not-all_in_range c = sym (out_of_range c.args.gl.now c.args.alleles c.args.keep.now
-    (failed c.all_in_range.ensures c.if-not-all_in_range.true-raw))
+    (sym c.all_in_range.ensures ∙ c.if-not-all_in_range.true))
 
 pub returns : goal.returns
 returns c = c.all_below.ensures ∙ sym (only_alleles c.args.gl.now c.args.alleles c.args.keep.now
     (c.if-gl-num_genotype_likelihoods.false ∙ c.num_genotype_likelihoods.ensures)
-    c.if-keep-gt16.false (passed c.all_in_range.ensures c.if-not-all_in_range.false-raw))
+    c.if-keep-gt16.false (sym c.all_in_range.ensures ∙ c.if-not-all_in_range.false))

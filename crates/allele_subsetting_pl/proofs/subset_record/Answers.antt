@@ -1,6 +1,7 @@
 -- One check after the other.
 use Prim.Native.Nat.{◌<◌, ◌^◌, ℕ}
 use borrow.Author.Rules.{rules}
+use mathlib.Core.Path.{◌∙◌, sym}
 use borrow.Author.Tests.{not-false, not-true}
 use lib.Dec.{ltb}
 use lib.ListN.{length}
@@ -20,11 +21,11 @@ alt-numbers k h =
 
 pub returns-then-not-subset_fits : goal.returns-then-not-subset_fits
 returns-then-not-subset_fits c = answered_refused (refused_within _ (not_fitting c.args.alts.now c.args.keep.now c.args.gl.now
-    c.args.ad.now c.requires (failed c.subset_fits.ensures c.if-not-subset_fits.true-raw)))
+    c.args.ad.now c.requires (sym c.subset_fits.ensures ∙ c.if-not-subset_fits.true)))
 
 pub returns-then-not-all_below : goal.returns-then-not-all_below
 returns-then-not-all_below c = answered_refused (refused_within _ (without_ad c.args.alts.now c.args.keep.now c.args.gl.now
-    c.args.ad.now c.requires (failed c.all_below.ensures c.if-not-all_below.true-raw)))
+    c.args.ad.now c.requires (sym c.all_below.ensures ∙ c.if-not-all_below.true)))
 
 pub slice_bounds-numbers-count : goal.slice_bounds-numbers-count
 slice_bounds-numbers-count c = keeps_ref c.requires
@@ -40,8 +41,8 @@ num_genotype_likelihoods-gl_len-requires c = (assigned_keep_list c.requires).few
 
 pub returns-then-not-has_room : goal.returns-then-not-has_room
 returns-then-not-has_room c = let out = outputs c.args.alts_out.now c.args.gl_out.now c.args.ad_out.now in
-    let fits = passed c.subset_fits.ensures c.if-not-subset_fits.false-raw in
-    let counts = passed c.all_below.ensures c.if-not-all_below.false-raw in
+    let fits = sym c.subset_fits.ensures ∙ c.if-not-subset_fits.false in
+    let counts = sym c.all_below.ensures ∙ c.if-not-all_below.false in
     let measured = rw (tail_part c.args.keep.now) at c.alts_length-alts_len.ensures in
     answered_refused
     (without_room (subset_record c.args.alts.now c.args.keep.now c.args.gl.now c.args.ad.now c.requires) out
@@ -64,8 +65,8 @@ returns c = let alts = c.args.alts.now in
     let gl = c.args.gl.now in
     let ad = c.args.ad.now in
     let out = outputs c.args.alts_out.now c.args.gl_out.now c.args.ad_out.now in
-    let fits = passed c.subset_fits.ensures c.if-not-subset_fits.false-raw in
-    let counts = passed c.all_below.ensures c.if-not-all_below.false-raw in
+    let fits = sym c.subset_fits.ensures ∙ c.if-not-subset_fits.false in
+    let counts = sym c.all_below.ensures ∙ c.if-not-all_below.false in
     let measured = rw (tail_part c.args.keep.now) at c.alts_length-alts_len.ensures in
     let room = measured_room alts keep gl ad c.requires out c.has_room.ensures measured
     c.num_genotype_likelihoods-gl_len.ensures ∙ c.if-not-has_room.false in

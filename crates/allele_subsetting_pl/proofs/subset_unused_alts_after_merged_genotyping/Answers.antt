@@ -38,21 +38,25 @@ module _ (gt : List ℕ) {count r : ℕ} (before : List ℕ) {after : List ℕ} 
 
 pub returns-then-alt_alleles-gt15 : goal.returns-then-alt_alleles-gt15
 returns-then-alt_alleles-gt15 c = let args = c.args in
-    let out = outputs args.alts-out.now args.gl-out.now args.ad-out.now in
+    let out = outputs args.alts_out.now args.gl_out.now args.ad_out.now in
     let many = too_many_alts args.alts.now args.gt.now args.gl.now args.ad.now c.alt_count-alt_alleles.ensures c.if-alt_alleles-gt15.true in
-    with_none_above args.alts.now args.gt.now args.gl.now args.ad.now out
-    (answered_refused (within_is args.alts.now args.gt.now args.gl.now args.ad.now out ∙ refused_within out many))
+    let both =
+        with_none_above args.alts.now args.gt.now args.gl.now args.ad.now out
+        (answered_refused (within_is args.alts.now args.gt.now args.gl.now args.ad.now out ∙ refused_within out many)) in
+    record { answered = both.0; none_above = both.1 }
 
 pub returns-then-left-alleles : goal.returns-then-left-alleles
 returns-then-left-alleles c = let args = c.args in
-    let out = outputs args.alts-out.now args.gl-out.now args.ad-out.now in
+    let out = outputs args.alts_out.now args.gl_out.now args.ad_out.now in
     let all = sym (as_many args.gt.now _ c.if-alt_alleles-gt15.false refl c.output_allele_keep_indices_from_assigned_gt-left.ensures)
     ∙ c.if-left-alleles.true in
     let subset = all_named args.alts.now args.gt.now args.gl.now args.ad.now c.alt_count-alt_alleles.ensures c.if-alt_alleles-gt15.false all in
-    with_none_above args.alts.now args.gt.now args.gl.now args.ad.now out
-    (answered_as
-    (within_is args.alts.now args.gt.now args.gl.now args.ad.now out ∙ ap (λ s. subset_within s out) subset)
-    c.copy_record.ensures)
+    let both =
+        with_none_above args.alts.now args.gt.now args.gl.now args.ad.now out
+        (answered_as
+        (within_is args.alts.now args.gt.now args.gl.now args.ad.now out ∙ ap (λ s. subset_within s out) subset)
+        c.copy_record.ensures) in
+    record { answered = both.0; none_above = both.1 }
 
 pub slice_bounds-keep-end : goal.slice_bounds-keep-end
 slice_bounds-keep-end c = let args = c.args in
@@ -69,12 +73,15 @@ subset_record-requires c = let args = c.args in
 
 pub returns : goal.returns
 returns c = let args = c.args in
-    let out = outputs args.alts-out.now args.gl-out.now args.ad-out.now in
+    let out = outputs args.alts_out.now args.gl_out.now args.ad_out.now in
     let laid = c.output_allele_keep_indices_from_assigned_gt-left.ensures in
     let many = as_many args.gt.now _ c.if-alt_alleles-gt15.false refl laid in
     let subset = some_unnamed args.alts.now args.gt.now args.gl.now args.ad.now c.alt_count-alt_alleles.ensures c.if-alt_alleles-gt15.false
     (λ e. c.if-left-alleles.false (many ∙ e)) in
-    with_none_above args.alts.now args.gt.now args.gl.now args.ad.now out
-    (answered_as
-    (within_is args.alts.now args.gt.now args.gl.now args.ad.now out ∙ ap (λ s. subset_within s out) subset)
-    (rw (keep-front args.gt.now _ c.if-alt_alleles-gt15.false refl laid) at c.subset_record.ensures))
+    let both =
+        with_none_above args.alts.now args.gt.now args.gl.now args.ad.now out
+        (answered_as
+        (within_is args.alts.now args.gt.now args.gl.now args.ad.now out ∙ ap (λ s. subset_within s out) subset)
+        (rw (keep-front args.gt.now _ c.if-alt_alleles-gt15.false refl laid) at c.subset_record.ensures)) in
+    record { answered = both.0; none_above = both.1 }
+

@@ -24,8 +24,8 @@ pub returns-in-NoRoom : goal.returns-in-NoRoom
 unfolding CohortAt CohortFitting cohort_answer
 returns-in-NoRoom c = let r = rw c.in-NoRoom.is at c.read_fitting-read.ensures in record { answer = rw (le-ltb _ 128 c.if-names-lt128.false) r.0; tables = record {
         no_room = inr r.1;
-        names_cleared = c.clear_tables-in-NoRoom.ensures.1 ∙ scratch_same _ _ c.read_fitting-read.auto.rows.0;
-        rows_cleared = c.clear_tables-in-NoRoom.ensures.0 ∙ scratch_same _ _ c.read_fitting-read.auto.rows.1.0;
+        names_cleared = c.clear_tables-in-NoRoom.ensures.1 ∙ scratch_same _ _ c.read_fitting-read.auto.rows;
+        rows_cleared = c.clear_tables-in-NoRoom.ensures.0 ∙ scratch_same _ _ c.read_fitting-read.auto.rows;
       } }
 
 pub returns-in-Refused : goal.returns-in-Refused
@@ -33,6 +33,6 @@ unfolding CohortAt CohortFitting cohort_answer
 returns-in-Refused c = let r = rw c.in-Refused.is at c.read_fitting-read.ensures in record { answer = rw (le-ltb _ 128 c.if-names-lt128.false) r.0; tables = record {
         room = omega (arith, c.if-names-lt128.false);
         value = r.1;
-        names_cleared = c.clear_tables-in-Refused.ensures.1 ∙ scratch_same _ _ c.read_fitting-read.auto.rows.0;
-        rows_cleared = c.clear_tables-in-Refused.ensures.0 ∙ scratch_same _ _ c.read_fitting-read.auto.rows.1.0;
+        names_cleared = c.clear_tables-in-Refused.ensures.1 ∙ scratch_same _ _ c.read_fitting-read.auto.rows;
+        rows_cleared = c.clear_tables-in-Refused.ensures.0 ∙ scratch_same _ _ c.read_fitting-read.auto.rows;
       } }

@@ -52,7 +52,7 @@ returns-in_default-alternate c = alt_wrong _ _ _ _ (rw c.in-At.is at c.name_line
 
 pub overflow_add-next : goal.overflow_add-next
 overflow_add-next c = let h = line_within _ _ _ some _ _ (rw c.in-At-alternate.is at c.value_line-alternate.ensures).0 in omega
-    (arith, h, c.well-formed)
+    (arith, h, c.well_formed)
 
 pub returns : goal.returns
 unfolding key_of text

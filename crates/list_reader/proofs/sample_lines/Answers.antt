@@ -55,7 +55,7 @@ returns-in_default-depths c = let g = rw c.in-End.is at c.gt_line-genotype.ensur
 
 pub overflow_add-e4 : goal.overflow_add-e4
 overflow_add-e4 c = let h = line_within _ _ _ (or_missing number_list) _ _ (rw c.in-Part.is at c.part_line-depths.ensures).0 in omega
-    (arith, h, c.well-formed)
+    (arith, h, c.well_formed)
 
 pub returns-in_default-likelihoods : goal.returns-in_default-likelihoods
 unfolding GtRead key_of text
@@ -68,7 +68,7 @@ returns-in_default-likelihoods c = let g = rw c.in-End.is at c.gt_line-genotype.
 
 pub overflow_add-next : goal.overflow_add-next
 overflow_add-next c = let h = line_within _ _ _ (or_missing number_list) _ _ (rw c.in-Part-likelihoods.is at c.part_line-likelihoods.ensures).0 in omega
-    (arith, h, c.well-formed)
+    (arith, h, c.well_formed)
 
 pub returns : goal.returns
 unfolding GtRead key_of text
@@ -78,4 +78,4 @@ returns c = let g = rw c.in-End.is at c.gt_line-genotype.ensures in
     sample_read_lem _ _ _ _ _ g.line _ _ (rw c.in-Found.is at c.code_line-quality.ensures) _ _
     (rw c.in-Found-depth.is at c.code_line-depth.ensures) _ _
     (rw c.in-Found-least.is at c.code_line-least.ensures) _ _ _ depths.0 depths.1 _ _ _ likelihoods.0 likelihoods.1
-    (omega (arith, c.known_told-in-Found-depth-1.given))
+    (omega (arith, c.in-Found-depth.known_told-in-Found-depth-1-own.given))

@@ -16,11 +16,11 @@ put_alt-last-requires c = omega (arith, c.requires.small, c.requires.few)
 
 pub returns-then-not-shown : goal.returns-then-not-shown
 unfolding AltsLaid spelled text
-returns-then-not-shown c = rw (c.if-not-shown.true-raw) (ended (c.requires) (c.put_alt-last.ensures))
+returns-then-not-shown c = rw (c.if-not-shown.true) (ended (c.requires) (c.put_alt-last.ensures))
 
 pub returns-then-n-ge14 : goal.returns-then-n-ge14
 unfolding AltsLaid
-returns-then-n-ge14 c = rw (c.if-not-shown.false-raw) (one_too_many (c.requires) c.if-n-ge14.true)
+returns-then-n-ge14 c = rw (c.if-not-shown.false) (one_too_many (c.requires) c.if-n-ge14.true)
 
 pub put_alt-next-requires : goal.put_alt-next-requires
 put_alt-next-requires c = omega (arith, c.requires.small, c.requires.few)
@@ -30,4 +30,4 @@ put_alt-last-requires-2 c = omega (arith, c.put_alt-next.ensures.next, length-ap
 
 pub returns : goal.returns
 unfolding AltsLaid spelled text
-returns c = rw (c.if-not-shown.false-raw) (ended_shown (c.requires) c.if-n-ge14.false (c.put_alt-next.ensures) (c.put_alt-last-2.ensures))
+returns c = rw (c.if-not-shown.false) (ended_shown (c.requires) c.if-n-ge14.false (c.put_alt-next.ensures) (c.put_alt-last-2.ensures))

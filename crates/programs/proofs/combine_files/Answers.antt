@@ -7,12 +7,12 @@ use Rattle.programs.proofs.combine_files.Goals as goal
 
 pub returns-then-any_too_long : goal.returns-then-any_too_long
 returns-then-any_too_long c = let args = c.args in
-    files_refused args.of-cohort args.of-clip args.of-reference args.cohort.now args.clip.now args.reference.now
+    files_refused args.of_cohort args.of_clip args.of_reference args.cohort.now args.clip.now args.reference.now
     (sym c.any_too_long.ensures ∙ c.if-any_too_long.true) refl c.clear_places.ensures
 
 pub returns : goal.returns
 returns c = let args = c.args in
-    files_combined args.of-cohort args.of-clip args.of-reference args.cohort.now args.clip.now args.reference.now
+    files_combined args.of_cohort args.of_clip args.of_reference args.cohort.now args.clip.now args.reference.now
     (sym c.any_too_long.ensures ∙ c.if-any_too_long.false) c.text.ensures
     c.is_text.ensures c.text-2.ensures c.is_text-2.ensures c.text-3.ensures
     (omega (arith, c.combine-arg-1.given)) (omega (arith, c.combine-arg-2-1.given)) c.combine.ensures

@@ -8,12 +8,12 @@ use Rattle.programs.proofs.looks_asked.Goals as goal
 
 pub returns-in_default : goal.returns-in_default
 returns-in_default c = let args = c.args in
-    asked_refused args.of-cohort args.of-clip args.of-reference args.cohort.now args.clip.now args.reference.now
+    asked_refused args.of_cohort args.of_clip args.of_reference args.cohort.now args.clip.now args.reference.now
     c.requires (rw c.in_default.is at c.asked_contig-name.ensures) c.clear_places.ensures
 
 pub returns : goal.returns
 returns c = let args = c.args in
-    asked_looked args.of-cohort args.of-clip args.of-reference args.cohort.now args.clip.now args.reference.now
+    asked_looked args.of_cohort args.of_clip args.of_reference args.cohort.now args.clip.now args.reference.now
     c.requires ((rw c.in-At.is at c.asked_contig-name.ensures) ∙ ap accepted (sym c.part.ensures))
     c.text.ensures c.is_text-clipped.ensures c.text-2.ensures
     c.is_text-referenced.ensures c.text-3.ensures (omega (arith, c.looks-arg-1.given)) c.looks.ensures

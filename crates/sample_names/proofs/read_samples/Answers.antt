@@ -25,7 +25,7 @@ returns-in-Refused-read c = let n = rw c.in-Count.is at c.samples_line-line.ensu
     record {
       room = c.if-names-lt128.false;
       value = header_refused _ _ _ n _ (rw c.in-Refused-read.is at c.sample_lines-read.ensures);
-      cleared = c.clear-in-Refused-read.ensures ∙ scratch_same _ _ c.sample_lines-read.auto.names.names.1.0;
+      cleared = c.clear-in-Refused-read.ensures ∙ scratch_same _ _ c.sample_lines-read.auto.names;
     }
 
 pub returns-in-Next : goal.returns-in-Next

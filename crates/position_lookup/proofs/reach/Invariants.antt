@@ -1,0 +1,21 @@
+-- In each turn a group is read; what is left for the place is the same.
+use Prim.Native.Nat.{◌-◌}
+use Rattle.asked_places.specs.Asked.{place_with}
+use Rattle.definitions.specs.Records.{Record}
+use Rattle.list_walk.specs.Walk.{SteppedFrom}
+use Rattle.position_lookup.proofs.Reaching.{Reaching, reaching_end, reaching_next, reaching_reached, reaching_refused, reaching_start}
+use Rattle.position_lookup.specs.Found.{Reaches, StandsAt}
+use borrow.Author.Rules.{rules}
+use lib.ListN.{length}
+use mathlib.Core.List.{List}
+use mathlib.Core.Path.{◌∙◌, sym}
+use native.Mathlib.Omega.{arith}
+use Rattle.position_lookup.proofs.reach.Given as goal
+
+abbrev pub invariant-loop-header : goal.invariant-loop-header
+invariant-loop-header l = (before : List Record) → StandsAt l.list before
+    (record { l.cursor = l.initial.cursor; l.first = l.initial.first })
+    → Reaching l.list l.header (record { l.cursor = l.initial.cursor; l.first = l.initial.first }) (place_with l.contig l.position) before (record { l.cursor = l.cursor; l.first = l.first })
+
+abbrev pub decreases-loop-header : goal.decreases-loop-header
+decreases-loop-header l = length l.list - l.cursor.next

@@ -1,0 +1,16 @@
+-- The places from an offset on are left.
+use Prim.Native.Nat.{◌-◌}
+use Rattle.asked_places.specs.Asked.{PairRead}
+use Rattle.position_lookup.proofs.Searching.{Searching, searching_end, searching_few, searching_next, searching_refused, searching_stands, searching_start, searching_wrong}
+use Rattle.position_lookup.specs.Found.{PairsReady, PairsSearched, Reaches}
+use borrow.Author.Rules.{rules}
+use lib.ListN.{length}
+use mathlib.Core.Path.{refl}
+use native.Mathlib.Omega.{arith}
+use Rattle.position_lookup.proofs.search_pairs.Given as goal
+
+abbrev pub invariant-loop-at : goal.invariant-loop-at
+invariant-loop-at l = (ready : PairsReady l.asked l.header) → Searching l.list l.header l.asked l.initial.found ready l.search l.at l.count l.found
+
+abbrev pub decreases-loop-at : goal.decreases-loop-at
+decreases-loop-at l = length l.asked - l.at
