@@ -1,4 +1,2 @@
 pub mod Entries
 pub mod OwnSites
-pub mod Again
-pub mod LocalArray

@@ -15,28 +15,28 @@ returns-then-count-places c = stored c.requires.ready _ c.requires.place_bound c
 
 pub make_room-room-requires : goal.make_room-room-requires
 make_room-room-requires c = let ready = c.requires.ready in
-    (ready.room, joinable_all ready c.if-count-places.false)
+    record { in_bounds = ready.room; joinable = joinable_all ready c.if-count-places.false }
 
 pub returns-then-room-position : goal.returns-then-room-position
 returns-then-room-position c = let made = c.make_room-room in
-    passed_full c.requires.ready c.if-count-places.false made.ensures made.auto.0 _ c.requires.place_bound (behind_window _ _ _ c.if-room-position.true)
+    passed_full c.requires.ready c.if-count-places.false made.ensures made.auto.places _ c.requires.place_bound (behind_window _ _ _ c.if-room-position.true)
 
 pub offset_bounds-places-at : goal.offset_bounds-places-at
 offset_bounds-places-at c = let made = c.make_room-room in
-    let free = has_room c.requires.ready c.if-count-places.false made.ensures made.auto.0 in
+    let free = has_room c.requires.ready c.if-count-places.false made.ensures made.auto.places in
     search rules
 
 pub bounds-places-at : goal.bounds-places-at
 bounds-places-at c = let made = c.make_room-room in
-    let free = has_room c.requires.ready c.if-count-places.false made.ensures made.auto.0 in
+    let free = has_room c.requires.ready c.if-count-places.false made.ensures made.auto.places in
     search rules
 
 pub overflow_add-result-2 : goal.overflow_add-result-2
 overflow_add-result-2 c = let made = c.make_room-room in
-    let free = has_room c.requires.ready c.if-count-places.false made.ensures made.auto.0 in
+    let free = has_room c.requires.ready c.if-count-places.false made.ensures made.auto.places in
     search rules
 
 pub returns : goal.returns
 returns c = let made = c.make_room-room in
-    stored_full c.requires.ready c.if-count-places.false made.ensures made.auto.0 _ c.requires.place_bound
+    stored_full c.requires.ready c.if-count-places.false made.ensures made.auto.places _ c.requires.place_bound
     (in_window _ _ _ c.if-position-past.false c.if-room-position.false)

@@ -103,7 +103,7 @@ overflow_add-position c = let small = c.loop-position.invariant.added.ready.limi
 
 pub add_place-now-requires : goal.add_place-now-requires
 add_place-now-requires c = let ready = c.loop-position.invariant.added.ready in
-    (ready, rw (plain_weigh _ (_ ∷ [])) ready.light)
+    record { ready = ready; place_bound = rw (plain_weigh _ (_ ∷ [])) ready.light }
 
 pub loop-position-preserved : goal.loop-position-preserved
 loop-position-preserved c = let put = c.add_place-now in

@@ -79,10 +79,10 @@ overflow_add-start c = let in_range_lem = c.requires.start_le_max_number.0 in
 
 pub add_place-started-requires : goal.add_place-started-requires
 add_place-started-requires c = let args = c.args in
-    let on = not-false args.on c.if-not-on.false in
+    let on = c.if-not-on.false in
     let light =
     light-start args.on args.loc on c.get-start.ensures c.get-next.ensures args.taken args.places.now in
-    (c.requires.ready, light c.requires.start_le_max_number.1)
+    record { ready = c.requires.ready; place_bound = light c.requires.start_le_max_number.1 }
 
 pub overflow_mul-next : goal.overflow_mul-next
 unfolding max_number
@@ -99,7 +99,7 @@ overflow_add-next-2 c = let in_range_lem = c.requires.start_le_max_number.0 in
 pub add_place-requires : goal.add_place-requires
 add_place-requires c = let put = c.add_place-started in
     let light = c.requires.start_le_max_number.1 in
-    (put.ensures.ready, light-end _ _ (c.if-not-on.false) c.get-start.ensures c.get-next.ensures _ _ light put.ensures)
+    record { ready = put.ensures.ready; place_bound = light-end _ _ (c.if-not-on.false) c.get-start.ensures c.get-next.ensures _ _ light put.ensures }
 
 pub returns : goal.returns
 returns c = let put = c.add_place-started in

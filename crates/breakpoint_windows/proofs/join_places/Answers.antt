@@ -96,7 +96,7 @@ module _ {entry places : List ℕ} {last at k : ℕ} (inv : Inv entry places las
         }
 
 pub returns-then-len-eq0 : goal.returns-then-len-eq0
-returns-then-len-eq0 c = (omega arith, none_there _ c.if-len-eq0.true)
+returns-then-len-eq0 c = record { few = omega arith; joined = none_there _ c.if-len-eq0.true }
 
 pub loop-k-init : goal.loop-k-init
 loop-k-init c = start _ (omega arith) c.requires
@@ -116,4 +116,4 @@ loop-k-preserved c = ⊎_elim (λ w. rw (w.1, w.2, w.3, add-one c.loop-k.k) (tur
 
 pub returns : goal.returns
 returns c = let inv = c.loop-k.invariant in
-    (omega (arith, inv.below, inv.within), ended inv (omega (arith, inv.long)))
+    record { few = omega (arith, inv.below, inv.within); joined = ended inv (omega (arith, inv.long)) }

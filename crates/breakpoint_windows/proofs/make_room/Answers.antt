@@ -40,12 +40,12 @@ module _ (limit : ℕ) {entry exit : List ℕ} {r : ℕ} (long : length exit ≡
       }
 
 pub settle-count-requires : goal.settle-count-requires
-settle-count-requires c = (omega arith, rw (take-length _) c.requires.joinable)
+settle-count-requires c = record { count_in_bounds = omega arith; joinable = rw (take-length _) c.requires.joinable }
 
 pub returns-then-count-half : goal.returns-then-count-half
 returns-then-count-half c = let settled = c.settle-count in
-    enough _ settled.auto.0 settled.ensures c.if-count-half.true
+    enough _ settled.auto.places settled.ensures c.if-count-half.true
 
 pub returns : goal.returns
 returns c = let settled = c.settle-count in
-    dropped _ settled.auto.0 settled.ensures c.if-count-half.false
+    dropped _ settled.auto.places settled.ensures c.if-count-half.false

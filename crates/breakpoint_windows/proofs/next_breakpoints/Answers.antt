@@ -69,11 +69,11 @@ module _ (rows sites clip contig : List ℕ) (short : length clip ≤ max_text_l
 
 pub add_spans-taken-requires : goal.add_spans-taken-requires
 add_spans-taken-requires c = let sited = c.add_sites-of_sites in
-    (sited.ensures.ready, light _ _ _ _ c.requires.every.1 sited.ensures)
+    record { ready = sited.ensures.ready; contig_bound = light _ _ _ _ c.requires.every.1 sited.ensures }
 
 pub settle-count-requires : goal.settle-count-requires
 settle-count-requires c = let ready = c.add_spans-taken.ensures.ready in
-    (ready.within_places, joinable ready)
+    record { count_in_bounds = ready.within_places; joinable = joinable ready }
 
 pub returns : goal.returns
 returns c = let settled = c.settle-count in

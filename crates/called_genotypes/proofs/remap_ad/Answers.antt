@@ -10,13 +10,13 @@ pub returns-then-ad-x : goal.returns-then-ad-x
 returns-then-ad-x c = rw (none_dropped (c.args.dropped.0) (c.args.ad.now) (omega (arith, c.get-x.ensures, c.if-ad-x.true))) (laid_filled (c.store_values.ensures))
 
 pub slice_bounds-store_values-end : goal.slice_bounds-store_values-end
-slice_bounds-store_values-end c = omega (arith, length-take (c.get.result) (c.args.ad.now), c.if1.false)
+slice_bounds-store_values-end c = omega (arith, length-take (c.get-x.result) (c.args.ad.now), c.if-ad-x.false)
 
 pub store_values-next-requires : goal.store_values-next-requires
-store_values-next-requires c = omega (arith, length-take (c.get.result) (c.args.ad.now))
+store_values-next-requires c = omega (arith, length-take (c.get-x.result) (c.args.ad.now))
 
 pub store_values-requires-2 : goal.store_values-requires-2
-store_values-requires-2 c = omega (arith, c.if1.false, c.store_values-next.ensures.next, length-take (c.get.result) (c.args.ad.now), length-drop (c.get.result + 1) (c.args.ad.now))
+store_values-requires-2 c = omega (arith, c.if-ad-x.false, c.store_values-next.ensures.next, length-take (c.get-x.result) (c.args.ad.now), length-drop (c.get-x.result + 1) (c.args.ad.now))
 
 pub returns : goal.returns
-returns c = parts_stored (c.args.dropped.0) (c.args.ad.now) (c.get.ensures) (c.store_values-next.ensures) (c.store_values-2.ensures)
+returns c = parts_stored (c.args.dropped.0) (c.args.ad.now) (c.get-x.ensures) (c.store_values-next.ensures) (c.store_values-2.ensures)

@@ -23,12 +23,12 @@ pub returns-in-NoRoom-sites : goal.returns-in-NoRoom-sites
 unfolding CohortFitting Header SitesRead
 returns-in-NoRoom-sites c = let h = rw c.in-Samples.is at c.read_samples-header.ensures in
     let r = rw c.in-NoRoom-sites.is at c.read_sites-sites.ensures in
-    record { answer = sites_said _ c.if-s-gt16777216.false _ _ _ h.value h.behind _ _ (r.0 _ (names_count _ _ _)); tables = r.1 }
+    record { answer = sites_said _ c.if-s-gt16777216.false _ _ _ h.value h.behind _ _ (r.answer _ (names_count _ _ _)); tables = r.table }
 
 pub returns-in-Refused-sites : goal.returns-in-Refused-sites
 unfolding CohortFitting Header SitesRead
 returns-in-Refused-sites c = let h = rw c.in-Samples.is at c.read_samples-header.ensures in
-    let r = rw c.in-Refused-sites.is at c.read_sites-sites.ensures in record { answer = sites_said _ c.if-s-gt16777216.false _ _ _ h.value h.behind _ _ (r.0 _ (names_count _ _ _)); tables = sites_refused _ c.if-s-gt16777216.false _ _ _ h.value h.behind _ (r.1 _ (names_count _ _ _)) }
+    let r = rw c.in-Refused-sites.is at c.read_sites-sites.ensures in record { answer = sites_said _ c.if-s-gt16777216.false _ _ _ h.value h.behind _ _ (r.answer _ (names_count _ _ _)); tables = sites_refused _ c.if-s-gt16777216.false _ _ _ h.value h.behind _ (r.table _ (names_count _ _ _)) }
 
 pub returns-in-Sites : goal.returns-in-Sites
 unfolding CohortFitting Header SitesRead

@@ -46,13 +46,13 @@ pub put_site-requires : goal.put_site-requires
 put_site-requires c = omega (arith, c.if-rows-count.false)
 
 pub slice_bounds-put_numbers-end : goal.slice_bounds-put_numbers-end
-slice_bounds-put_numbers-end c = sym (c.site_at-group.auto.pl ∙ c.loop.invariant.1)
+slice_bounds-put_numbers-end c = sym (c.site_at-group.auto.ad ∙ c.loop-next.invariant.1)
 
 pub slice_bounds-put_numbers-end-in-Site : goal.slice_bounds-put_numbers-end-in-Site
-slice_bounds-put_numbers-end-in-Site c = sym (c.site_at-group.auto.pl ∙ c.loop.invariant.2)
+slice_bounds-put_numbers-end-in-Site c = sym (c.site_at-group.auto.pl ∙ c.loop-next.invariant.2)
 
 pub put_numbers-requires : goal.put_numbers-requires
-put_numbers-requires c = omega (arith, c.if1.false, c.put_site.auto.0)
+put_numbers-requires c = omega (arith, c.if-rows-count.false, c.put_site.auto.rows)
 
 pub overflow_add-count-in-Site : goal.overflow_add-count-in-Site
 overflow_add-count-in-Site c = omega (arith, c.loop-next.invariant.0.few)
@@ -64,10 +64,10 @@ loop-next-smaller c = let to = (rw c.in-Site.is at c.site_at-group.ensures).0 in
 pub loop-next-preserved : goal.loop-next-preserved
 unfolding SiteRead
 loop-next-preserved c = let g = rw c.in-Site.is at c.site_at-group.ensures in
-    let ad_long = c.site_at-group.auto.pl ∙ c.loop.invariant.1 in
-    let pl_long = c.site-at.auto.1.1.1.1.1.0 ∙ c.loop.invariant.2 in (
-      numbers_read_lem c.loop.invariant.0 c.loop-test.true g.0 _
-          (rw c.part.ensures at c.contig_number-contig.ensures) (omega (arith, c.if1.false))
+    let ad_long = c.site_at-group.auto.ad ∙ c.loop-next.invariant.1 in
+    let pl_long = c.site_at-group.auto.pl ∙ c.loop-next.invariant.2 in (
+      numbers_read_lem c.loop-next.invariant.0 c.loop-next-test.true g.0 _
+          (rw c.part-name.ensures at c.contig_number-contig.ensures) (omega (arith, c.if-rows-count.false))
           (record { ad₀ = _; pl₀ = _; ad_stored = g.1.0; pl_stored = g.1.1; ad_long = ad_long; pl_long = pl_long }) c.put_site.ensures
           c.put_numbers.ensures,
       ad_long,

@@ -88,9 +88,9 @@ unfolding key_of text
 put_number_line-requires c = (recast (lines_end _ _ _ _ _ c.loop-i-test.false) c.loop-i.invariant).fits
 
 pub shape_of-out : goal.shape_of-out
-shape_of-out c = c.put_number_line.auto.0
+shape_of-out c = c.put_number_line.auto.out
     ∙ left_length c.loop-i.invariant
-    ∙ c.put_number_line-next.auto.0
+    ∙ c.put_number_line-next.auto.out
 
 pub returns : goal.returns
 unfolding key_of text

@@ -16,7 +16,7 @@ use Rattle.tables.specs.Tables.{name_at}
 use Rattle.list_header.proofs.put_header.Given as goal
 
 abbrev pub invariant-loop-i : goal.invariant-loop-i
-invariant-loop-i l = Left out₀ next₀ (lines_from s names samples records 0) out next (lines_from s names samples records i)
+invariant-loop-i l = Left l.initial.out l.initial.next (lines_from l.s l.names l.samples l.records 0) l.out l.next (lines_from l.s l.names l.samples l.records l.i)
 
 abbrev pub decreases-loop-i : goal.decreases-loop-i
-decreases-loop-i l = samples - i
+decreases-loop-i l = l.samples - l.i

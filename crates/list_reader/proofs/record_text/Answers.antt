@@ -35,7 +35,7 @@ unfolding SampleRead comma
 loop-i-preserved c = sample_next _ _ _ _ _ _ _ _ _ _ c.loop-i.invariant c.loop-i-test.true _
     (rw c.part.ensures at c.count_fields-alts.ensures)
     _ (rw c.in-Sample.is at c.sample_lines-lines.ensures) c.requires
-    (record { sample = _; contig = _; start = _; end = _; next = 0 }) _ c.put_site.auto.0 c.put_site.ensures _ _
+    (record { sample = _; contig = _; start = _; end = _; next = 0 }) _ c.put_site.auto.rows c.put_site.ensures _ _
     c.some_pl-has_pl.ensures c.counts_fit-fit.ensures
 
 pub returns : goal.returns

@@ -13,3 +13,7 @@ returns-then-k-ge-TOO_MANY_NUMBERS c = column_past (c.args.k) _ (c.args.marker) 
 
 pub returns-then-rows-place : goal.returns-then-rows-place
 returns-then-rows-place c = column_past (c.args.k) _ (c.args.marker) (omega arith)
+
+pub returns : goal.returns
+unfolding column
+returns c = search rules

@@ -17,29 +17,29 @@ returns-then-count-ge500 c = too_many (rw (c.in-Lines.is) at (c.marker_lines-tex
 
 pub returns-then-find_marker-count : goal.returns-then-find_marker-count
 unfolding LinesRead MarkerRead
-returns-then-find_marker-count c = let f = rw c.part.ensures at c.find_marker.ensures in
-    repeated (rw c.in-Lines.is at c.marker-lines.ensures) _ _ (omega (arith, c.if1.false))
+returns-then-find_marker-count c = let f = rw c.part-name.ensures at c.find_marker.ensures in
+    repeated (rw c.in-Lines.is at c.marker_lines-text.ensures) _ _ (omega (arith, c.if-count-ge500.false))
     (found_any _ _ _ _ (rw f at c.if-find_marker-count.true))
 
 pub after_markers-found-requires : goal.after_markers-found-requires
 unfolding LinesRead
-after_markers-found-requires c = let l = rw c.in-Lines.is at c.marker-lines.ensures in
-    (rw c.part2.ensures l.few, refl)
+after_markers-found-requires c = let l = rw c.in-Lines.is at c.marker_lines-text.ensures in
+    (rw c.part-list.ensures l.few, refl)
 
 pub returns-in_default-found : goal.returns-in_default-found
 unfolding LinesRead MarkerRead AftersFound
-returns-in_default-found c = let f = rw c.part.ensures at c.find-marker.ensures in
-    let new = found_none _ _ _ _ (rw f at c.if2.false) in
-    unnamed (rw c.in-Lines.is at c.marker-lines.ensures) _ _ (omega (arith, c.if1.false)) new
-    (rw (c.part2.ensures, c.in_default-found.is) at c.after_markers-found.ensures)
+returns-in_default-found c = let f = rw c.part-name.ensures at c.find_marker.ensures in
+    let new = found_none _ _ _ _ (rw f at c.if-find_marker-count.false) in
+    unnamed (rw c.in-Lines.is at c.marker_lines-text.ensures) _ _ (omega (arith, c.if-count-ge500.false)) new
+    (rw (c.part-list.ensures, c.in_default-found.is) at c.after_markers-found.ensures)
 
 pub put_marker-requires : goal.put_marker-requires
-put_marker-requires c = omega (arith, c.requires, c.if1.false)
+put_marker-requires c = omega (arith, c.requires, c.if-count-ge500.false)
 
 pub returns : goal.returns
 unfolding LinesRead MarkerRead AftersFound
-returns c = let f = rw c.part.ensures at c.find-marker.ensures in
-    let new = found_none _ _ _ _ (rw f at c.if2.false) in
-    marker_to (rw c.in-Lines.is at c.marker-lines.ensures) _ _ (omega (arith, c.if1.false)) new _ _
-    (rw (c.part2.ensures, c.in-Markers.is) at c.after_markers-found.ensures) c.requires _
+returns c = let f = rw c.part-name.ensures at c.find_marker.ensures in
+    let new = found_none _ _ _ _ (rw f at c.if-find_marker-count.false) in
+    marker_to (rw c.in-Lines.is at c.marker_lines-text.ensures) _ _ (omega (arith, c.if-count-ge500.false)) new _ _
+    (rw (c.part-list.ensures, c.in-Markers.is) at c.after_markers-found.ensures) c.requires _
     c.put_marker.ensures

@@ -20,13 +20,13 @@ pub marker_at-found-requires : goal.marker_at-found-requires
 marker_at-found-requires c = omega (arith, c.loop-at.invariant.0.long, c.loop-at.invariant.1)
 
 pub shape_of-rows-in-Refused : goal.shape_of-rows-in-Refused
-shape_of-rows-in-Refused c = c.clear.auto.0 ∙ c.marker_at-found.auto.1.1.0 ∙ c.loop-at.invariant.0.long
+shape_of-rows-in-Refused c = c.clear.auto.table ∙ c.marker_at-found.auto.rows ∙ c.loop-at.invariant.0.long
 
 pub returns-in-Refused : goal.returns-in-Refused
 unfolding MarkersRead MarkerRead
 returns-in-Refused c = record {
       value = reading_refused c.loop-at.invariant.0 c.loop-at-test.true _ (rw c.in-Refused.is at c.marker_at-found.ensures);
-      cleared = c.clear.ensures ∙ scratch_same _ _ (c.marker_at-found.auto.1.1.0 ∙ c.loop-at.invariant.0.long);
+      cleared = c.clear.ensures ∙ scratch_same _ _ (c.marker_at-found.auto.rows ∙ c.loop-at.invariant.0.long);
     }
 
 pub overflow_add-count : goal.overflow_add-count
@@ -40,7 +40,7 @@ pub loop-at-preserved : goal.loop-at-preserved
 unfolding MarkerRead
 loop-at-preserved c = (
       reading_next c.loop-at.invariant.0 c.loop-at-test.true _ _ (rw c.in-Next.is at c.marker_at-found.ensures)
-          c.marker_at-found.auto.1.1.0,
+          c.marker_at-found.auto.rows,
       c.loop-at.invariant.1,
     )
 

@@ -28,7 +28,7 @@ returns-then-bases-index c = let a = c.args in
     too_late a.reference.now a.contig.now _ a.contig-at a.contig-end a.first.0 a.bases-at a.bases-end on low late
 
 pub overflow_add-result : goal.overflow_add-result
-overflow_add-result c = omega (arith, (part_room c.args.reference.now c.args.bases_at c.args.bases_end _ (rw c.part-bases.ensures at c.if-bases-index.false)).0)
+overflow_add-result c = omega (arith, (part_room c.args.reference.now c.args.bases-at c.args.bases-end _ (rw c.part-bases.ensures at c.if-bases-index.false)).0)
 
 pub returns : goal.returns
 returns c = let a = c.args in

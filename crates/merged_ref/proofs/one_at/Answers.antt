@@ -10,4 +10,4 @@ pub returns-then-i-text : goal.returns-then-i-text
 returns-then-i-text c = let e : c.args.i + 1 - c.args.i ≡ 1 = omega arith in rw e
 
 pub returns : goal.returns
-returns c = rw (drop_of_length-le _ c.if1.false)
+returns c = rw (drop_of_length-le _ c.if-i-text.false)

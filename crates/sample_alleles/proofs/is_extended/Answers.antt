@@ -15,7 +15,7 @@ pub returns-then-allele-n-2 : goal.returns-then-allele-n-2
 returns-then-allele-n-2 c = sym (other_length c.args.allele.now c.args.bases.now c.args.tail.now c.if-allele-n-2.true)
 
 pub slice_bounds-same_letters-end : goal.slice_bounds-same_letters-end
-slice_bounds-same_letters-end c = sym (length-take-le _ _ (c.if1.false))
+slice_bounds-same_letters-end c = sym (length-take-le _ _ (c.if-allele-n.false))
 
 pub returns-then-not-same_letters : goal.returns-then-not-same_letters
 returns-then-not-same_letters c = sym (other_front c.args.allele.now c.args.bases.now c.args.tail.now
@@ -32,4 +32,4 @@ pub returns : goal.returns
 returns c = ap not c.is_non_ref.ensures ∙ same_parts c.args.allele.now c.args.bases.now c.args.tail.now
     (sym c.same_letters.ensures ∙ c.if-not-same_letters.false)
     (sym (rw (rest c.args.allele.now _) at c.same_letters-2.ensures) ∙ not-false _
-    c.if-not-same_letters-2.false) (sym c.is_span_del.ensures ∙ c.if-is_span_del.false)
+    c.if-not-same_letters-2.false-raw) (sym c.is_span_del.ensures ∙ c.if-is_span_del.false)

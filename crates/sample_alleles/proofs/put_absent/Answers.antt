@@ -20,7 +20,7 @@ pub loop-i-smaller : goal.loop-i-smaller
 loop-i-smaller c = omega (arith, c.loop-i-test.true)
 
 pub loop-i-preserved : goal.loop-i-preserved
-loop-i-preserved c = next_unput _ _ _ _ (c.loop-i.invariant) {wanted = true} (c.loop-i-test.true) refl (c.put_index.ensures) (c.put_index.auto.0)
+loop-i-preserved c = next_unput _ _ _ _ (c.loop-i.invariant) {wanted = true} (c.loop-i-test.true) refl (c.put_index.ensures) (c.put_index.auto.map)
 
 pub shape_of-map : goal.shape_of-map
 shape_of-map c = c.loop-i.invariant.long

@@ -10,22 +10,22 @@ pub returns-then-nonref : goal.returns-then-nonref
 returns-then-nonref c = sym (put_none _ _ _ _ _ (λ k. non_ref_as _ _ _ _ _ (sym c.requires.0 ∙ c.if-nonref.true)))
 
 pub returns-then-alt-own : goal.returns-then-alt-own
-returns-then-alt-own c = rw (not-true c.args.starts c.if-not-starts.true)
+returns-then-alt-own c = rw (c.if-not-starts.true)
     (c.put_span_del.ensures ∙ sym (put_same _ _ _ _ _ _
     (λ k. shorter_as _ _ _ (sym c.requires.0 ∙ c.if-nonref.false) _ c.if-alt-own.true)))
 
 pub returns-else-alt-own : goal.returns-else-alt-own
-returns-else-alt-own c = rw (not-true c.args.starts c.if-not-starts.true)
+returns-else-alt-own c = rw (c.if-not-starts.true)
     (sym (put_none _ _ _ _ _ (λ k. longer_as _ _ _ (sym c.requires.0 ∙ c.if-nonref.false) _ c.if-alt-own.false)))
 
 pub returns-then-is_span_del : goal.returns-then-is_span_del
-returns-then-is_span_del c = rw (not-false c.args.starts c.if-not-starts.false)
+returns-then-is_span_del c = rw (c.if-not-starts.false)
     (c.put_span_del-then-is_span_del.ensures ∙ sym (put_same _ _ _ _ _ _
     (λ k. span_del_as _ _ _ (sym c.requires.0 ∙ c.if-nonref.false) _
     (sym c.is_span_del.ensures ∙ c.if-is_span_del.true))))
 
 pub returns : goal.returns
-returns c = rw (not-false c.args.starts c.if-not-starts.false)
+returns c = rw (c.if-not-starts.false)
     (rw (c.part-tail.ensures, rest c.args.reference.now _) at c.put_extended.ensures
     ∙ sym (put_same _ _ _ _ _ _ (λ k. letters_as _ _ _ (sym c.requires.0 ∙ c.if-nonref.false) _
     (sym c.is_span_del.ensures ∙ c.if-is_span_del.false))))

@@ -25,7 +25,7 @@ loop-i-smaller c = omega (arith, c.loop-i-test.true)
 pub loop-i-preserved : goal.loop-i-preserved
 loop-i-preserved c = next_unput _ _ _ _ c.loop-i.invariant c.loop-i-test.true
     (rw c.alt_at.ensures at c.is_span_del-same.ensures) c.put_index_if.ensures
-    c.put_index_if.auto.1.0
+    c.put_index_if.auto.map
 
 pub shape_of-map : goal.shape_of-map
 shape_of-map c = c.loop-i.invariant.long

@@ -15,7 +15,7 @@ returns-in-At c = let h = rw c.in-At.is at c.field_at-field.ensures in
 
 pub returns-in-Absent : goal.returns-in-Absent
 unfolding FieldFound comma
-returns-in-Absent c = let h = rw c.in-Absent.is at c.field_at.ensures in
+returns-in-Absent c = let h = rw c.in-Absent.is at c.field_at-field.ensures in
     sym
-    (field_number _ (fields_of comma c.args.alts.now) c.args.number (omega (arith, c.if1.false)) ∙ past_fields
+    (field_number _ (fields_of comma c.args.alts.now) c.args.number (omega (arith, c.if-number-eq0.false)) ∙ past_fields
     (fields_of comma c.args.alts.now) _ h)

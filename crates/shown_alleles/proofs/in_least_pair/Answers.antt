@@ -18,7 +18,7 @@ pub loop-i-init : goal.loop-i-init
 loop-i-init c = (any_start _ _, refl)
 
 pub offset_bounds-pl-i : goal.offset_bounds-pl-i
-offset_bounds-pl-i c = omega (arith, c.loop-i.invariant.1, c.loop-i-test.true, c.well-formed)
+offset_bounds-pl-i c = omega (arith, c.loop-i.invariant.1, c.loop-i-test.true, c.well_formed)
 
 pub bounds-pl-i : goal.bounds-pl-i
 bounds-pl-i c = omega (arith, c.loop-i.invariant.1, c.loop-i-test.true)

@@ -20,6 +20,9 @@ unfolding key_of text
 returns-in_default-alternate c = let reference = rw c.in-At.is at c.value_line-reference.ensures in
     alt_wrong _ _ _ _ reference.0 reference.1.forward (rw c.in_default-alternate.is at c.value_line-alternate.ensures).0
 
+pub overflow_add-result : goal.overflow_add-result
+overflow_add-result c = let h = line_within _ _ _ some _ _ (rw c.in-At-alternate.is at c.value_line-alternate.ensures).0 in omega arith
+
 pub returns : goal.returns
 unfolding key_of text
 returns c = let reference = rw c.in-At.is at c.value_line-reference.ensures in

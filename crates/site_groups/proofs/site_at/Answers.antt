@@ -9,7 +9,7 @@ use Rattle.site_groups.proofs.site_at.Goals as goal
 
 pub returns-in_default : goal.returns-in_default
 unfolding SiteRead TextRead site_group_of
-returns-in_default c = (then_refused _ _ (rw c.in_default.is at c.site_text-text.ensures).0, (c.clear_values.ensures.0 ∙ scratch_same _ _ c.site_text-text.auto.pl, c.clear_values.ensures.1 ∙ scratch_same _ _ c.site_text-text.auto.pl))
+returns-in_default c = (then_refused _ _ (rw c.in_default.is at c.site_text-text.ensures).0, (c.clear_values.ensures.0 ∙ scratch_same _ _ c.site_text-text.auto.ad, c.clear_values.ensures.1 ∙ scratch_same _ _ c.site_text-text.auto.pl))
 
 pub returns-in-Right : goal.returns-in-Right
 unfolding SiteRead TextRead SiteChecked site_group_of site_lines
@@ -20,4 +20,4 @@ returns-in-Right c = let t = rw c.in-Text.is at c.site_text-text.ensures in
 pub returns-in-Refused : goal.returns-in-Refused
 unfolding SiteRead TextRead SiteChecked site_group_of
 returns-in-Refused c = let t = rw c.in-Text.is at c.site_text-text.ensures in
-    (then _ _ t.0.text ((rw c.in-Refused.is at c.check_site-check.ensures) t.0.values.ad_count t.0.values.pl_count), (c.clear_values-in-Refused.ensures.0 ∙ scratch_same _ _ c.site_text-text.auto.pl, c.clear_values-in-Refused.ensures.1 ∙ scratch_same _ _ c.site_text-text.auto.pl))
+    (then _ _ t.0.text ((rw c.in-Refused.is at c.check_site-check.ensures) t.0.values.ad_count t.0.values.pl_count), (c.clear_values-in-Refused.ensures.0 ∙ scratch_same _ _ c.site_text-text.auto.ad, c.clear_values-in-Refused.ensures.1 ∙ scratch_same _ _ c.site_text-text.auto.pl))

@@ -20,7 +20,7 @@ pub offset_bounds-counts-k : goal.offset_bounds-counts-k
 offset_bounds-counts-k c = omega (arith, c.loop-k.invariant.len)
 
 pub overlap-more-requires : goal.overlap-more-requires
-overlap-more-requires c = overlap_ready c.if-begin-end.true c.get-end.ensures c.requires.end_small c.requires.size_small
+overlap-more-requires c = overlap_ready c.if-begin-end.true-raw c.get-end.ensures c.requires.end_small c.requires.size_small
 
 pub overflow_cast-counts : goal.overflow_cast-counts
 overflow_cast-counts c = let e = c.overlap-more.ensures in
@@ -38,7 +38,7 @@ pub offset_bounds-counts-k-in-loop-k : goal.offset_bounds-counts-k-in-loop-k
 offset_bounds-counts-k-in-loop-k c = omega (arith, c.loop-k.invariant.len)
 
 pub overflow_add-begin : goal.overflow_add-begin
-overflow_add-begin c = record { fits = next_begin _ c.if-begin-end.true c.get-end.ensures c.requires.end_small c.requires.step_small }
+overflow_add-begin c = record { fits = next_begin _ c.if-begin-end.true-raw c.get-end.ensures c.requires.end_small c.requires.step_small }
 
 pub loop-k-smaller : goal.loop-k-smaller
 loop-k-smaller c = simp length-set (omega arith)
@@ -50,7 +50,7 @@ pub shape_of-counts-else-begin-end : goal.shape_of-counts-else-begin-end
 shape_of-counts-else-begin-end c = c.loop-k.invariant.len
 
 pub returns-else-begin-end : goal.returns-else-begin-end
-returns-else-begin-end c = past_stretch _ _ _ _ c.loop-k.invariant (leb-false _ _ c.if-begin-end.false) ∙ rw (c.get-start.ensures, c.get-end.ensures, c.get-begin.ensures)
+returns-else-begin-end c = past_stretch _ _ _ _ c.loop-k.invariant (leb-false _ _ c.if-begin-end.false-raw) ∙ rw (c.get-start.ensures, c.get-end.ensures, c.get-begin.ensures)
 
 pub shape_of-counts-after-loop-k : goal.shape_of-counts-after-loop-k
 shape_of-counts-after-loop-k c = c.loop-k.invariant.len
