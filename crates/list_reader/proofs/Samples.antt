@@ -211,7 +211,7 @@ module _ (s : List ℕ) (at samples : ℕ) (rows₀ : List ℕ) (h : RecordHead)
                   ∙ rw (e, sites_more s rows i p 0 h.alleles v false fits to.dp_small);
               rest = rw e (rest_more rows (row_of p 0 h.alleles v false) i refl fits rows₀ inv.rest);
               some_pl =
-                  e₁ ∙ rw (any_more (λ (w : SampleData). is_there w.pl) inv.sample_data (sample_from s to.gt v), ← inv.some-pl, pl_there _ _ to.pl_count);
+                  e₁ ∙ rw (any_more (λ (w : SampleData). is_there w.pl) inv.sample_data (sample_from s to.gt v), ← inv.some_pl, pl_there _ _ to.pl_count);
               right =
                   e₂ ∙ rw (
                     all_more (right_counts s h.alleles) inv.sample_data (sample_from s to.gt v),
@@ -235,7 +235,7 @@ module _ (s : List ℕ) (at samples : ℕ) (rows₀ : List ℕ) (h : RecordHead)
           lines = record { first = head.lines samples; later = inv.whole ∙ rw none_left (after_end sample_read inv.sample_data i) };
           table = inv.table ∙ rw all (in_table s rows samples);
           rest = rw (← all) inv.rest;
-          has_pl = inv.some-pl;
+          has_pl = inv.some_pl;
           fit = inv.right;
           behind = rw (← all) inv.behind;
           forward = inv.forward;

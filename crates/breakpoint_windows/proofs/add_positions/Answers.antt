@@ -108,7 +108,7 @@ add_place-now-requires c = let ready = c.loop-position.invariant.added.ready in
 pub loop-position-preserved : goal.loop-position-preserved
 loop-position-preserved c = let put = c.add_place-now in
     turn c.loop-position.invariant c.requires.light c.loop-position-test.true
-    put.auto.0 put.ensures
+    put.auto.places put.ensures
 
 pub shape_of-places : goal.shape_of-places
 shape_of-places c = c.loop-position.invariant.long

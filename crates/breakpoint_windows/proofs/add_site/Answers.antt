@@ -79,7 +79,7 @@ pub returns-then-is_block : goal.returns-then-is_block
 returns-then-is_block c = let is-start = c.get-start.ensures ∙ c.start_of.ensures in
     let is-end = c.get-next.ensures ∙ c.end_of.ensures in
     let is_block_lem = sym c.is_block.ensures ∙ c.if-is_block.true in
-    let ready = c.requires.ready.room in
+    let ready = c.requires.ready in
     block _ _ is-start is-end ready is_block_lem c.add_range-started.ensures c.add_range.ensures
 
 pub overflow_add-next-2 : goal.overflow_add-next-2

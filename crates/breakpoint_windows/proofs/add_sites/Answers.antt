@@ -72,11 +72,11 @@ loop-i-init c = start _ _ _ _ c.requires.in_bounds
 
 pub add_site-adding-requires : goal.add_site-adding-requires
 add_site-adding-requires c = let rows = c.requires.every in
-    (every_at _ 0 c.loop-i-test.true rows, (c.loop-i.invariant.filled.ready, c.loop-i.invariant.run))
+    record { row_in_range = every_at _ 0 c.loop-i-test.true rows; ready = c.loop-i.invariant.filled.ready; run_taken = c.loop-i.invariant.run }
 
 pub loop-i-preserved : goal.loop-i-preserved
 loop-i-preserved c = let put = c.add_site-adding in
-    turn c.loop-i.invariant c.loop-i-test.true put.auto.1.1.1.0 put.ensures
+    turn c.loop-i.invariant c.loop-i-test.true put.auto.places put.ensures
 
 pub shape_of-places : goal.shape_of-places
 shape_of-places c = c.loop-i.invariant.long

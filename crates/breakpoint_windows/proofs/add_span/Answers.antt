@@ -61,19 +61,19 @@ returns-then-not-on c = other_contig _ c.requires.ready (c.if-not-on.true)
 
 pub overflow_add-next : goal.overflow_add-next
 unfolding max_number
-overflow_add-next c = let in_range_lem = c.requires.start_le_max_number.0 in
+overflow_add-next c = let in_range_lem = c.requires.start_le_max_number in
     let is = c.get-next.ensures in
     search rules
 
 pub overflow_mul-start : goal.overflow_mul-start
 unfolding max_number
-overflow_mul-start c = let in_range_lem = c.requires.start_le_max_number.0 in
+overflow_mul-start c = let in_range_lem = c.requires.start_le_max_number in
     let is = c.get-start.ensures in
     search rules
 
 pub overflow_add-start : goal.overflow_add-start
 unfolding max_number
-overflow_add-start c = let in_range_lem = c.requires.start_le_max_number.0 in
+overflow_add-start c = let in_range_lem = c.requires.start_le_max_number in
     let is = c.get-start.ensures in
     search rules
 
@@ -82,27 +82,27 @@ add_place-started-requires c = let args = c.args in
     let on = c.if-not-on.false in
     let light =
     light-start args.on args.loc on c.get-start.ensures c.get-next.ensures args.taken args.places.now in
-    record { ready = c.requires.ready; place_bound = light c.requires.start_le_max_number.1 }
+    record { ready = c.requires.ready; place_bound = light c.requires.loc_bound }
 
 pub overflow_mul-next : goal.overflow_mul-next
 unfolding max_number
-overflow_mul-next c = let in_range_lem = c.requires.start_le_max_number.0 in
+overflow_mul-next c = let in_range_lem = c.requires.start_le_max_number in
     let is = c.get-next.ensures in
     search rules
 
 pub overflow_add-next-2 : goal.overflow_add-next-2
 unfolding max_number
-overflow_add-next-2 c = let in_range_lem = c.requires.start_le_max_number.0 in
+overflow_add-next-2 c = let in_range_lem = c.requires.start_le_max_number in
     let is = c.get-next.ensures in
     search rules
 
 pub add_place-requires : goal.add_place-requires
 add_place-requires c = let put = c.add_place-started in
-    let light = c.requires.start_le_max_number.1 in
+    let light = c.requires.loc_bound in
     record { ready = put.ensures.ready; place_bound = light-end _ _ (c.if-not-on.false) c.get-start.ensures c.get-next.ensures _ _ light put.ensures }
 
 pub returns : goal.returns
 returns c = let put = c.add_place-started in
-    let light = c.requires.start_le_max_number.1 in
+    let light = c.requires.loc_bound in
     both-added _ _ (c.if-not-on.false) c.get-start.ensures c.get-next.ensures _ _ light put.ensures
     c.add_place.ensures

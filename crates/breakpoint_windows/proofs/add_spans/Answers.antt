@@ -106,13 +106,7 @@ returns-in_default c = faulty c.loop-at.invariant (rw c.in_default.is at c.span_
 pub add_span-now-requires : goal.add_span-now-requires
 unfolding SpanRead span_gives span_places
 add_span-now-requires c = let g = rw c.in-Span.is at c.span_at-group.ensures in
-    let sound = span_sound _ _ g.0.value in (
-      c.loop-at.invariant.added.ready,
-      (
-        (omega (arith, sound.ordered, sound.in_range_lem), sound.in_range_lem),
-        light-here c.loop-at.invariant g.0 c.is_on-on.ensures c.requires.contig_bound,
-      ),
-    )
+    let sound = span_sound _ _ g.0.value in record { ready = c.loop-at.invariant.added.ready; start_le_max_number = (omega (arith, sound.ordered, sound.in_range_lem), sound.in_range_lem); loc_bound = light-here c.loop-at.invariant g.0 c.is_on-on.ensures c.requires.contig_bound }
 
 pub loop-at-smaller : goal.loop-at-smaller
 unfolding SpanRead
@@ -123,7 +117,7 @@ pub loop-at-preserved : goal.loop-at-preserved
 unfolding SpanRead span_gives span_places
 loop-at-preserved c = let g = rw c.in-Span.is at c.span_at-group.ensures in
     let put = c.add_span-now in
-    turn c.loop-at.invariant g.0 c.is_on-on.ensures c.requires.contig_bound put.auto.0 put.ensures
+    turn c.loop-at.invariant g.0 c.is_on-on.ensures c.requires.contig_bound put.auto.places put.ensures
 
 pub shape_of-places : goal.shape_of-places
 shape_of-places c = c.loop-at.invariant.long

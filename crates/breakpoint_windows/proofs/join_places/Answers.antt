@@ -14,6 +14,7 @@ use Rattle.laws.proofs.Places.{join_from, join_places, joined, joined_light, low
 use Rattle.breakpoint_windows.specs.Fillings.{Joinable, past_all}
 use Rattle.breakpoint_windows.proofs.join_places.Invariants.{Inv}
 use Rattle.breakpoint_windows.proofs.join_places.Goals as goal
+use Rattle.breakpoint_windows.proofs.join_places.Goals.{then-last-x, else-last-x}
 
 none_there : (entry : List ℕ) → length entry ≡ 0 → [] ≡ join_places entry
 unfolding join_places
@@ -110,9 +111,14 @@ overflow_sub-last c = let enough = two c.loop-k.invariant (omega arith) c.if-las
     omega (arith, enough.0)
 
 pub loop-k-preserved : goal.loop-k-preserved
-loop-k-preserved c = ⊎_elim (λ w. rw (w.1, w.2, w.3, add-one c.loop-k.k) (turn_joined c.loop-k.invariant (omega arith) w.0.taken))
-    (λ w. rw (w.1, w.2, w.3, add-one c.loop-k.at, add-one c.loop-k.k) (turn-other c.loop-k.invariant (omega arith) w.0.left))
-    c.if-last-x.branch
+loop-k-preserved c =
+    elim c.if-last-x.branch [
+      then-last-x w ↦
+        rw (w.places-is, w.last-is, w.at-is, add-one c.loop-k.k) (turn_joined c.loop-k.invariant (omega arith) w.if-last-x.true)
+    | else-last-x w ↦
+        rw (w.places-is, w.last-is, w.at-is, add-one c.loop-k.at, add-one c.loop-k.k)
+        (turn-other c.loop-k.invariant (omega arith) w.if-last-x.false)
+    ]
 
 pub returns : goal.returns
 returns c = let inv = c.loop-k.invariant in

@@ -69,7 +69,7 @@ module _ (rows sites clip contig : List ℕ) (short : length clip ≤ max_text_l
 
 pub add_spans-taken-requires : goal.add_spans-taken-requires
 add_spans-taken-requires c = let sited = c.add_sites-of_sites in
-    record { ready = sited.ensures.ready; contig_bound = light _ _ _ _ c.requires.every.1 sited.ensures }
+    record { ready = sited.ensures.ready; contig_bound = light _ _ _ _ c.requires.clip_len_bound sited.ensures }
 
 pub settle-count-requires : goal.settle-count-requires
 settle-count-requires c = let ready = c.add_spans-taken.ensures.ready in
@@ -79,6 +79,6 @@ pub returns : goal.returns
 returns c = let settled = c.settle-count in
     let spanned = c.add_spans-taken in
     let sited = c.add_sites-of_sites in
-    let long = spanned.auto.1.1.1.0 ∙ sited.auto.1.1.1.0 in
-    windowed _ _ _ _ c.requires.every.1 sited.ensures spanned.ensures c.requires.every.0 (settled.auto.0 ∙ long)
+    let long = spanned.auto.places ∙ sited.auto.places in
+    windowed _ _ _ _ c.requires.clip_len_bound sited.ensures spanned.ensures c.requires.every (settled.auto.places ∙ long)
     (omega (arith, long, spanned.ensures.ready.within_places)) settled.ensures

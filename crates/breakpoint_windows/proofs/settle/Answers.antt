@@ -48,4 +48,4 @@ join_places-requires c = joinable _ _ c.requires.count_in_bounds c.sort_places.e
 
 pub returns : goal.returns
 returns c = let joined = c.join_places in
-    settled _ _ c.requires.count_in_bounds c.sort_places.ensures _ _ joined.auto.places joined.ensures.0 joined.ensures.1
+    settled _ _ c.requires.count_in_bounds c.sort_places.ensures _ _ joined.auto.places joined.ensures.few joined.ensures.joined

@@ -24,7 +24,7 @@ unfolding text
 put_alt-next-requires c = field_fits _ (c.loop-at.invariant) (c.field_end-end.ensures) (c.same_bytes-dropped.ensures)
 
 pub shape_of-out-then-alts-end : goal.shape_of-out-then-alts-end
-shape_of-out-then-alts-end c = (c.put_alt-next.auto.0) ∙ left_length (c.loop-at.invariant.left)
+shape_of-out-then-alts-end c = (c.put_alt-next.auto.out) ∙ left_length (c.loop-at.invariant.left)
 
 pub returns-then-alts-end : goal.returns-then-alts-end
 unfolding text

@@ -14,5 +14,5 @@ unfolding RecordFound RecordRead
 returns-in-Refused c = record {
       value = rw c.in-Refused.is at c.read_record-found.ensures;
       cleared = c.clear.ensures ∙ scratch_same _ _
-          c.read_record-found.auto.1.1.1.1.0;
+          c.read_record-found.auto.pls;
     }

@@ -13,7 +13,7 @@ returns-then-joins c = let joins = sym c.joins.ensures ∙ c.if-joins.true in
 
 pub returns : goal.returns
 unfolding block_lays held_after
-returns c = let apart = sym c.joins.ensures ∙ c.if1.false in
+returns c = let apart = sym c.joins.ensures ∙ c.if-joins.false in
     let laid = c.lay_pending-laid.ensures in
     let held = c.put_bytes-len.ensures in
     (held_instead _ _ _ _ _ _ _ _ apart laid.0 held.next, (rw apart laid.1, rw apart held.laid))

@@ -5,4 +5,4 @@ use Rattle.coalescing.proofs.lay_pending.Goals as goal
 
 pub returns : goal.returns
 returns c = let laid = c.put_pending-next.ensures in
-    (pending_counted _ _ _ _ _ laid.next c.cap.ensures c.count_pending.ensures, laid.laid)
+    record { step = pending_counted _ _ _ _ _ laid.next c.cap.ensures c.count_pending.ensures; laid = laid.laid }

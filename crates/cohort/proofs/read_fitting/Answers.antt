@@ -33,7 +33,9 @@ returns-in-Refused-sites c = let h = rw c.in-Samples.is at c.read_samples-header
 pub returns-in-Sites : goal.returns-in-Sites
 unfolding CohortFitting Header SitesRead
 returns-in-Sites c = let h = rw c.in-Samples.is at c.read_samples-header.ensures in
-    let (answer, r) = rw c.in-Sites.is at c.read_sites-sites.ensures in record { answer = sites_said _ c.if-s-gt16777216.false _ _ _ h.value h.behind _ _ (answer _ (names_count _ _ _)); tables = record {
+    let both = rw c.in-Sites.is at c.read_sites-sites.ensures in
+    let r = both.table in
+    record { answer = sites_said _ c.if-s-gt16777216.false _ _ _ h.value h.behind _ _ (both.answer _ (names_count _ _ _)); tables = record {
         room = record { for_names = c.requires; for_rows = r.room };
         value = all_read _ c.if-s-gt16777216.false _ _ _ h.value h.behind _ (r.value _ (names_count _ _ _));
         table = r.table;

@@ -26,30 +26,30 @@ loop-more-init c = record {
 
 pub next_breakpoints-window-requires : goal.next_breakpoints-window-requires
 next_breakpoints-window-requires c = let (ready, room) = c.requires in
-    (omega (arith, c.loop-more.invariant.scratch-long, room), (ready.points.rows_in_range, ready.points.short))
+    record { in_bounds = omega (arith, c.loop-more.invariant.scratch-long, room); every = ready.points.rows_in_range; clip_len_bound = ready.points.short }
 
 pub slice_bounds-count_window-end : goal.slice_bounds-count_window-end
 slice_bounds-count_window-end c = stored_within c.next_breakpoints-window.ensures
 
 pub slice_bounds-count_window-end-in-loop-more : goal.slice_bounds-count_window-end-in-loop-more
-slice_bounds-count_window-end-in-loop-more c = stored_exactly c.next-breakpoints.ensures
+slice_bounds-count_window-end-in-loop-more c = stored_exactly c.next_breakpoints-window.ensures
 
 pub count_window-along-requires : goal.count_window-along-requires
 unfolding count_ready
 count_window-along-requires c = let ready = c.requires.0 in
-    count_ready ready (c.loop.invariant.so_far ready) c.next-breakpoints.ensures
+    count_ready ready (c.loop-more.invariant.so_far ready) c.next_breakpoints-window.ensures
 
 pub loop-more-smaller : goal.loop-more-smaller
 unfolding count_ready contig_window
-loop-more-smaller c = let found = c.next-breakpoints.ensures in
+loop-more-smaller c = let found = c.next_breakpoints-window.ensures in
     let ready = c.requires.0 in
-    let counted = c.count_window-along.ensures (count_ready ready (c.loop.invariant.so_far ready) found) in
-    fewer_left ready.points found counted.there c.loop-test.true
+    let counted = c.count_window-along.ensures (count_ready ready (c.loop-more.invariant.so_far ready) found) in
+    fewer_left ready.points found counted.there c.loop-more-test.true
 
 pub loop-more-preserved : goal.loop-more-preserved
 unfolding count_ready contig_window
-loop-more-preserved c = let found = c.next-breakpoints.ensures in
-    let inv = c.loop.invariant in
+loop-more-preserved c = let found = c.next_breakpoints-window.ensures in
+    let inv = c.loop-more.invariant in
     let ready = c.requires.0 in
     let counted = c.count_window-along.ensures (count_ready ready (inv.so_far ready) found) in
     record {

@@ -18,7 +18,7 @@ returns-in_default c = record {
 
 pub overflow_add-next : goal.overflow_add-next
 unfolding LineReads
-overflow_add-next c = let l = rw c.in-Found.is at c.number_line-line.ensures in omega (arith, l.within, c.well-formed)
+overflow_add-next c = let l = rw c.in-Found.is at c.number_line-line.ensures in omega (arith, l.within, c.well_formed)
 
 pub returns : goal.returns
 unfolding FigureRead LineReads key_of text

@@ -57,7 +57,7 @@ returns-in_default-fifth c = weight_wrong _ _ _ _ (rw c.in-At.is at c.name_line-
 
 pub overflow_add-e4 : goal.overflow_add-e4
 overflow_add-e4 c = let h = line_within _ _ _ (number_in 1 100) _ _ (rw c.in-Found-fifth.is at c.number_line-fifth.ensures) in omega
-    (arith, h, c.well-formed)
+    (arith, h, c.well_formed)
 
 pub returns-in_default-sixth : goal.returns-in_default-sixth
 unfolding key_of text max_number
@@ -69,7 +69,7 @@ returns-in_default-sixth c = after_wrong _ _ _ _ (rw c.in-At.is at c.name_line-f
     (rw c.in_default-sixth.is at c.after_line-sixth.ensures)
 
 pub overflow_add-next : goal.overflow_add-next
-overflow_add-next c = let h = line_within _ _ _ names_after _ _ (rw c.in-At-sixth.is at c.after_line-sixth.ensures) in omega (arith, h, c.well-formed)
+overflow_add-next c = let h = line_within _ _ _ names_after _ _ (rw c.in-At-sixth.is at c.after_line-sixth.ensures) in omega (arith, h, c.well_formed)
 
 pub returns : goal.returns
 unfolding key_of text max_number

@@ -14,8 +14,8 @@ pub slice_bounds-copy_numbers-end : goal.slice_bounds-copy_numbers-end
 slice_bounds-copy_numbers-end c = simp length-take (omega (arith, c.requires))
 
 pub copy_numbers-requires : goal.copy_numbers-requires
-copy_numbers-requires c = simp length-take (omega (arith, c.if1.false, c.requires))
+copy_numbers-requires c = simp length-take (omega (arith, c.if-out-count.false, c.requires))
 
 pub returns : goal.returns
 unfolding FoundGiven
-returns c = (refl, refl, c.if1.false, c.copy_numbers.ensures)
+returns c = (refl, refl, c.if-out-count.false, c.copy_numbers.ensures)

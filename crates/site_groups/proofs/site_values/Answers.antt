@@ -84,6 +84,6 @@ returns c = let depths = rw c.in-Part.is at c.part_line-depths.ensures in
       values_read _ _ _ _ (rw c.in-Found.is at c.code_line-quality.ensures) _ _
           (rw c.in-Found-depth.is at c.code_line-depth.ensures) _ _
           (rw c.in-Found-least.is at c.code_line-least.ensures) _ _ _ depths.0 depths.1 _ _ _ likelihoods.0 likelihoods.1
-          (omega (arith, c.in-Found-depth.known_told-in-Found-depth-1-own.known_told-in-Found-depth-1-own.given)),
+          (omega (arith, c.in-Found-depth.known_told-in-Found-depth-1-own.given)),
       (depths.2, likelihoods.2),
     )
