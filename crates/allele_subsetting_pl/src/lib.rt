@@ -1,4 +1,6 @@
 // Likelihoods, AD and ALTs of some of a record's alleles. A keep list has the numbers of the alleles that are left.
+#![tactic(auto)]
+
 ghost use Rattle.std.specs.Prelude.{◌&&◌, true, ◌≡◌, ◌+◌, ◌-◌, ◌<◌, ◌^◌, ◌≤◌, leb, ltb, get_or, length, set};
 ghost use Rattle.std.proofs.Math.Option;
 ghost use Rattle.std.proofs.Math.ListN.{get_elem?};

@@ -1,5 +1,7 @@
 // The alleles of a `ref` and an `alt` value: their spelling, length, number and repeats (row 5). Letters are of either case, `<NON_REF>` has
 // one spelling.
+#![tactic(auto)]
+
 ghost use Rattle.std.specs.Prelude.{◌≡◌};
 ghost use Rattle.definitions.specs.Alleles.{allele_of};
 ghost use Rattle.definitions.specs.Bytes.{comma, fields_of, same_bytes, text};

@@ -1,4 +1,5 @@
 // What a call of the library answers.
+#![tactic(auto)]
 
 // The number of values written, or the row that refuses the call.
 #[derive(Clone, Copy)]

@@ -1,4 +1,6 @@
 // The pairs of a text that asks for positions, found at an offset of the lent text: nothing of them is stored.
+#![tactic(auto)]
+
 ghost use Rattle.std.specs.Prelude.{◌≡◌};
 ghost use Rattle.definitions.specs.LookUp.{not_after};
 ghost use Rattle.asked_places.specs.Asked.{PairRead, PlacesRead, place_with};

@@ -1,4 +1,6 @@
 // The numbers of alleles, samples and positions, each a type of its own, so that none is taken for another.
+#![tactic(auto)]
+
 ghost use Rattle.std.specs.Prelude.{◌≡◌, leb, ◌&&◌};
 
 // Document 01, allele number: an allele in a record's list of at most 16, from 0, which is REF. A byte: no place of a pair wraps.

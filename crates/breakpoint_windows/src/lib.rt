@@ -1,5 +1,7 @@
 // The breakpoints of a contig, a window at a time: the least ones past a position, as many as the places hold, ascending, each a number
 // position * 2^32 + 2^31 + d, where d is how many clip spans start there less how many end before it.
+#![tactic(auto)]
+
 ghost use Rattle.std.specs.Prelude.{◌&&◌, ◌||◌, cond, not, ◌≡◌, ◌+◌, ◌-◌, ◌<◌, ◌≤◌, suc, leb, ltb, length, take};
 ghost use mathlib.Core.List.{[], ◌++◌, ◌∷◌, flat_map, map};
 ghost use Rattle.definitions.specs.Bytes.{same_bytes};

@@ -1,5 +1,7 @@
 // PL, AD and GQ of a sample without an allele, `dropped` by its number among a record's: the values of the called list, which is
 // without `<NON_REF>`.
+#![tactic(auto)]
+
 ghost use Rattle.std.proofs.Math.Option.{get_or, map};
 ghost use Rattle.std.specs.Prelude.{◌≡◌, ◌+◌, ◌<◌, ◌≤◌, ◌^◌, length};
 ghost use Rattle.std.proofs.Math.ListN.{get_elem?};

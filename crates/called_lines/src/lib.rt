@@ -1,6 +1,8 @@
 // The lines of a called record and its samples, laid over a buffer as `kv_write` lays lines: those of the record without `<NON_REF>`,
 // `dropped` by its number among the record's alleles. The samples' data stand in a table, `rows`, over the list's text, `s`. REF and ALTs
 // are given as the list spells them, and laid as capitals.
+#![tactic(auto)]
+
 ghost use Rattle.std.specs.Prelude.{◌||◌, not, List, map, ◌≡◌, ℕ, ◌+◌, ◌<◌, ◌≤◌, ◌^◌, length, take};
 ghost use Rattle.std.proofs.Math.Option.{get_or};
 ghost use Rattle.definitions.specs.Alleles.{alleles_of, capital, non_ref, same_allele};

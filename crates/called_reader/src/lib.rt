@@ -1,4 +1,6 @@
 // A record group of a called list, read back by its lines: rows 1, 4, 5 and 8. Of the samples' data only where the PLs stand is kept.
+#![tactic(auto)]
+
 ghost use Rattle.std.specs.Prelude.{◌≡◌, ◌*◌, ◌≤◌, length};
 ghost use Rattle.called_reader.specs.CalledGroups.{HeadRead, RecordChecked, RecordFound, RecordRead, SampleRead, TextRead};
 

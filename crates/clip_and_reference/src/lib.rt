@@ -1,4 +1,6 @@
 // The groups of clip.kv and reference.kv, found at an offset of the lent text: nothing of them is stored.
+#![tactic(auto)]
+
 ghost use Rattle.std.proofs.Math.Option.{some};
 ghost use Rattle.std.specs.Prelude.{◌≡◌};
 ghost use Rattle.definitions.specs.Alleles.{letters_of};

@@ -1,5 +1,7 @@
 // Records of a contig one after the other: a block record is held back until the next one does not join it (the Rust's
 // `coalesce_homref_blocks`).
+#![tactic(auto)]
+
 ghost use Rattle.std.specs.Prelude.{take, ◌≡◌};
 ghost use Rattle.std.proofs.lemmas.List.Edits.{sets};
 ghost use Rattle.definitions.specs.Bytes.{same_bytes};

@@ -1,4 +1,6 @@
 // cohort.kv as tables: the names, and a row of numbers for each site.
+#![tactic(auto)]
+
 ghost use Rattle.std.specs.Prelude.{◌&&◌, cond, ◌≡◌, ◌*◌, ◌+◌, ◌≤◌, suc, eqb, length};
 ghost use Rattle.std.proofs.lemmas.List.Edits.{sets};
 ghost use Rattle.definitions.specs.Answers.{scratch_after};

@@ -1,4 +1,6 @@
 // The texts of a call, the tables that they are read into, and the library's entry.
+#![tactic(auto)]
+
 ghost use Rattle.std.specs.Prelude.{leb, length, ◌&&◌, ◌≡◌};
 ghost use Rattle.definitions.specs.Checked.{is_accepted};
 ghost use Rattle.definitions.specs.ClipAndReference.{optional_groups, segment_of, span_of};

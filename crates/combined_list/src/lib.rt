@@ -1,4 +1,6 @@
 // The combined list of an input whose tables are loaded: contig by contig, in two passes.
+#![tactic(auto)]
+
 ghost use Rattle.std.specs.Prelude.{◌≤◌, eqb, ltb, length, ◌&&◌, ◌≡◌};
 ghost use Rattle.std.proofs.lemmas.List.Edits.{sets};
 ghost use Rattle.answers.specs.Answered.{Answered};

@@ -1,5 +1,7 @@
 // The looks of a contig: how many of its intervals lie in the clip, times its sites. The intervals are counted from a window of its
 // breakpoints at a time.
+#![tactic(auto)]
+
 ghost use Rattle.std.specs.Prelude.{length, List, ◌∷◌, ◌≡◌, ◌≤◌, ◌/◌, ℕ};
 ghost use Rattle.breakpoint_windows.specs.Contig.{contig_window_end};
 ghost use Rattle.contig_looks.specs.Counting.{CountReady, CountedTo, LooksReady};

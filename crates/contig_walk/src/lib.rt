@@ -1,4 +1,6 @@
 // The intervals of a contig one after the other: their records, coalesced and laid. `allele` is REF as a text spells it.
+#![tactic(auto)]
+
 ghost use Rattle.std.specs.Prelude.{eqb, length, ◌&&◌, true, map, ◌≡◌};
 ghost use Rattle.std.proofs.lemmas.List.Edits.{sets};
 ghost use Rattle.coalescing.specs.Steps.{StepTo, record_stepped};

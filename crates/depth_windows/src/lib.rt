@@ -1,6 +1,8 @@
 // Depth along a contig of a combined list, in windows; the library's entry `depth_windows`. The list is read twice: first it is checked whole
 // and the contig's first and last position are found; then the windows, which now have their places, are counted. So a refusal leaves the
 // output as it was, and each record costs a step for each window that it overlaps, however long its stretch.
+#![tactic(auto)]
+
 ghost use Rattle.std.specs.Prelude.{◌≤◌, ltb, length, ◌&&◌, ◌≡◌};
 ghost use Rattle.std.proofs.Math.Option.{none};
 ghost use Rattle.answers.specs.Answered.{Answered};

@@ -1,4 +1,6 @@
 // The diploid genotypes of a record: the pair of alleles at each place of PL, and the place of a pair.
+#![tactic(auto)]
+
 ghost use Rattle.std.specs.Prelude.{true, ◌≡◌};
 ghost use Rattle.std.proofs.Math.ListN.{get_elem?};
 ghost use Rattle.definitions.specs.Genotypes.{genotype_index_any, genotype_pairs};

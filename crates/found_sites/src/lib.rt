@@ -1,4 +1,6 @@
 // The sites found over a position in a list, each with its sample; and from it the row of each sample's own site.
+#![tactic(auto)]
+
 ghost use Rattle.std.specs.Prelude.{◌≡◌, ◌<◌, ◌≤◌, get_or, length, take};
 ghost use Rattle.std.proofs.lemmas.List.Edits.{sets};
 ghost use Rattle.found_sites.specs.Own.{found_at, found_list, own_rows, put_all, put_own};

@@ -1,5 +1,7 @@
 // The called list: the records of a combined list, read back one after the other, and those that call a variant laid without
 // `<NON_REF>`; the library's entry `call`.
+#![tactic(auto)]
+
 ghost use Rattle.std.specs.Prelude.{◌≤◌, eqb, length, ◌&&◌, not, ◌≡◌};
 ghost use Rattle.std.proofs.lemmas.List.Edits.{sets};
 ghost use Rattle.std.proofs.Math.Option.{get_or};

@@ -1,5 +1,7 @@
 // A sample's AD, PL and GT over a record's alleles, and the lines that say them.
 // A map gives, for each allele of the record, the number of the sample's allele.
+#![tactic(auto)]
+
 ghost use Rattle.std.proofs.Math.Option;
 ghost use Rattle.std.specs.Prelude.{◌≡◌, ◌+◌, ◌-◌, ◌<◌, ◌≤◌, ◌^◌, min, get_or, length, set};
 ghost use Rattle.std.proofs.Math.ListN.{get_elem?};

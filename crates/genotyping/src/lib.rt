@@ -1,4 +1,6 @@
 // GQ from PL, as the Rust's genotyping.rs has it, in one reading.
+#![tactic(auto)]
+
 ghost use Rattle.std.specs.Prelude.{cond, ◌≡◌, min, suc, eqb};
 ghost use Rattle.definitions.specs.CalledGenotypes.{gq_from_least_pls, gq_from_pl, with_next_pl};
 ghost use Rattle.definitions.specs.Genotypes.{least};

@@ -1,4 +1,6 @@
 // The first 1,024 segments of reference.kv as rows of the table, read once for each call.
+#![tactic(auto)]
+
 ghost use Rattle.std.specs.Prelude.{◌≤◌, length, ◌≡◌};
 ghost use Rattle.clip_and_reference.specs.Groups.{segments_read};
 ghost use Rattle.tables.specs.Tables.{table_length};

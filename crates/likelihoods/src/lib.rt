@@ -1,4 +1,6 @@
 // Log10 genotype likelihoods in binary64: from PL, within range, less the greatest.
+#![tactic(auto)]
+
 ghost use Rattle.std.specs.Prelude.{map, ◌≡◌, ◌<◌, length, set};
 ghost use Rattle.std.proofs.lemmas.List.Edits.{sets};
 ghost use Rattle.definitions.specs.AlleleSubset.{greater, greatest, in_range, less_greatest};

@@ -1,4 +1,6 @@
 // The header of a list, and the offset and the count of a list that is first measured and then written.
+#![tactic(auto)]
+
 ghost use Rattle.std.specs.Prelude.{◌≡◌, ◌+◌, min};
 ghost use Rattle.definitions.specs.Printed.{printed_header};
 ghost use Rattle.kv_write.specs.Laid.{Laid};

@@ -1,4 +1,6 @@
 // A record group of a combined list, read back by its lines: rows 1 to 8.
+#![tactic(auto)]
+
 ghost use Rattle.std.specs.Prelude.{◌≡◌, ◌&&◌, ◌||◌, not, ◌*◌, ◌≤◌, suc, eqb, leb, ltb, length};
 ghost use Rattle.definitions.specs.Alleles.{genotype_count};
 ghost use Rattle.definitions.specs.ListReader.{gt_of};

@@ -1,4 +1,6 @@
 // A combined list read front to back: its header, and then a cursor by value over its record groups. Each step reads one group.
+#![tactic(auto)]
+
 ghost use Rattle.std.specs.Prelude.{◌≤◌, ◌≡◌};
 ghost use Rattle.std.proofs.Math.Option.{get_or};
 ghost use Rattle.definitions.specs.Limits.{max_samples};

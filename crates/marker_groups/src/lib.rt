@@ -1,4 +1,6 @@
 // The marker file of a selection sheet, read into a table: rows 19 and 20.
+#![tactic(auto)]
+
 ghost use Rattle.std.specs.Prelude.{◌*◌, ◌+◌, ◌≤◌, length, set, ◌≡◌};
 ghost use Rattle.std.proofs.lemmas.List.Edits.{sets};
 ghost use Rattle.definitions.specs.Bytes.{comma, fields_of};

@@ -1,4 +1,6 @@
 // The sum of a sample: the weights of the markers that it meets, by which it shows.
+#![tactic(auto)]
+
 ghost use Rattle.std.specs.Prelude.{◌<◌, ◌≤◌, eqb, get_or, length, ◌&&◌, cond, ◌≡◌};
 ghost use Rattle.definitions.specs.Lists.{numbers_from};
 ghost use Rattle.marker_groups.specs.Markers.{column};

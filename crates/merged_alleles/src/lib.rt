@@ -1,5 +1,7 @@
 // The ALTs of the record at a position, laid as a list with commas, letters as capitals, into the caller's buffer (row 13: over 16 alleles).
 // Sites stand in a table; those over the position are given by their numbers, in the order of samples.
+#![tactic(auto)]
+
 ghost use Rattle.std.specs.Prelude.{◌≡◌, ℕ, ◌+◌, ◌<◌, ◌≤◌, ◌^◌, eqb, drop, length};
 ghost use mathlib.Core.List.{List, [], ◌++◌, ◌∷◌, flat_map, map, reverse};
 ghost use Rattle.definitions.specs.Alleles.{capital};

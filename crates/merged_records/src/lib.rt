@@ -1,4 +1,6 @@
 // The record at a position: the sites that cover it, REF and the ALTs, in lists that the caller lends.
+#![tactic(auto)]
+
 ghost use Rattle.std.specs.Prelude.{◌≡◌, ◌≤◌, length, take};
 ghost use Rattle.std.proofs.lemmas.List.Edits.{sets};
 ghost use Rattle.covering_sites.specs.Ended.{Ended};

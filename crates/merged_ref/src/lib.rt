@@ -1,6 +1,8 @@
 // REF of the record at a position, from the sites found over it, numbers of a table's rows in the order of samples. The answer says
 // where REF stands, by offsets of the texts; `ref_bytes` hands on the part of the text, as spelled there. Nothing is copied. Letters
 // are compared in either case.
+#![tactic(auto)]
+
 ghost use Rattle.std.specs.Prelude.{drop, take, [], ◌∷◌, map, ◌≡◌, ◌-◌};
 ghost use Rattle.clip_and_reference.specs.Groups.{segments_placed};
 ghost use Rattle.definitions.specs.Alleles.{capital};

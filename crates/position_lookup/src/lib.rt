@@ -1,5 +1,7 @@
 // Many positions looked up in a combined list, front to back: the pairs are in list order, so each record group is read once and each pair
 // is answered on the way. The library's entry `look_up`.
+#![tactic(auto)]
+
 ghost use Rattle.std.specs.Prelude.{◌≤◌, length, ◌≡◌};
 ghost use Rattle.std.proofs.lemmas.List.Edits.{sets};
 ghost use Rattle.std.proofs.Math.Option.{get_or};

@@ -2,6 +2,8 @@
 // Sites stand in a table, `rows`, over the cohort's text, `s`; `own` has for each sample the row of its site that covers the record's
 // position, or a number past the table. `reference` or `allele` is REF of the record, as a text spells it, and `alts` are its ALTs, with
 // commas; `fields` says where each of the `alt_count` ALTs stands there (`sample_alleles::split_alts`). What is laid is capitals.
+#![tactic(auto)]
+
 ghost use Rattle.std.specs.Prelude.{map, ◌≡◌, ◌+◌, ◌<◌, ◌≤◌, ◌^◌, length};
 ghost use Rattle.definitions.specs.Alleles.{capital};
 ghost use Rattle.definitions.specs.Lines.{line};

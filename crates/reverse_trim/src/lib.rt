@@ -1,4 +1,6 @@
 // The letter alleles of a list without their common ending, one letter of each left (rows 5 and 14).
+#![tactic(auto)]
+
 ghost use Rattle.std.specs.Prelude.{cond, true, ◌∷◌, map, ◌≡◌, min, length};
 ghost use Rattle.answers.specs.Answered.{Answered};
 ghost use Rattle.definitions.specs.Alleles.{capital, spelled, written_alleles};

@@ -4,6 +4,8 @@
 // case. `alts` are the record's ALTs, with commas, and `fields` says where each of the first `count` of them stands there, by two numbers.
 // The site's own alleles are gone through once: what each reads as gets its number, the last of them first, so that the first stays.
 // Numbers are bytes: alleles past number 255 are not looked at. A site with at most 255 ALTs has none (`few_alleles`, proofs/Readings.antt).
+#![tactic(auto)]
+
 ghost use Rattle.std.specs.Prelude.{◌&&◌, cond, ◌++◌, ◌≡◌, ◌*◌, ◌+◌, ◌<◌, ◌≤◌, eqb, ltb, drop, length, set, take};
 ghost use Rattle.std.proofs.lemmas.List.Edits.{sets};
 ghost use Rattle.definitions.specs.Alleles.{letters, same_allele};

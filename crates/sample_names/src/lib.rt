@@ -1,4 +1,6 @@
 // The header of cohort.kv: how many samples, and their names, which stay where they stand in the lent text.
+#![tactic(auto)]
+
 ghost use Rattle.std.specs.Prelude.{reverse, ◌≡◌, ◌*◌, ◌≤◌, length};
 ghost use Rattle.definitions.specs.Bytes.{same_bytes};
 ghost use Rattle.definitions.specs.Lists.{any_of};

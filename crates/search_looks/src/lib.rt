@@ -1,5 +1,7 @@
 // The looks of a contig, for planning: how many sites the search for covering sites looks at along it. The texts are read as the list's
 // are, and every row that refuses the list, but 14, refuses here too.
+#![tactic(auto)]
+
 ghost use Rattle.std.specs.Prelude.{◌≤◌, length, ◌≡◌};
 ghost use Rattle.combine_gvcfs.specs.Combined.{TextsFit, texts_of};
 ghost use Rattle.combined_list.specs.WrittenList.{ListsFit};

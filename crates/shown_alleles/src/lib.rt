@@ -1,4 +1,6 @@
 // Whether a sample of a called record shows an allele: some genotype of its least PL has it.
+#![tactic(auto)]
+
 ghost use Rattle.std.specs.Prelude.{◌≤◌, eqb, get_or, length, ◌&&◌, ◌||◌, [], ◌∷◌, ◌≡◌};
 ghost use Rattle.std.proofs.Math.Option.{some};
 ghost use Rattle.definitions.specs.Bytes.{comma, fields_of};

@@ -1,4 +1,6 @@
 // The site groups of cohort.kv.
+#![tactic(auto)]
+
 ghost use Rattle.std.specs.Prelude.{◌≡◌, ◌&&◌, ◌||◌, cond, eqb, leb};
 ghost use Rattle.definitions.specs.Alleles.{genotype_count};
 ghost use Rattle.definitions.specs.Answers.{scratch_after};

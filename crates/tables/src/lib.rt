@@ -1,5 +1,7 @@
 // The tables that the texts of a call are read into: names, sites, and behind 4,096 sites the first 1,024 reference segments. Every number
 // of a row is answered: past the table's end all columns are 0.
+#![tactic(auto)]
+
 ghost use Rattle.std.specs.Prelude.{◌≡◌, ◌+◌, ◌<◌, ◌≤◌, eqb, get_or, length, []};
 ghost use Rattle.std.proofs.lemmas.List.Edits.{sets};
 ghost use Rattle.std.proofs.Math.Option;

@@ -1,4 +1,6 @@
 // The counts of windows along a contig, to which the stretch of a record is added by arithmetic: one step for each window that it overlaps.
+#![tactic(auto)]
+
 ghost use Rattle.std.specs.Prelude.{◌-◌, ◌/◌, ◌<◌, ◌≤◌, max, min, suc, ◌≡◌};
 ghost use Rattle.definitions.specs.DepthWindows.{overlap};
 ghost use Rattle.window_counts.specs.Counts.{AddReady, LastReady, OverlapReady, OverlapsReady, SkipReady, added, windows_before};

@@ -1,4 +1,6 @@
 // A contig's breakpoints, a window at a time, and the records of the intervals between them, coalesced and laid.
+#![tactic(auto)]
+
 ghost use Rattle.std.specs.Prelude.{length, List, ◌∷◌, ◌≡◌, ◌≤◌, ◌/◌, ℕ};
 ghost use Rattle.breakpoint_windows.specs.Contig.{contig_window_end};
 ghost use Rattle.contig_walk.specs.Walk.{Begun, RecordsWalked, WalkRoom};

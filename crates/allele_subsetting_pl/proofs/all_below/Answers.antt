@@ -18,10 +18,10 @@ returns-then-bound-n c = sym (all_failed _ c.args.numbers.now 0 c.loop-i.i c.loo
 
 pub loop-i-preserved : goal.loop-i-preserved
 loop-i-preserved c = (
-      c.loop-i.invariant.0,
-      sym (all_next _ c.args.numbers.now 0 c.loop-i.i
-          c.loop-i-test.true (lt-ltb _ _ c.if-bound-n.false)) ∙ c.loop-i.invariant.1,
-    )
+  c.loop-i.invariant.0,
+  sym (all_next _ c.args.numbers.now 0 c.loop-i.i
+      c.loop-i-test.true (lt-ltb _ _ c.if-bound-n.false)) ∙ c.loop-i.invariant.1,
+)
 
 pub returns : goal.returns
 returns c = sym (all_end _ c.args.numbers.now c.loop-i.i c.loop-i-test.false) ∙ c.loop-i.invariant.1

@@ -22,10 +22,10 @@ returns-then-g-number c = rw (← c.get-number.ensures) (sym (any_found _ c.args
 
 pub loop-i-preserved : goal.loop-i-preserved
 loop-i-preserved c = (
-      c.loop-i.invariant.0,
-      sym (any_next _ c.args.gt.now 0 c.loop-i.i c.loop-i-test.true
-          (ne_eqb _ _ (λ e. c.if-g-number.false (sym e)))) ∙ c.loop-i.invariant.1,
-    )
+  c.loop-i.invariant.0,
+  sym (any_next _ c.args.gt.now 0 c.loop-i.i c.loop-i-test.true
+      (ne_eqb _ _ (λ e. c.if-g-number.false (sym e)))) ∙ c.loop-i.invariant.1,
+)
 
 pub returns : goal.returns
 returns c = rw (← c.get-number.ensures) (sym (any_end _ c.args.gt.now c.loop-i.i c.loop-i-test.false) ∙

@@ -41,8 +41,8 @@ returns-then-alt_alleles-gt15 c = let args = c.args in
     let out = outputs args.alts_out.now args.gl_out.now args.ad_out.now in
     let many = too_many_alts args.alts.now args.gt.now args.gl.now args.ad.now c.alt_count-alt_alleles.ensures c.if-alt_alleles-gt15.true in
     let both =
-        with_none_above args.alts.now args.gt.now args.gl.now args.ad.now out
-        (answered_refused (within_is args.alts.now args.gt.now args.gl.now args.ad.now out ∙ refused_within out many)) in
+    with_none_above args.alts.now args.gt.now args.gl.now args.ad.now out
+    (answered_refused (within_is args.alts.now args.gt.now args.gl.now args.ad.now out ∙ refused_within out many)) in
     record { answered = both.0; none_above = both.1 }
 
 pub returns-then-left-alleles : goal.returns-then-left-alleles
@@ -52,10 +52,10 @@ returns-then-left-alleles c = let args = c.args in
     ∙ c.if-left-alleles.true in
     let subset = all_named args.alts.now args.gt.now args.gl.now args.ad.now c.alt_count-alt_alleles.ensures c.if-alt_alleles-gt15.false all in
     let both =
-        with_none_above args.alts.now args.gt.now args.gl.now args.ad.now out
-        (answered_as
-        (within_is args.alts.now args.gt.now args.gl.now args.ad.now out ∙ ap (λ s. subset_within s out) subset)
-        c.copy_record.ensures) in
+    with_none_above args.alts.now args.gt.now args.gl.now args.ad.now out
+    (answered_as
+    (within_is args.alts.now args.gt.now args.gl.now args.ad.now out ∙ ap (λ s. subset_within s out) subset)
+    c.copy_record.ensures) in
     record { answered = both.0; none_above = both.1 }
 
 pub slice_bounds-keep-end : goal.slice_bounds-keep-end
@@ -79,9 +79,8 @@ returns c = let args = c.args in
     let subset = some_unnamed args.alts.now args.gt.now args.gl.now args.ad.now c.alt_count-alt_alleles.ensures c.if-alt_alleles-gt15.false
     (λ e. c.if-left-alleles.false (many ∙ e)) in
     let both =
-        with_none_above args.alts.now args.gt.now args.gl.now args.ad.now out
-        (answered_as
-        (within_is args.alts.now args.gt.now args.gl.now args.ad.now out ∙ ap (λ s. subset_within s out) subset)
-        (rw (keep-front args.gt.now _ c.if-alt_alleles-gt15.false refl laid) at c.subset_record.ensures)) in
+    with_none_above args.alts.now args.gt.now args.gl.now args.ad.now out
+    (answered_as
+    (within_is args.alts.now args.gt.now args.gl.now args.ad.now out ∙ ap (λ s. subset_within s out) subset)
+    (rw (keep-front args.gt.now _ c.if-alt_alleles-gt15.false refl laid) at c.subset_record.ensures)) in
     record { answered = both.0; none_above = both.1 }
-

@@ -113,11 +113,11 @@ overflow_sub-last c = let enough = two c.loop-k.invariant (omega arith) c.if-las
 pub loop-k-preserved : goal.loop-k-preserved
 loop-k-preserved c =
     elim c.if-last-x.branch [
-      then-last-x w ↦
-        rw (w.places-is, w.last-is, w.at-is, add-one c.loop-k.k) (turn_joined c.loop-k.invariant (omega arith) w.if-last-x.true)
-    | else-last-x w ↦
-        rw (w.places-is, w.last-is, w.at-is, add-one c.loop-k.at, add-one c.loop-k.k)
-        (turn-other c.loop-k.invariant (omega arith) w.if-last-x.false)
+      | then-last-x w ↦
+          rw (w.places-is, w.last-is, w.at-is, add-one c.loop-k.k) (turn_joined c.loop-k.invariant (omega arith) w.if-last-x.true)
+      | else-last-x w ↦
+          rw (w.places-is, w.last-is, w.at-is, add-one c.loop-k.at, add-one c.loop-k.k)
+          (turn-other c.loop-k.invariant (omega arith) w.if-last-x.false)
     ]
 
 pub returns : goal.returns

@@ -12,12 +12,12 @@ alleles_without_non_ref-behind_alts-requires c = omega (arith, c.requires, c.put
 
 pub put_byte-requires : goal.put_byte-requires
 put_byte-requires c = omega (
-      arith,
-      c.requires,
-      c.put_bytes-behind_key.ensures.next,
-      c.alleles_without_non_ref-behind_alts.ensures.next,
-      alt_line_length (c.args.alts.now),
-    )
+  arith,
+  c.requires,
+  c.put_bytes-behind_key.ensures.next,
+  c.alleles_without_non_ref-behind_alts.ensures.next,
+  alt_line_length (c.args.alts.now),
+)
 
 pub returns : goal.returns
 returns c = alt_line_laid (c.args.alts.now) (c.put_bytes-behind_key.ensures) (c.alleles_without_non_ref-behind_alts.ensures)

@@ -11,13 +11,13 @@ loop-sample-init c = recast (samples_all _ _ _ _ _) (start c.requires.fits)
 
 pub put_called_sample-next-requires : goal.put_called_sample-next-requires
 put_called_sample-next-requires c = record {
-      at_least = c.requires.at_least;
-      at_most = c.requires.at_most;
-      dropped = c.requires.dropped;
-      entries = rw c.new-index.ensures (sample_entries _ _ _ _ _ _ c.requires c.loop-sample-test.true);
-      fits = rw c.new-index.ensures (room (called_sample _ _ _ _ _) _
-          (recast (samples_next _ _ _ _ _ _ c.loop-sample-test.true) c.loop-sample.invariant));
-    }
+  at_least = c.requires.at_least;
+  at_most = c.requires.at_most;
+  dropped = c.requires.dropped;
+  entries = rw c.new-index.ensures (sample_entries _ _ _ _ _ _ c.requires c.loop-sample-test.true);
+  fits = rw c.new-index.ensures (room (called_sample _ _ _ _ _) _
+      (recast (samples_next _ _ _ _ _ _ c.loop-sample-test.true) c.loop-sample.invariant));
+}
 
 pub loop-sample-preserved : goal.loop-sample-preserved
 loop-sample-preserved c = several (rw c.new-index.ensures at c.put_called_sample-next.ensures)

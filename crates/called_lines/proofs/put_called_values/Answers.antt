@@ -7,11 +7,11 @@ use Rattle.called_lines.proofs.put_called_values.Goals as goal
 
 pub put_optional_number_line-behind_gq-requires : goal.put_optional_number_line-behind_gq-requires
 put_optional_number_line-behind_gq-requires c = rw (c.gq_of_pl-gq.ensures) (omega (
-      arith,
-      c.requires,
-      called_length (option_of (c.args.dp)) (c.args.ad.now)
-          (c.args.pl.now),
-    ))
+  arith,
+  c.requires,
+  called_length (option_of (c.args.dp)) (c.args.ad.now)
+      (c.args.pl.now),
+))
 
 pub put_optional_number_line-behind_dp-requires : goal.put_optional_number_line-behind_dp-requires
 put_optional_number_line-behind_dp-requires c = let gq = rw (c.gq_of_pl-gq.ensures) at (c.put_optional_number_line-behind_gq.ensures) in

@@ -46,7 +46,7 @@ overflow_add-next c = let h = line_within _ _ _ some _ _ (rw c.in-At-alternate.i
     omega (
       arith,
       h,
-      c.well-formed,
+      c.well_formed,
     )
 
 pub returns : goal.returns

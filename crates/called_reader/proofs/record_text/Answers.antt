@@ -25,25 +25,25 @@ returns-in_default-lines c = sample_wrong _ _ _ _ _ _ _ _ _ c.loop-i.invariant c
     (rw c.in-Head.is at c.record_head-first.ensures) (rw c.in_default-lines.is at c.sample_lines-lines.ensures)
 
 pub overflow_mul-pls : goal.overflow_mul-pls
-overflow_mul-pls c = omega (arith, c.well-formed, c.requires, c.loop-i.invariant.long, c.loop-i-test.true)
+overflow_mul-pls c = omega (arith, c.well_formed, c.requires, c.loop-i.invariant.long, c.loop-i-test.true)
 
 pub offset_bounds-pls-i : goal.offset_bounds-pls-i
-offset_bounds-pls-i c = omega (arith, c.well-formed, c.requires, c.loop-i.invariant.long, c.loop-i-test.true)
+offset_bounds-pls-i c = omega (arith, c.well_formed, c.requires, c.loop-i.invariant.long, c.loop-i-test.true)
 
 pub bounds-pls-i : goal.bounds-pls-i
-bounds-pls-i c = omega (arith, c.well-formed, c.requires, c.loop-i.invariant.long, c.loop-i-test.true)
+bounds-pls-i c = omega (arith, c.well_formed, c.requires, c.loop-i.invariant.long, c.loop-i-test.true)
 
 pub overflow_mul-pls-in-loop-i : goal.overflow_mul-pls-in-loop-i
-overflow_mul-pls-in-loop-i c = omega (arith, c.well-formed, c.requires, c.loop-i.invariant.long, c.loop-i-test.true)
+overflow_mul-pls-in-loop-i c = omega (arith, c.well_formed, c.requires, c.loop-i.invariant.long, c.loop-i-test.true)
 
 pub overflow_add-pls : goal.overflow_add-pls
-overflow_add-pls c = omega (arith, c.well-formed, c.requires, c.loop-i.invariant.long, c.loop-i-test.true)
+overflow_add-pls c = omega (arith, c.well_formed, c.requires, c.loop-i.invariant.long, c.loop-i-test.true)
 
 pub offset_bounds-pls-i-in-loop-i : goal.offset_bounds-pls-i-in-loop-i
-offset_bounds-pls-i-in-loop-i c = omega (arith, c.well-formed, c.requires, c.loop-i.invariant.long, c.loop-i-test.true)
+offset_bounds-pls-i-in-loop-i c = omega (arith, c.well_formed, c.requires, c.loop-i.invariant.long, c.loop-i-test.true)
 
 pub bounds-pls-i-in-loop-i : goal.bounds-pls-i-in-loop-i
-bounds-pls-i-in-loop-i c = lt-length-set c.loop-i.pls _ _ (omega (arith, c.well-formed, c.requires, c.loop-i.invariant.long, c.loop-i-test.true))
+bounds-pls-i-in-loop-i c = lt-length-set c.loop-i.pls _ _ (omega (arith, c.well_formed, c.requires, c.loop-i.invariant.long, c.loop-i-test.true))
 
 pub overflow_step-i : goal.overflow_step-i
 overflow_step-i c = omega (arith, c.loop-i-test.true, c.ranges.samples)

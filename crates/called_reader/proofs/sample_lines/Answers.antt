@@ -33,7 +33,7 @@ returns-in_default-depths c = ad_wrong _ _ _ _ (rw c.in-Found.is at c.code_line-
 
 pub overflow_add-e2 : goal.overflow_add-e2
 overflow_add-e2 c = let h = line_within _ _ _ (or_missing number_list) _ _ (rw c.in-Part.is at c.part_line-depths.ensures).0 in
-    omega (arith, h, c.well-formed)
+    omega (arith, h, c.well_formed)
 
 pub returns-in_default-likelihoods : goal.returns-in_default-likelihoods
 unfolding key_of text
@@ -47,7 +47,7 @@ overflow_add-next c = let h = line_within _ _ _ (or_missing number_list) _ _ (rw
     omega (
       arith,
       h,
-      c.well-formed,
+      c.well_formed,
     )
 
 pub returns : goal.returns

@@ -22,17 +22,23 @@ returns-in-Cohort c = let r = rw c.in-Cohort.is at c.read_fitting-read.ensures i
 
 pub returns-in-NoRoom : goal.returns-in-NoRoom
 unfolding CohortAt CohortFitting cohort_answer
-returns-in-NoRoom c = let r = rw c.in-NoRoom.is at c.read_fitting-read.ensures in record { answer = rw (le-ltb _ 128 c.if-names-lt128.false) r.answer; tables = record {
-        no_room = inr r.tables;
-        names_cleared = c.clear_tables-in-NoRoom.ensures.1 ∙ scratch_same _ _ c.read_fitting-read.auto.names;
-        rows_cleared = c.clear_tables-in-NoRoom.ensures.0 ∙ scratch_same _ _ c.read_fitting-read.auto.rows;
-      } }
+returns-in-NoRoom c = let r = rw c.in-NoRoom.is at c.read_fitting-read.ensures in record {
+  answer = rw (le-ltb _ 128 c.if-names-lt128.false) r.answer;
+  tables = record {
+    no_room = inr r.tables;
+    names_cleared = c.clear_tables-in-NoRoom.ensures.1 ∙ scratch_same _ _ c.read_fitting-read.auto.names;
+    rows_cleared = c.clear_tables-in-NoRoom.ensures.0 ∙ scratch_same _ _ c.read_fitting-read.auto.rows;
+  };
+}
 
 pub returns-in-Refused : goal.returns-in-Refused
 unfolding CohortAt CohortFitting cohort_answer
-returns-in-Refused c = let r = rw c.in-Refused.is at c.read_fitting-read.ensures in record { answer = rw (le-ltb _ 128 c.if-names-lt128.false) r.answer; tables = record {
-        room = omega (arith, c.if-names-lt128.false);
-        value = r.tables;
-        names_cleared = c.clear_tables-in-Refused.ensures.1 ∙ scratch_same _ _ c.read_fitting-read.auto.names;
-        rows_cleared = c.clear_tables-in-Refused.ensures.0 ∙ scratch_same _ _ c.read_fitting-read.auto.rows;
-      } }
+returns-in-Refused c = let r = rw c.in-Refused.is at c.read_fitting-read.ensures in record {
+  answer = rw (le-ltb _ 128 c.if-names-lt128.false) r.answer;
+  tables = record {
+    room = omega (arith, c.if-names-lt128.false);
+    value = r.tables;
+    names_cleared = c.clear_tables-in-Refused.ensures.1 ∙ scratch_same _ _ c.read_fitting-read.auto.names;
+    rows_cleared = c.clear_tables-in-Refused.ensures.0 ∙ scratch_same _ _ c.read_fitting-read.auto.rows;
+  };
+}

@@ -35,7 +35,9 @@ unfolding CohortFitting Header SitesRead
 returns-in-Sites c = let h = rw c.in-Samples.is at c.read_samples-header.ensures in
     let both = rw c.in-Sites.is at c.read_sites-sites.ensures in
     let r = both.table in
-    record { answer = sites_said _ c.if-s-gt16777216.false _ _ _ h.value h.behind _ _ (both.answer _ (names_count _ _ _)); tables = record {
+    record {
+      answer = sites_said _ c.if-s-gt16777216.false _ _ _ h.value h.behind _ _ (both.answer _ (names_count _ _ _));
+      tables = record {
         room = record { for_names = c.requires; for_rows = r.room };
         value = all_read _ c.if-s-gt16777216.false _ _ _ h.value h.behind _ (r.value _ (names_count _ _ _));
         table = r.table;
@@ -44,4 +46,5 @@ returns-in-Sites c = let h = rw c.in-Samples.is at c.read_samples-header.ensures
         few_sites = r.few;
         names_rest = h.rest;
         rows_rest = r.rest;
-      } }
+      };
+    }

@@ -23,8 +23,11 @@ shape_of-rows-in-Refused c = c.loop-next.invariant.0.long
 
 pub returns-in-Refused : goal.returns-in-Refused
 unfolding SiteRead
-returns-in-Refused c = let faulty = (rw c.in-Refused.is at c.site_at-group.ensures).0 in record { answer = refused_answer _ _ _ _ _ _ _ c.loop-next.invariant.0 c.loop-next-test.true _ faulty; table = site_refused _ _ _ _ _ _ _ c.loop-next.invariant.0
-          c.loop-next-test.true _ faulty }
+returns-in-Refused c = let faulty = (rw c.in-Refused.is at c.site_at-group.ensures).0 in record {
+  answer = refused_answer _ _ _ _ _ _ _ c.loop-next.invariant.0 c.loop-next-test.true _ faulty;
+  table = site_refused _ _ _ _ _ _ _ c.loop-next.invariant.0
+      c.loop-next-test.true _ faulty;
+}
 
 pub overflow_mul-count : goal.overflow_mul-count
 overflow_mul-count c = omega (arith, c.loop-next.invariant.0.few)

@@ -7,13 +7,13 @@ use Rattle.combined_list.proofs.combine_contigs.Goals as goal
 
 pub walk_contigs-measured-requires : goal.walk_contigs-measured-requires
 walk_contigs-measured-requires c = let pre = c.requires in (
-      measuring pre.0,
-      record {
-        for_chosen = pre.1;
-        for_window = pre.2;
-        for_walk = record { for_held = omega arith; for_fresh = omega arith; for_alts = omega arith };
-      },
-    )
+  measuring pre.0,
+  record {
+    for_chosen = pre.1;
+    for_window = pre.2;
+    for_walk = record { for_held = omega arith; for_fresh = omega arith; for_alts = omega arith };
+  },
+)
 
 pub write_measured-requires : goal.write_measured-requires
 write_measured-requires c = let pre = c.requires in

@@ -27,14 +27,14 @@ module _ {s rows : List ℕ} {samples : ℕ} {clipped : Bool} {clip : List ℕ} 
 
 pub loop-c-init : goal.loop-c-init
 loop-c-init c = record {
-      chosen-long = refl;
-      scratch-long = refl;
-      held-long = refl;
-      fresh-long = refl;
-      alts-long = refl;
-      out-long = refl;
-      going = λ ready. going_start ready;
-    }
+  chosen-long = refl;
+  scratch-long = refl;
+  held-long = refl;
+  fresh-long = refl;
+  alts-long = refl;
+  out-long = refl;
+  going = λ ready. going_start ready;
+}
 
 pub walk_one-walked-requires : goal.walk_one-walked-requires
 walk_one-walked-requires c = let inv = c.loop-c.invariant in

@@ -37,14 +37,14 @@ overflow_add-read c = omega (arith, c.loop-test.true, c.well-formed.1.1.1.0)
 pub loop-read-preserved : goal.loop-read-preserved
 unfolding RecordRead
 loop-read-preserved c = (
-      c.record-at.auto.1.1.1.1.0 ∙ c.loop.invariant.0,
-      c.genotype_one_record-laid.auto.1.1.1.1.0
-          ∙ c.loop.invariant.1,
-      omega (arith, c.loop-test.true),
-      λ ready. going_next _ _ _ _ ready (c.loop.invariant.3 ready)
-          c.loop-test.true (rw c.in-Record.is at c.record-at.ensures) c.record_end-last.ensures
-          c.genotype_one_record-laid.ensures,
-    )
+  c.record-at.auto.1.1.1.1.0 ∙ c.loop.invariant.0,
+  c.genotype_one_record-laid.auto.1.1.1.1.0
+      ∙ c.loop.invariant.1,
+  omega (arith, c.loop-test.true),
+  λ ready. going_next _ _ _ _ ready (c.loop.invariant.3 ready)
+      c.loop-test.true (rw c.in-Record.is at c.record-at.ensures) c.record_end-last.ensures
+      c.genotype_one_record-laid.ensures,
+)
 
 pub shape_of-rows-then-next-s : goal.shape_of-rows-then-next-s
 shape_of-rows-then-next-s c = c.loop-read.invariant.0

@@ -17,8 +17,8 @@ loop-i-preserved c =
     let loop = c.loop-i in
     let there = c.loop-i-test.true in
     elim c.if-x-least.branch [
-      then-x-least w ↦ rw (w.best-is, w.least-is) (place_less pl loop.best loop.least loop.i there refl w.if-x-least.true ∙ loop.invariant)
-    | else-x-least w ↦ rw (w.best-is, w.least-is) (place_other pl loop.best loop.least loop.i there refl w.if-x-least.false ∙ loop.invariant)
+      | then-x-least w ↦ rw (w.best-is, w.least-is) (place_less pl loop.best loop.least loop.i there refl w.if-x-least.true ∙ loop.invariant)
+      | else-x-least w ↦ rw (w.best-is, w.least-is) (place_other pl loop.best loop.least loop.i there refl w.if-x-least.false ∙ loop.invariant)
     ]
 
 pub returns : goal.returns

@@ -18,10 +18,10 @@ returns-then-not-in_range c = sym (all_failed in_range c.args.values.now nan c.l
 
 pub loop-i-preserved : goal.loop-i-preserved
 loop-i-preserved c = (
-      c.loop-i.invariant.0,
-      sym (all_next in_range c.args.values.now nan c.loop-i.i c.loop-i-test.true
-          (passed c.in_range.ensures c.if-not-in_range.false-raw)) ∙ c.loop-i.invariant.1,
-    )
+  c.loop-i.invariant.0,
+  sym (all_next in_range c.args.values.now nan c.loop-i.i c.loop-i-test.true
+      (passed c.in_range.ensures c.if-not-in_range.false-raw)) ∙ c.loop-i.invariant.1,
+)
 
 pub returns : goal.returns
 returns c = sym (all_end in_range c.args.values.now c.loop-i.i c.loop-i-test.false) ∙ c.loop-i.invariant.1

@@ -15,11 +15,11 @@ loop-i-init c = (refl, sym (greatest_first c.args.values.now c.requires))
 
 pub loop-i-preserved : goal.loop-i-preserved
 loop-i-preserved c = (
-      c.loop-i.invariant.0,
-      rw c.greater_of-best.ensures (sym
-          (fold_next greater c.args.values.now nan c.loop-i.i c.loop-i.best c.loop-i-test.true) ∙
-          c.loop-i.invariant.1),
-    )
+  c.loop-i.invariant.0,
+  rw c.greater_of-best.ensures (sym
+      (fold_next greater c.args.values.now nan c.loop-i.i c.loop-i.best c.loop-i-test.true) ∙
+      c.loop-i.invariant.1),
+)
 
 pub returns : goal.returns
 returns c = sym (fold_end greater c.args.values.now nan c.loop-i.i c.loop-i.best c.loop-i-test.false) ∙

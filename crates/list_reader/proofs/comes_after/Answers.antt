@@ -10,13 +10,13 @@ returns-in-Less c = rw (c.in-Last.is, ← c.part.ensures, ← c.compare_bytes-or
 pub returns-in-Same : goal.returns-in-Same
 unfolding by_order
 returns-in-Same c = rw (
-      c.in-Last.is,
-      ← c.part.ensures,
-      ← c.compare_bytes-order.ensures,
-      c.in-Same.is,
-      c.get.ensures,
-      c.get-in-Same.ensures,
-    )
+  c.in-Last.is,
+  ← c.part.ensures,
+  ← c.compare_bytes-order.ensures,
+  c.in-Same.is,
+  c.get.ensures,
+  c.get-in-Same.ensures,
+)
 
 pub returns-in-Greater : goal.returns-in-Greater
 unfolding by_order

@@ -24,21 +24,21 @@ overflow_mul-genotypes c = omega (arith, product c.args.alts (omega arith))
 pub returns-then-not-missing_or : goal.returns-then-not-missing_or
 unfolding genotype_count
 returns-then-not-missing_or c = rw (
-      c.if-not-before.false,
-      lt-ltb _ _ c.if-alts-ge16.false,
-      ← add-one c.args.alts,
-      ← add-one
-          (c.args.alts + 1),
-    )
+  c.if-not-before.false,
+  lt-ltb _ _ c.if-alts-ge16.false,
+  ← add-one c.args.alts,
+  ← add-one
+      (c.args.alts + 1),
+)
     (rw (sym c.missing_or.ensures ∙ c.if-not-missing_or.true))
 
 pub returns : goal.returns
 unfolding genotype_count
 returns c = rw (
-      c.if-not-before.false,
-      lt-ltb _ _ c.if-alts-ge16.false,
-      ← add-one c.args.alts,
-      ← add-one
-          (c.args.alts + 1),
-    )
+  c.if-not-before.false,
+  lt-ltb _ _ c.if-alts-ge16.false,
+  ← add-one c.args.alts,
+  ← add-one
+      (c.args.alts + 1),
+)
     (rw (sym c.missing_or.ensures ∙ c.if-not-missing_or.false) c.missing_or-2.ensures)

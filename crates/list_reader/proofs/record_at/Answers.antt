@@ -12,7 +12,7 @@ returns-in-Record c = rw c.in-Record.is at c.read_record-found.ensures
 pub returns-in-Refused : goal.returns-in-Refused
 unfolding RecordFound RecordRead
 returns-in-Refused c = record {
-      value = rw c.in-Refused.is at c.read_record-found.ensures;
-      cleared = c.clear.ensures ∙ scratch_same _ _
-          c.read_record-found.auto.rows;
-    }
+  value = rw c.in-Refused.is at c.read_record-found.ensures;
+  cleared = c.clear.ensures ∙ scratch_same _ _
+      c.read_record-found.auto.rows;
+}

@@ -11,10 +11,10 @@ use Rattle.list_walk.proofs.records_line.Goals as goal
 pub returns-in_default : goal.returns-in_default
 unfolding FigureRead LineReads key_of text
 returns-in_default c = record {
-      row_is = refl;
-      value = rw c.in_default.is at c.number_line-line.ensures;
-      cleared = c.clear.ensures;
-    }
+  row_is = refl;
+  value = rw c.in_default.is at c.number_line-line.ensures;
+  cleared = c.clear.ensures;
+}
 
 pub overflow_add-next : goal.overflow_add-next
 unfolding LineReads
@@ -23,9 +23,9 @@ overflow_add-next c = let l = rw c.in-Found.is at c.number_line-line.ensures in 
 pub returns : goal.returns
 unfolding FigureRead LineReads key_of text
 returns c = record {
-      end = _;
-      line = rw c.in-Found.is at c.number_line-line.ensures;
-      samples_are = refl;
-      next_is = refl;
-      same = refl;
-    }
+  end = _;
+  line = rw c.in-Found.is at c.number_line-line.ensures;
+  samples_are = refl;
+  next_is = refl;
+  same = refl;
+}

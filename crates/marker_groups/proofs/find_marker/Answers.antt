@@ -23,10 +23,10 @@ loop-i-smaller c = omega arith
 
 pub loop-i-preserved : goal.loop-i-preserved
 loop-i-preserved c = (
-      c.loop-i.invariant.0 ∙ found_next _ _ _ _ _ c.loop-i-test.true
-          (rw c.part_at.ensures at (sym c.same_bytes.ensures ∙ c.if-same_bytes.false)),
-      omega arith,
-    )
+  c.loop-i.invariant.0 ∙ found_next _ _ _ _ _ c.loop-i-test.true
+      (rw c.part_at.ensures at (sym c.same_bytes.ensures ∙ c.if-same_bytes.false)),
+  omega arith,
+)
 
 pub returns : goal.returns
 returns c = sym (c.loop-i.invariant.0 ∙ found_end _ _ _ _ _ (omega (arith, c.loop-i.invariant.1, c.loop-i-test.false)))

@@ -25,9 +25,9 @@ shape_of-rows-in-Refused c = c.clear.auto.table ∙ c.marker_at-found.auto.rows 
 pub returns-in-Refused : goal.returns-in-Refused
 unfolding MarkersRead MarkerRead
 returns-in-Refused c = record {
-      value = reading_refused c.loop-at.invariant.0 c.loop-at-test.true _ (rw c.in-Refused.is at c.marker_at-found.ensures);
-      cleared = c.clear.ensures ∙ scratch_same _ _ (c.marker_at-found.auto.rows ∙ c.loop-at.invariant.0.long);
-    }
+  value = reading_refused c.loop-at.invariant.0 c.loop-at-test.true _ (rw c.in-Refused.is at c.marker_at-found.ensures);
+  cleared = c.clear.ensures ∙ scratch_same _ _ (c.marker_at-found.auto.rows ∙ c.loop-at.invariant.0.long);
+}
 
 pub overflow_add-count : goal.overflow_add-count
 overflow_add-count c = let few = c.loop-at.invariant.0.sound.few in omega arith
@@ -39,10 +39,10 @@ loop-at-smaller c = let to = rw c.in-Next.is at c.marker_at-found.ensures in ome
 pub loop-at-preserved : goal.loop-at-preserved
 unfolding MarkerRead
 loop-at-preserved c = (
-      reading_next c.loop-at.invariant.0 c.loop-at-test.true _ _ (rw c.in-Next.is at c.marker_at-found.ensures)
-          c.marker_at-found.auto.rows,
-      c.loop-at.invariant.1,
-    )
+  reading_next c.loop-at.invariant.0 c.loop-at-test.true _ _ (rw c.in-Next.is at c.marker_at-found.ensures)
+      c.marker_at-found.auto.rows,
+  c.loop-at.invariant.1,
+)
 
 pub shape_of-rows : goal.shape_of-rows
 shape_of-rows c = c.loop-at.invariant.0.long

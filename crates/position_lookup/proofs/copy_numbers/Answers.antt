@@ -9,7 +9,7 @@ pub loop-i-init : goal.loop-i-init
 loop-i-init c = copying_start _ _
 
 pub offset_bounds-out-i : goal.offset_bounds-out-i
-offset_bounds-out-i c = omega (arith, c.loop-i.invariant.size, c.requires, c.well-formed)
+offset_bounds-out-i c = omega (arith, c.loop-i.invariant.size, c.requires, c.well_formed)
 
 pub bounds-out-i : goal.bounds-out-i
 bounds-out-i c = omega (arith, c.loop-i.invariant.size, c.requires)

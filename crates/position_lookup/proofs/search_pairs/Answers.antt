@@ -35,10 +35,10 @@ holder-number-requires c = searching_stands _ _ _ _ c.requires (c.loop-at.invari
 pub overflow_add-count : goal.overflow_add-count
 unfolding PairRead
 overflow_add-count c = omega (
-      arith,
-      searching_few _ _ _ _ c.requires (c.loop-at.invariant c.requires) c.loop-at-test.true
-          (rw c.in-Pair.is at c.pair_at-read.ensures),
-    )
+  arith,
+  searching_few _ _ _ _ c.requires (c.loop-at.invariant c.requires) c.loop-at-test.true
+      (rw c.in-Pair.is at c.pair_at-read.ensures),
+)
 
 pub loop-at-smaller : goal.loop-at-smaller
 unfolding PairRead

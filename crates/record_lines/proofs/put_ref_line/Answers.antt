@@ -14,12 +14,12 @@ put_letters-behind_letters-requires c = omega (arith, c.requires, c.put_bytes-be
 
 pub put_byte-requires : goal.put_byte-requires
 put_byte-requires c = omega (
-      arith,
-      c.requires,
-      c.put_bytes-behind_key.ensures.next,
-      c.put_letters-behind_letters.ensures.next,
-      ref_line_length (map capital c.args.reference.now),
-    )
+  arith,
+  c.requires,
+  c.put_bytes-behind_key.ensures.next,
+  c.put_letters-behind_letters.ensures.next,
+  ref_line_length (map capital c.args.reference.now),
+)
 
 pub returns : goal.returns
 returns c = ref_line_laid _ c.put_bytes-behind_key.ensures c.put_letters-behind_letters.ensures c.put_byte.ensures

@@ -19,12 +19,12 @@ put_alt-requires t c = (c.is_non_ref-nonref.ensures, c.requires.2)
 pub returns : goal.returns
 returns t c =
     elim c.if-has_next.branch [
-      then-has_next w ↦
-        rw (w.map-is ∙ rw w.next_allele-next.ensures at w.put_alts.ensures) at c.put_alt.ensures
-        ∙ put_next _ _ _ _ _ c.args.alternates.now _ _ _ _ c.requires.0 c.requires.1 c.field_end-end.ensures c.is_non_ref-nonref.ensures
-        c.first_non_ref-absent.ensures _ _ (sym c.has_next.ensures ∙ w.if-has_next.true)
-    | else-has_next w ↦
-        rw (w.map-is ∙ w.put_absent.ensures) at c.put_alt.ensures
-        ∙ put_last _ _ _ _ _ c.args.alternates.now _ _ _ _ c.requires.0 c.requires.1 c.field_end-end.ensures c.is_non_ref-nonref.ensures
-        c.first_non_ref-absent.ensures _ _ (sym c.has_next.ensures ∙ w.if-has_next.false)
+      | then-has_next w ↦
+          rw (w.map-is ∙ rw w.next_allele-next.ensures at w.put_alts.ensures) at c.put_alt.ensures
+          ∙ put_next _ _ _ _ _ c.args.alternates.now _ _ _ _ c.requires.0 c.requires.1 c.field_end-end.ensures c.is_non_ref-nonref.ensures
+          c.first_non_ref-absent.ensures _ _ (sym c.has_next.ensures ∙ w.if-has_next.true)
+      | else-has_next w ↦
+          rw (w.map-is ∙ w.put_absent.ensures) at c.put_alt.ensures
+          ∙ put_last _ _ _ _ _ c.args.alternates.now _ _ _ _ c.requires.0 c.requires.1 c.field_end-end.ensures c.is_non_ref-nonref.ensures
+          c.first_non_ref-absent.ensures _ _ (sym c.has_next.ensures ∙ w.if-has_next.false)
     ]

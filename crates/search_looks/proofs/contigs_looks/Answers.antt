@@ -7,13 +7,13 @@ use Rattle.search_looks.proofs.contigs_looks.Goals as goal
 
 pub walk_contigs-measured-requires : goal.walk_contigs-measured-requires
 walk_contigs-measured-requires c = let pre = c.requires in (
-      measuring pre.0.list,
-      record {
-        for_chosen = pre.1;
-        for_window = pre.2;
-        for_walk = record { for_held = omega arith; for_fresh = omega arith; for_alts = omega arith };
-      },
-    )
+  measuring pre.0.list,
+  record {
+    for_chosen = pre.1;
+    for_window = pre.2;
+    for_walk = record { for_held = omega arith; for_fresh = omega arith; for_alts = omega arith };
+  },
+)
 
 pub asked_looks-requires : goal.asked_looks-requires
 asked_looks-requires c = let pre = c.requires in

@@ -36,10 +36,10 @@ loop-i-smaller c = omega (arith, c.loop-i-test.true)
 
 pub loop-i-preserved : goal.loop-i-preserved
 loop-i-preserved c = (
-      any_next _ _ _ c.loop-i.invariant.0 (omega (arith, c.loop-i.invariant.1, c.loop-i-test.true))
-          (rw c.least_pl-least.ensures at (sym c.is_least_with.ensures ∙ c.if-is_least_with.false)),
-      c.loop-i.invariant.1,
-    )
+  any_next _ _ _ c.loop-i.invariant.0 (omega (arith, c.loop-i.invariant.1, c.loop-i-test.true))
+      (rw c.least_pl-least.ensures at (sym c.is_least_with.ensures ∙ c.if-is_least_with.false)),
+  c.loop-i.invariant.1,
+)
 
 pub returns : goal.returns
 unfolding in_least_pair

@@ -23,10 +23,10 @@ overflow_add-e6 c = let code-line = c.code_line-quality in
 pub returns-in_default-depth : goal.returns-in_default-depth
 unfolding key_of text
 returns-in_default-depth c = (
-      dp_wrong _ _ _ _ (rw c.in-Found.is at c.code_line-quality.ensures)
-          (rw c.in_default-depth.is at c.code_line-depth.ensures),
-      (none_stored _, none_stored _),
-    )
+  dp_wrong _ _ _ _ (rw c.in-Found.is at c.code_line-quality.ensures)
+      (rw c.in_default-depth.is at c.code_line-depth.ensures),
+  (none_stored _, none_stored _),
+)
 
 pub overflow_add-e7 : goal.overflow_add-e7
 overflow_add-e7 c = let code-line2 = c.code_line-depth in
@@ -35,10 +35,10 @@ overflow_add-e7 c = let code-line2 = c.code_line-depth in
 pub returns-in_default-least : goal.returns-in_default-least
 unfolding key_of text
 returns-in_default-least c = (
-      mindp_wrong _ _ _ _ (rw c.in-Found.is at c.code_line-quality.ensures) _ _
-          (rw c.in-Found-depth.is at c.code_line-depth.ensures) (rw c.in_default-least.is at c.code_line-least.ensures),
-      (none_stored _, none_stored _),
-    )
+  mindp_wrong _ _ _ _ (rw c.in-Found.is at c.code_line-quality.ensures) _ _
+      (rw c.in-Found-depth.is at c.code_line-depth.ensures) (rw c.in_default-least.is at c.code_line-least.ensures),
+  (none_stored _, none_stored _),
+)
 
 pub overflow_add-e8 : goal.overflow_add-e8
 overflow_add-e8 c = let code-line3 = c.code_line-least in
@@ -47,11 +47,11 @@ overflow_add-e8 c = let code-line3 = c.code_line-least in
 pub returns-in_default-depths : goal.returns-in_default-depths
 unfolding key_of text
 returns-in_default-depths c = let depths = rw c.in_default-depths.is at c.part_line-depths.ensures in (
-      ad_wrong _ _ _ _ (rw c.in-Found.is at c.code_line-quality.ensures) _ _
-          (rw c.in-Found-depth.is at c.code_line-depth.ensures) _ _
-          (rw c.in-Found-least.is at c.code_line-least.ensures) depths.0,
-      (record { numbers = line_numbers _ _ _; stored = depths.2 }, none_stored _),
-    )
+  ad_wrong _ _ _ _ (rw c.in-Found.is at c.code_line-quality.ensures) _ _
+      (rw c.in-Found-depth.is at c.code_line-depth.ensures) _ _
+      (rw c.in-Found-least.is at c.code_line-least.ensures) depths.0,
+  (record { numbers = line_numbers _ _ _; stored = depths.2 }, none_stored _),
+)
 
 pub overflow_add-e9 : goal.overflow_add-e9
 overflow_add-e9 c = let h = line_within _ _ _ (or_missing number_list) _ _ (rw c.in-Part.is at c.part_line-depths.ensures).0 in

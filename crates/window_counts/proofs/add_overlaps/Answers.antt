@@ -30,9 +30,9 @@ overflow_cast-counts c = let e = c.overlap-more.ensures in
 
 pub overflow_add-counts : goal.overflow_add-counts
 overflow_add-counts c = record {
-      fits = count_fits _ _ _ _ c.loop-k.invariant c.get-start.ensures c.get-end.ensures c.get-begin.ensures
-          c.loop-k-test.true c.requires.fits c.overlap-more.ensures;
-    }
+  fits = count_fits _ _ _ _ c.loop-k.invariant c.get-start.ensures c.get-end.ensures c.get-begin.ensures
+      c.loop-k-test.true c.requires.fits c.overlap-more.ensures;
+}
 
 pub offset_bounds-counts-k-in-loop-k : goal.offset_bounds-counts-k-in-loop-k
 offset_bounds-counts-k-in-loop-k c = omega (arith, c.loop-k.invariant.len)

@@ -23,15 +23,15 @@ module _ {s rows : List ℕ} {samples : ℕ} {clipped referenced : Bool}
 
 pub loop-k-init : goal.loop-k-init
 loop-k-init c = record {
-      from-long = refl;
-      held-long = refl;
-      fresh-long = refl;
-      found-long = refl;
-      owners-long = refl;
-      alts-long = refl;
-      out-long = refl;
-      way = λ ready way. through_start ready way;
-    }
+  from-long = refl;
+  held-long = refl;
+  fresh-long = refl;
+  found-long = refl;
+  owners-long = refl;
+  alts-long = refl;
+  out-long = refl;
+  way = λ ready way. through_start ready way;
+}
 
 pub walk_place-turn-requires : goal.walk_place-turn-requires
 unfolding place_ready
