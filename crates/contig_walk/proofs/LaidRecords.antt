@@ -83,10 +83,10 @@ module _ {s rows : List ℕ} {samples : ℕ} {contig : List ℕ} {first last : �
 
   sound_alleles : SoundAlleles 255 16 (record_alleles r.on first r.to)
   sound_alleles = merged_alleles_sound _ first (covering r.on first) (sites_are_sound r.on first r.to) (ref_for r.on first r.to)
-      (omega (arith, r.to.number, r.to.few-alts))
+      (omega (arith, r.to.number, r.to.few_alts))
 
   pub few_fields : length (fields_of comma alts) ≤ 15
-  few_fields = rw (← text_is) (omega (arith, written_count 255 sound_alleles.alts sound_alleles.at_least_two, r.to.number, r.to.few-alts))
+  few_fields = rw (← text_is) (omega (arith, written_count 255 sound_alleles.alts sound_alleles.at_least_two, r.to.number, r.to.few_alts))
 
   alleles_are : alleles_in alts ≡ record_alts r.on first r.to
   alleles_are = rw (← text_is) (alleles_in_written 255 sound_alleles.alts sound_alleles.at_least_two)
@@ -218,7 +218,7 @@ module _ {s rows : List ℕ} {samples : ℕ} {contig : List ℕ} {first last : �
       short_ref = rw r.allele_is (ref_for r.on first r.to).letters.not_too_long
 
       short_alts : length alts ≤ 4096
-      short_alts = rw (← text_is) (omega (arith, alleles_few sound_alleles.alts, r.to.number, r.to.few-alts))
+      short_alts = rw (← text_is) (omega (arith, alleles_few sound_alleles.alts, r.to.number, r.to.few_alts))
 
       end_short : length (written_or_missing decimal (end_from first first)) ≤ 10
       end_short = rw (le-ltb first first (omega arith)) (omega arith)

@@ -103,7 +103,7 @@ module _ {s rows : List ℕ} {samples : ℕ} {referenced : Bool} {reference cont
       ref = to.ref;
       text = take-length text ∙ text_front text alts len e ∙ to.text;
       number = to.number;
-      few_alts = to.few-alts;
+      few_alts = to.few_alts;
     }
 
     unfoldable pub lay_ready : (text : List ℕ) → text ≡ between alts 0 len → (own : List ℕ) → own ≡ own_of rows (take n found)

@@ -18,7 +18,7 @@ use Rattle.definitions.specs.CoveringSites.{covering_site, covering_sites, cover
 use Rattle.definitions.specs.Limits.{max_sites}
 use Rattle.definitions.specs.Lists.{filter_by, first_greatest, numbers_from}
 use Rattle.kv_text.specs.Fields.{between}
-use Rattle.laws.proofs.Every.{Pairwise, before_all, every_member, numbers_ascend, pairwise_at, pairwise_filter}
+use Rattle.laws.proofs.Every.{Pairwise, alone, before_all, every_member, numbers_ascend, pairwise_at, pairwise_filter}
 use Rattle.laws.proofs.Greatest.{greatest_is, greatest_map}
 use Rattle.laws.proofs.Members.{◌∈◌, cons_cases, filter_by_map, filter_member, flat_map_member, length_numbers, member_filter, member_filter_map, member_flat_map, member_numbers, nil_of, numbers_member}
 use Rattle.laws.proofs.Tests.{both, both_of, not_none, some_same}
@@ -60,6 +60,7 @@ module _ (q : ℕ → Bool) where
   last_greatest : (value : ℕ → ℕ) {l : List ℕ} → Pairwise (λ i j. value i ≤ value j) l → (so_far : Option ℕ) {a : ℕ} → last_from q so_far l ≡ some a
       → (b : ℕ) → b ∈ l → q b ≡ true → value b ≤ value a
   unfolding last_from
+  last_greatest value alone so_far {a = a} e b m p = elim m [ ]
   last_greatest value (before_all {x = x} {xs = l} h hs) so_far {a} e b m p =
       cons_cases m here (λ n. last_greatest value hs (cond (q x) (some x) so_far) e b n p)
     where

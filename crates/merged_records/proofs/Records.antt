@@ -239,7 +239,7 @@ module _ {s rows : List ℕ} {samples : ℕ} {referenced : Bool} {reference cont
       })
   unfolding interval_record record_of
   record_is last =
-      let few : suc (length record_alts) ≤ 16 = omega (arith, to.few-alts, to.number) in
+      let few : suc (length record_alts) ≤ 16 = omega (arith, to.few_alts, to.number) in
       then _ _ to.ref (required _ _ _ (le-leb (suc (length record_alts)) 16 few) (rw on.loaded.names))
 
   -- its sites and REF are sound

@@ -7,28 +7,28 @@ use Rattle.called_lines.proofs.put_called_sample.Goals as goal
 pub slice_bounds-ad-end : goal.slice_bounds-ad-end
 slice_bounds-ad-end c = let ad = rw c.get-row.ensures at c.ad_of-ad_count.ensures in
     (ad_front c.args.s.now c.args.rows.now c.args.sample.0 c.args.alleles c.requires.at_most
-    c.requires.entries _ refl ad.0 ad.1).within
+    c.requires.entries _ refl ad.count ad.1).within
 
 pub slice_bounds-put_called_data-end : goal.slice_bounds-put_called_data-end
 slice_bounds-put_called_data-end c = let ad = rw c.get-row.ensures at c.ad_of-ad_count.ensures in
     (ad_front c.args.s.now c.args.rows.now c.args.sample.0 c.args.alleles c.requires.at_most
-    c.requires.entries _ refl ad.0 ad.1).long
+    c.requires.entries _ refl ad.count ad.1).long
 
 pub slice_bounds-pl-end : goal.slice_bounds-pl-end
 slice_bounds-pl-end c = let pl = rw c.get-row.ensures at c.pl_of-pl_count.ensures in
     (pl_front c.args.s.now c.args.rows.now c.args.sample.0 c.args.alleles c.requires.at_most
-    c.requires.entries _ refl pl.0 pl.1).within
+    c.requires.entries _ refl pl.count pl.1).within
 
 pub slice_bounds-put_called_data-end-2 : goal.slice_bounds-put_called_data-end-2
 slice_bounds-put_called_data-end-2 c = let pl = rw c.get-row.ensures at c.pl_of-pl_count.ensures in
     (pl_front c.args.s.now c.args.rows.now c.args.sample.0 c.args.alleles c.requires.at_most
-    c.requires.entries _ refl pl.0 pl.1).long
+    c.requires.entries _ refl pl.count pl.1).long
 
 pub put_called_data-requires : goal.put_called_data-requires
 put_called_data-requires c = let ad = rw c.get-row.ensures at c.ad_of-ad_count.ensures in
     let pl = rw c.get-row.ensures at c.pl_of-pl_count.ensures in
     let a = ad_front c.args.s.now c.args.rows.now c.args.sample.0 c.args.alleles c.requires.at_most
-    c.requires.entries _ refl ad.0 ad.1 in
+    c.requires.entries _ refl ad.count ad.1 in
     let p = pl_front c.args.s.now c.args.rows.now c.args.sample.0 c.args.alleles c.requires.at_most
     c.requires.entries _ refl pl.0 pl.1 in
     row_printable c.args.s.now c.args.rows.now c.args.sample.0 c.args.alleles c.args.dropped.0
@@ -38,7 +38,7 @@ pub returns : goal.returns
 returns c = let ad = rw c.get-row.ensures at c.ad_of-ad_count.ensures in
     let pl = rw c.get-row.ensures at c.pl_of-pl_count.ensures in
     let a = ad_front c.args.s.now c.args.rows.now c.args.sample.0 c.args.alleles c.requires.at_most
-    c.requires.entries _ refl ad.0 ad.1 in
+    c.requires.entries _ refl ad.count ad.1 in
     let p = pl_front c.args.s.now c.args.rows.now c.args.sample.0 c.args.alleles c.requires.at_most
     c.requires.entries _ refl pl.0 pl.1 in
     let dp = rw c.get-row.ensures at c.dp_of.ensures in

@@ -9,11 +9,11 @@ use Rattle.coalescing.proofs.coalesce_homref_blocks.Goals as goal
 pub returns-then-joins : goal.returns-then-joins
 unfolding block_stepped block_lays held_after
 returns-then-joins c = let joins = sym c.joins.ensures ∙ c.if-joins.true in
-    (rw joins (cc c.set_end.ensures), (rw joins, rw joins))
+    record { step = rw joins (cc c.set_end.ensures); laid = rw joins; lines = rw joins }
 
 pub returns : goal.returns
 unfolding block_lays held_after
 returns c = let apart = sym c.joins.ensures ∙ c.if-joins.false in
     let laid = c.lay_pending-laid.ensures in
     let held = c.put_bytes-len.ensures in
-    (held_instead _ _ _ _ _ _ _ _ apart laid.0 held.next, (rw apart laid.1, rw apart held.laid))
+    record { step = held_instead _ _ _ _ _ _ _ _ apart laid.step held.next; laid = rw apart laid.laid; lines = rw apart held.laid }

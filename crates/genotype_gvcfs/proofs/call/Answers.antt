@@ -18,7 +18,7 @@ call_samples-requires c = let h = rw (c.in-Samples.is) at c.read_samples-header.
       value = h.value;
       behind = h.behind;
       few = h.few;
-      in_table = omega (arith, h.few, c.read_samples-header.auto.1.0);
+      in_table = omega (arith, h.few, c.read_samples-header.auto.names);
     }
 
 pub returns-in-NoRoom : goal.returns-in-NoRoom

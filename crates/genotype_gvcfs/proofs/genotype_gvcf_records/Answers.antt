@@ -16,7 +16,7 @@ pub record_at-found-requires : goal.record_at-found-requires
 record_at-found-requires c = omega (arith, c.loop-read.invariant.0, c.requires.few, c.requires.room)
 
 pub shape_of-rows-in-Refused : goal.shape_of-rows-in-Refused
-shape_of-rows-in-Refused c = c.record_at-found.auto.1.1.1.1.0 ∙ c.loop-read.invariant.0
+shape_of-rows-in-Refused c = c.record_at-found.auto.rows ∙ c.loop-read.invariant.0
 
 pub shape_of-out-in-Refused : goal.shape_of-out-in-Refused
 shape_of-out-in-Refused c = c.loop-read.invariant.1
@@ -28,23 +28,23 @@ returns-in-Refused c = λ ready. going_refused _ _ _ _ ready (c.loop-read.invari
 
 pub genotype_one_record-laid-requires : goal.genotype_one_record-laid-requires
 unfolding RecordRead
-genotype_one_record-laid-requires c = lay_ready _ _ _ _ c.requires (c.loop.invariant.3 c.requires) c.loop-test.true
-    (rw c.in-Record.is at c.record-at.ensures)
+genotype_one_record-laid-requires c = lay_ready _ _ _ _ c.requires (c.loop-read.invariant.3 c.requires) c.loop-read-test.true
+    (rw c.in-Record.is at c.record_at-found.ensures)
 
 pub overflow_add-read : goal.overflow_add-read
-overflow_add-read c = omega (arith, c.loop-test.true, c.well-formed.1.1.1.0)
+overflow_add-read c = omega (arith, c.loop-read-test.true, c.well-formed.1.1.1.0)
 
 pub loop-read-preserved : goal.loop-read-preserved
 unfolding RecordRead
 loop-read-preserved c = (
-  c.record-at.auto.1.1.1.1.0 ∙ c.loop.invariant.0,
-  c.genotype_one_record-laid.auto.1.1.1.1.0
-      ∙ c.loop.invariant.1,
-  omega (arith, c.loop-test.true),
-  λ ready. going_next _ _ _ _ ready (c.loop.invariant.3 ready)
-      c.loop-test.true (rw c.in-Record.is at c.record-at.ensures) c.record_end-last.ensures
-      c.genotype_one_record-laid.ensures,
-)
+      c.record_at-found.auto.rows ∙ c.loop-read.invariant.0,
+      c.genotype_one_record-laid.auto.out
+          ∙ c.loop-read.invariant.1,
+      omega (arith, c.loop-read-test.true),
+      λ ready. going_next _ _ _ _ ready (c.loop-read.invariant.3 ready)
+          c.loop-read-test.true (rw c.in-Record.is at c.record_at-found.ensures) c.record_end-last.ensures
+          c.genotype_one_record-laid.ensures,
+    )
 
 pub shape_of-rows-then-next-s : goal.shape_of-rows-then-next-s
 shape_of-rows-then-next-s c = c.loop-read.invariant.0

@@ -20,19 +20,19 @@ module _ (s rows : List ℕ) (position : ℕ) (longest : List ℕ) where
   agree found = all_of (λ ref. is_prefix ref (map capital longest)) (starting_refs position (sites_at s rows found))
 
   pub record Inv (found : List ℕ) (i : ℕ) : Type 0 where
-    left : agree (drop i found) ≡ agree found
+    pub left : agree (drop i found) ≡ agree found
 
   module _ (found : List ℕ) (i : ℕ) (inv : Inv found i) where
-    one_more : i < length found → agree (get_or found i 0 ∷ []) && agree (drop (i + 1) found) ≡ agree found
+    pub one_more : i < length found → agree (get_or found i 0 ∷ []) && agree (drop (i + 1) found) ≡ agree found
     one_more h = sym (tested (λ ref. is_prefix ref (map capital longest)) position _ _) ∙ rw (add-one i) (rw (drop-cons found i 0 h) at inv.left)
 
-    turn : {here : Bool} → i < length found → here ≡ agree (get_or found i 0 ∷ []) → here ≡ true → Inv found (i + 1)
+    pub turn : {here : Bool} → i < length found → here ≡ agree (get_or found i 0 ∷ []) → here ≡ true → Inv found (i + 1)
     turn h e t = record { left = rw (← e, t) at (one_more h) }
 
-    fails : {here : Bool} → i < length found → here ≡ agree (get_or found i 0 ∷ []) → here ≡ false → false ≡ agree found
+    pub fails : {here : Bool} → i < length found → here ≡ agree (get_or found i 0 ∷ []) → here ≡ false → false ≡ agree found
     fails h e t = rw (← e, t) at (one_more h)
 
-    end : length found ≤ i → true ≡ agree found
+    pub end : length found ≤ i → true ≡ agree found
     unfolding starting_refs filter_by all_of
     end h = rw (drop_of_length-le found h) at inv.left
 
