@@ -6,18 +6,15 @@ use Rattle.combine_gvcfs.proofs.Loading.{by_reference, clip_long, cohort_long}
 use Rattle.combine_gvcfs.proofs.all_short.Goals as goal
 
 pub returns-then-not-is_short : goal.returns-then-not-is_short
-returns-then-not-is_short c = let a = c.args in
-    cohort_long a.cohort.now a.clipped a.clip.now a.referenced a.reference.now
+returns-then-not-is_short c = cohort_long c.args.cohort.now c.args.clipped c.args.clip.now c.args.referenced c.args.reference.now
     (sym c.is_short.ensures ∙ c.if-not-is_short.true)
 
 pub returns-then-not-is_short-2 : goal.returns-then-not-is_short-2
-returns-then-not-is_short-2 c = let a = c.args in
-    clip_long a.cohort.now a.clipped a.clip.now a.referenced a.reference.now
+returns-then-not-is_short-2 c = clip_long c.args.cohort.now c.args.clipped c.args.clip.now c.args.referenced c.args.reference.now
     (sym c.is_short-2.ensures ∙ c.if-not-is_short-2.true)
 
 pub returns : goal.returns
-returns c = let a = c.args in
-    c.is_short-3.ensures
-    ∙ by_reference a.cohort.now a.clipped a.clip.now a.referenced a.reference.now
+returns c = c.is_short-3.ensures
+    ∙ by_reference c.args.cohort.now c.args.clipped c.args.clip.now c.args.referenced c.args.reference.now
     (sym c.is_short.ensures ∙ c.if-not-is_short.false)
     (sym c.is_short-2.ensures ∙ c.if-not-is_short-2.false)

@@ -4,4 +4,4 @@ use Rattle.combine_gvcfs.proofs.Loading.{combined}
 use Rattle.combine_gvcfs.proofs.combine.Goals as goal
 
 pub returns : goal.returns
-returns c = combined _ c.combine_texts-outcome.ensures c.combine_texts-outcome.auto.1.1.1.1.1.0 c.clear_places.ensures
+returns c = combined _ c.combine_texts-outcome.ensures c.combine_texts-outcome.auto.scratch c.clear_places.ensures

@@ -11,4 +11,4 @@ returns-in-Done c = rw (c.in-Done.is) at (c.combine_small-tried.ensures)
 pub returns-in-NoRoom : goal.returns-in-NoRoom
 unfolding TriedWith
 returns-in-NoRoom c = let no_room = rw c.in-NoRoom.is at c.combine_small-tried.ensures in
-    tried_again c.combine_small-tried.auto.1.1.1.1.1.0 no_room.0 c.combine_long.ensures
+    tried_again c.combine_small-tried.auto.scratch no_room.0 c.combine_long.ensures

@@ -10,7 +10,7 @@ read_texts-read-requires c = (c.requires.0, c.requires.1.tables)
 
 pub combine_loaded_gvcfs-requires : goal.combine_loaded_gvcfs-requires
 unfolding ReadTo
-combine_loaded_gvcfs-requires c = let loaded = rw c.in-Loaded.is at c.read-texts.ensures in
+combine_loaded_gvcfs-requires c = let loaded = rw c.in-Loaded.is at c.read_texts-read.ensures in
     (loaded.call, c.requires.1.for_sites _ loaded.few_sites loaded.for_rows)
 
 pub returns-in-NoRoom : goal.returns-in-NoRoom
@@ -23,5 +23,5 @@ returns-in-Refused c = texts_refused (rw c.in-Refused.is at c.read_texts-read.en
 
 pub returns-in-Loaded : goal.returns-in-Loaded
 unfolding ReadTo TriedWith
-returns-in-Loaded c = let loaded = rw c.in-Loaded.is at c.read-texts.ensures in
+returns-in-Loaded c = let loaded = rw c.in-Loaded.is at c.read_texts-read.ensures in
     texts_answered loaded _ c.combine_loaded_gvcfs.ensures

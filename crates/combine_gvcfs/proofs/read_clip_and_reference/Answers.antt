@@ -20,6 +20,4 @@ pub returns : goal.returns
 unfolding ReadTo
 returns c = let spans = optional_in_order span_of _ _ (sym c.clip_in_order.ensures ∙ c.if-not-clip_in_order.false) in
     let segments = optional_in_order segment_of _ _ (sym c.reference_in_order.ensures ∙ c.if-not-reference_in_order.false) in
-    let held = c.requires in
-    let given = c.index_reference.ensures in
-    texts_loaded (still_held held given) spans segments (segments_there held given) held.for_rows
+    texts_loaded (still_held c.requires c.index_reference.ensures) spans segments (segments_there c.requires c.index_reference.ensures) c.requires.for_rows

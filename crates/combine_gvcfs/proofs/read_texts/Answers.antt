@@ -8,19 +8,17 @@ use Rattle.combine_gvcfs.proofs.read_texts.Goals as goal
 
 pub read_clip_and_reference-requires : goal.read_clip_and_reference-requires
 unfolding CohortAt
-read_clip_and_reference-requires c = let tables = c.requires.1 in
-    let to = rw c.in-Cohort.is at c.read-cohort.ensures.1 in
-    let kept = c.read-cohort.auto in
-    cohort_held _ _ _ _ _ c.requires.0 (omega (arith, tables.for_names, kept.1.0)) kept.1.1.0 tables.whole to
+read_clip_and_reference-requires c = let to = rw c.in-Cohort.is at c.read_cohort-read.ensures.tables in
+    cohort_held _ _ _ _ _ c.requires.0 (omega (arith, c.requires.1.for_names, c.read_cohort-read.auto.names)) c.read_cohort-read.auto.rows c.requires.1.whole to
 
 pub returns-in-NoRoom : goal.returns-in-NoRoom
 unfolding CohortAt ReadTo
-returns-in-NoRoom c = rows_short c.requires.1.for_names (rw c.in-NoRoom.is at c.read_cohort-read.ensures.1)
+returns-in-NoRoom c = rows_short c.requires.1.for_names (rw c.in-NoRoom.is at c.read_cohort-read.ensures.tables)
 
 pub returns-in-Refused : goal.returns-in-Refused
 unfolding CohortAt ReadTo
-returns-in-Refused c = let to = rw c.in-Refused.is at c.read_cohort-read.ensures.1 in
+returns-in-Refused c = let to = rw c.in-Refused.is at c.read_cohort-read.ensures.tables in
     cohort_refused _ _ _ _ _ c.requires.0 to.value
 
 pub returns-in-Cohort : goal.returns-in-Cohort
-returns-in-Cohort c = rw c.read-cohort.auto.1.1.0 at c.read_clip_and_reference.ensures
+returns-in-Cohort c = rw c.read_cohort-read.auto.rows at c.read_clip_and_reference.ensures

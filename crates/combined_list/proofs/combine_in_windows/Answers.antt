@@ -6,30 +6,25 @@ use Rattle.combined_list.proofs.OneContig.{taken_exactly}
 use Rattle.combined_list.proofs.combine_in_windows.Goals as goal
 
 pub group_by_sample-requires : goal.group_by_sample-requires
-group_by_sample-requires c = let pre = c.requires in
-    (keys_of_rows pre.0, (pre.1.for_order, omega (arith, pre.0.loaded.few)))
+group_by_sample-requires c = record { keys_fit = keys_of_rows c.requires.0; count_in_bounds = c.requires.1.for_order; samples_in_bounds = omega (arith, c.requires.0.loaded.few) }
 
 pub order_contigs-count-requires : goal.order_contigs-count-requires
-order_contigs-count-requires c = let pre = c.requires in
-    (omega (arith, pre.1.for_firsts), rows_for_lem pre.0)
+order_contigs-count-requires c = record { count_in_bounds = omega (arith, c.requires.1.for_firsts); rows_for = rows_for_lem c.requires.0 }
 
 pub slice_bounds-combine_contigs-end : goal.slice_bounds-combine_contigs-end
-slice_bounds-combine_contigs-end c = let pre = c.requires in
-    omega (arith, firsts_within pre.0 pre.1.for_firsts (c.order_contigs-count.ensures (rows_for_lem pre.0)))
+slice_bounds-combine_contigs-end c = omega (arith, firsts_within c.requires.0 c.requires.1.for_firsts (c.order_contigs-count.ensures (rows_for_lem c.requires.0)))
 
 pub slice_bounds-combine_contigs-end-2 : goal.slice_bounds-combine_contigs-end-2
-slice_bounds-combine_contigs-end-2 c = let pre = c.requires in
-    taken_exactly _ _ (omega (arith, firsts_within pre.0 pre.1.for_firsts (c.order-contigs.ensures (rows_for_lem pre.0))))
+slice_bounds-combine_contigs-end-2 c = taken_exactly _ _ (omega (arith, firsts_within c.requires.0 c.requires.1.for_firsts (c.order_contigs-count.ensures (rows_for_lem c.requires.0))))
 
 pub combine_contigs-requires : goal.combine_contigs-requires
-combine_contigs-requires c = let pre = c.requires in
-    let grouped = c.group-by-sample in (
-      list_ready pre.0 pre.1.for_firsts (c.order-contigs.ensures (rows_for_lem pre.0)) grouped.ensures.0,
-      omega (arith, pre.1.for_chosen, grouped.auto.1.1.1.0),
-      pre.2,
+combine_contigs-requires c = (
+      list_ready c.requires.0 c.requires.1.for_firsts (c.order_contigs-count.ensures (rows_for_lem c.requires.0)) c.group_by_sample.ensures.runs,
+      omega (arith, c.requires.1.for_chosen, c.group_by_sample.auto.order),
+      c.requires.2,
     )
 
 pub returns : goal.returns
 returns c = λ call.
-    loaded_answered call c.requires.1.for_firsts (c.order-contigs.ensures (rows_for_lem call))
-    c.group-by-sample.ensures.0 c.combine_contigs.ensures
+    loaded_answered call c.requires.1.for_firsts (c.order_contigs-count.ensures (rows_for_lem call))
+    c.group_by_sample.ensures.runs c.combine_contigs.ensures

@@ -27,37 +27,35 @@ module _ {s rows : List ℕ} {samples : ℕ} {clipped : Bool} {clip : List ℕ} 
 
 pub loop-c-init : goal.loop-c-init
 loop-c-init c = record {
-  chosen-long = refl;
-  scratch-long = refl;
-  held-long = refl;
-  fresh-long = refl;
-  alts-long = refl;
-  out-long = refl;
-  going = λ ready. going_start ready;
-}
+      chosen-long = refl;
+      scratch-long = refl;
+      held-long = refl;
+      fresh-long = refl;
+      alts-long = refl;
+      out-long = refl;
+      going = λ ready. going_start ready;
+    }
 
 pub walk_one-walked-requires : goal.walk_one-walked-requires
-walk_one-walked-requires c = let inv = c.loop-c.invariant in
-    let ready = c.requires.0 in
-    (one_ready ready (inv.going ready) c.loop-c-test.true, room_here inv c.requires.1)
+walk_one-walked-requires c = (one_ready c.requires.0 (c.loop-c.invariant.going c.requires.0) c.loop-c-test.true, room_here c.loop-c.invariant c.requires.1)
 
 pub shape_of-chosen-in-Refused : goal.shape_of-chosen-in-Refused
-shape_of-chosen-in-Refused c = c.walk_one-walked.auto.1.1.1.1.1.1.1.1.1.1.0 ∙ c.loop-c.invariant.chosen-long
+shape_of-chosen-in-Refused c = c.walk_one-walked.auto.chosen ∙ c.loop-c.invariant.chosen-long
 
 pub shape_of-scratch-in-Refused : goal.shape_of-scratch-in-Refused
-shape_of-scratch-in-Refused c = c.walk_one-walked.auto.1.1.1.1.1.1.1.1.1.1.1.0 ∙ c.loop-c.invariant.scratch-long
+shape_of-scratch-in-Refused c = c.walk_one-walked.auto.scratch ∙ c.loop-c.invariant.scratch-long
 
 pub shape_of-held-in-Refused : goal.shape_of-held-in-Refused
-shape_of-held-in-Refused c = c.walk_one-walked.auto.1.1.1.1.1.1.1.1.1.1.1.1.0 ∙ c.loop-c.invariant.held-long
+shape_of-held-in-Refused c = c.walk_one-walked.auto.held ∙ c.loop-c.invariant.held-long
 
 pub shape_of-fresh-in-Refused : goal.shape_of-fresh-in-Refused
-shape_of-fresh-in-Refused c = c.walk_one-walked.auto.1.1.1.1.1.1.1.1.1.1.1.1.1.0 ∙ c.loop-c.invariant.fresh-long
+shape_of-fresh-in-Refused c = c.walk_one-walked.auto.fresh ∙ c.loop-c.invariant.fresh-long
 
 pub shape_of-alts-in-Refused : goal.shape_of-alts-in-Refused
-shape_of-alts-in-Refused c = c.walk_one-walked.auto.1.1.1.1.1.1.1.1.1.1.1.1.1.1.0 ∙ c.loop-c.invariant.alts-long
+shape_of-alts-in-Refused c = c.walk_one-walked.auto.alts ∙ c.loop-c.invariant.alts-long
 
 pub shape_of-out-in-Refused : goal.shape_of-out-in-Refused
-shape_of-out-in-Refused c = c.walk_one-walked.auto.1.1.1.1.1.1.1.1.1.1.1.1.1.1.1.0 ∙ c.loop-c.invariant.out-long
+shape_of-out-in-Refused c = c.walk_one-walked.auto.out ∙ c.loop-c.invariant.out-long
 
 pub returns-in-Refused : goal.returns-in-Refused
 returns-in-Refused c = λ ready.
@@ -67,16 +65,14 @@ pub overflow_step-c : goal.overflow_step-c
 overflow_step-c c = omega (arith, c.loop-c-test.true, c.well-formed.1.1.1.1.1.1.1.0.0)
 
 pub loop-c-preserved : goal.loop-c-preserved
-loop-c-preserved c = let inv = c.loop-c.invariant in
-    let walked = c.walk_one-walked in
-    record {
-      chosen-long = walked.auto.1.1.1.1.1.1.1.1.1.1.0 ∙ inv.chosen-long;
-      scratch-long = walked.auto.1.1.1.1.1.1.1.1.1.1.1.0 ∙ inv.scratch-long;
-      held-long = walked.auto.1.1.1.1.1.1.1.1.1.1.1.1.0 ∙ inv.held-long;
-      fresh-long = walked.auto.1.1.1.1.1.1.1.1.1.1.1.1.1.0 ∙ inv.fresh-long;
-      alts-long = walked.auto.1.1.1.1.1.1.1.1.1.1.1.1.1.1.0 ∙ inv.alts-long;
-      out-long = walked.auto.1.1.1.1.1.1.1.1.1.1.1.1.1.1.1.0 ∙ inv.out-long;
-      going = λ ready. going_next ready (inv.going ready) c.loop-c-test.true _ _ _ c.in-To.is walked.ensures;
+loop-c-preserved c = record {
+      chosen-long = c.walk_one-walked.auto.chosen ∙ c.loop-c.invariant.chosen-long;
+      scratch-long = c.walk_one-walked.auto.scratch ∙ c.loop-c.invariant.scratch-long;
+      held-long = c.walk_one-walked.auto.held ∙ c.loop-c.invariant.held-long;
+      fresh-long = c.walk_one-walked.auto.fresh ∙ c.loop-c.invariant.fresh-long;
+      alts-long = c.walk_one-walked.auto.alts ∙ c.loop-c.invariant.alts-long;
+      out-long = c.walk_one-walked.auto.out ∙ c.loop-c.invariant.out-long;
+      going = λ ready. going_next ready (c.loop-c.invariant.going ready) c.loop-c-test.true _ _ _ c.in-To.is c.walk_one-walked.ensures;
     }
 
 pub shape_of-chosen : goal.shape_of-chosen

@@ -6,24 +6,21 @@ use Rattle.covering_sites.proofs.Filled.{selected_known}
 use Rattle.combined_list.proofs.walk_one.Goals as goal
 
 pub select_contig-requires : goal.select_contig-requires
-select_contig-requires c = let ready = c.requires.0 in
-    (ready.tables.grouped.bounded, (c.requires.1.for_chosen, omega (arith, ready.tables.loaded.few)))
+select_contig-requires c = record { bounded = c.requires.0.tables.grouped.bounded; order_in_bounds = c.requires.1.for_chosen; samples_in_bounds = omega (arith, c.requires.0.tables.loaded.few) }
 
 pub walk_windows-requires : goal.walk_windows-requires
-walk_windows-requires c = let ready = c.requires.0 in
-    let room = c.requires.1 in
-    let runs = selected_known ready.tables.grouped _ _ c.select-contig.ensures.0 in (
-      one_windows ready.tables ready.is_first runs c.contig-name.ensures c.given-clip.ensures,
-      record { d₀ = ready.d₀; bytes = ready.bytes; records = ready.records; progress = ready.progress },
-      room.for_walk,
-      room.for_window,
+walk_windows-requires c = let runs = selected_known c.requires.0.tables.grouped _ _ c.select_contig.ensures.runs in (
+      one_windows c.requires.0.tables c.requires.0.is_first runs c.contig_name-contig.ensures c.given_clip-spans.ensures,
+      record { d₀ = c.requires.0.d₀; bytes = c.requires.0.bytes; records = c.requires.0.records; progress = c.requires.0.progress },
+      c.requires.1.for_walk,
+      c.requires.1.for_window,
     )
 
 pub shape_of-chosen : goal.shape_of-chosen
-shape_of-chosen c = c.select-contig.auto.1.1.1.1.1.0
+shape_of-chosen c = c.select_contig.auto.chosen
 
 pub returns : goal.returns
 returns c = λ ready.
-    let runs = selected_known ready.tables.grouped _ _ c.select-contig.ensures.0 in
-    one_walked ready.tables ready.is_first runs c.contig-name.ensures c.given-clip.ensures _ _ _ _ _
+    let runs = selected_known ready.tables.grouped _ _ c.select_contig.ensures.runs in
+    one_walked ready.tables ready.is_first runs c.contig_name-contig.ensures c.given_clip-spans.ensures _ _ _ _ _
     c.walk_windows.ensures ready.d₀ ready.bytes ready.records ready.progress

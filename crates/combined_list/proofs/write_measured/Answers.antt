@@ -18,8 +18,7 @@ pub slice_bounds-write_list-end-2 : goal.slice_bounds-write_list-end-2
 slice_bounds-write_list-end-2 c = taken_exactly _ _ c.if-out-end.false
 
 pub write_list-requires : goal.write_list-requires
-write_list-requires c = let pre = c.requires in
-    (pre.0, part_low pre.0 c.put_header-header.ensures _, pre.1)
+write_list-requires c = (c.requires.0, part_low c.requires.0 c.put_header-header.ensures _, c.requires.1)
 
 pub returns : goal.returns
 returns c = λ m. fitting_answered m c.put_header-header.ensures _ c.if-out-end.false c.write_list.ensures

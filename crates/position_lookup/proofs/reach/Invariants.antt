@@ -14,8 +14,8 @@ use Rattle.position_lookup.proofs.reach.Given as goal
 
 abbrev pub invariant-loop-header : goal.invariant-loop-header
 invariant-loop-header l = (before : List Record) → StandsAt l.list before
-    (record { l.cursor = l.initial.cursor; l.first = l.initial.first })
-    → Reaching l.list l.header (record { l.cursor = l.initial.cursor; l.first = l.initial.first }) (place_with l.contig l.position) before (record { l.cursor = l.cursor; l.first = l.first })
+    (record { cursor = l.initial.cursor; first = l.initial.first })
+    → Reaching l.list l.header (record { cursor = l.initial.cursor; first = l.initial.first }) (place_with l.contig l.position) before (record { cursor = l.cursor; first = l.first })
 
 abbrev pub decreases-loop-header : goal.decreases-loop-header
 decreases-loop-header l = length l.list - l.cursor.next

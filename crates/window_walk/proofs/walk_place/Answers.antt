@@ -22,8 +22,7 @@ overflow_sub-depth c = let (rest, ready, way) = c.requires in
 
 pub returns-then-not-has_interval : goal.returns-then-not-has_interval
 returns-then-not-has_interval c = λ rest ready way.
-    let test = c.has_interval.ensures in
-    walked_past ready way (sym test ∙ c.if-not-has_interval.true)
+    walked_past ready way (sym c.has_interval.ensures ∙ c.if-not-has_interval.true)
 
 pub overflow_sub-position : goal.overflow_sub-position
 overflow_sub-position c = let (rest, ready, way) = c.requires in
@@ -31,34 +30,29 @@ overflow_sub-position c = let (rest, ready, way) = c.requires in
 
 pub skip_ended-requires : goal.skip_ended-requires
 skip_ended-requires c = let (rest, ready, way) = c.requires in
-    (ready.runs.in_runs.bounded, ready.ended.long)
+    record { bounded = ready.runs.in_runs.bounded; samples_in_bounds = ready.ended.long }
 
 pub walk_interval-turn-requires : goal.walk_interval-turn-requires
-walk_interval-turn-requires c = let loc = c.new-loc.ensures in
-    let first = loc.0 ∙ c.new_1based-first.ensures in
-    let last = loc.1 ∙ c.new_1based-last.ensures in
+walk_interval-turn-requires c = let first = c.new-loc.ensures.0 ∙ c.new_1based-first.ensures in
+    let last = c.new-loc.ensures.1 ∙ c.new_1based-last.ensures in
     let test = sym c.has_interval.ensures ∙ c.if-not-has_interval.false in
     let (rest, ready, way) = c.requires in
-    (turn_ready ready way test _ _ first last c.skip-ended.ensures, underway ready way)
+    (turn_ready ready way test _ _ first last c.skip_ended.ensures, underway ready way)
 
 pub returns-in-Refused : goal.returns-in-Refused
 unfolding turn_ready underway
 returns-in-Refused c = λ rest ready way.
-    let loc = c.new-loc.ensures in
-    let first = loc.0 ∙ c.new_1based-first.ensures in
-    let last = loc.1 ∙ c.new_1based-last.ensures in
+    let first = c.new-loc.ensures.0 ∙ c.new_1based-first.ensures in
+    let last = c.new-loc.ensures.1 ∙ c.new_1based-last.ensures in
     let test = sym c.has_interval.ensures ∙ c.if-not-has_interval.false in
-    let searched = c.skip-ended.ensures in
-    let turned = c.walk_interval-turn.ensures (turn_ready ready way test _ _ first last searched) (underway ready way) in
-    walked_refused ready way test _ _ first last searched _ _ _ (rw c.in-Refused.is at turned)
+    let turned = c.walk_interval-turn.ensures (turn_ready ready way test _ _ first last c.skip_ended.ensures) (underway ready way) in
+    walked_refused ready way test _ _ first last c.skip_ended.ensures _ _ _ (rw c.in-Refused.is at turned)
 
 pub returns-in-To : goal.returns-in-To
 unfolding turn_ready underway
 returns-in-To c = λ rest ready way.
-    let loc = c.new-loc.ensures in
-    let first = loc.0 ∙ c.new_1based-first.ensures in
-    let last = loc.1 ∙ c.new_1based-last.ensures in
+    let first = c.new-loc.ensures.0 ∙ c.new_1based-first.ensures in
+    let last = c.new-loc.ensures.1 ∙ c.new_1based-last.ensures in
     let test = sym c.has_interval.ensures ∙ c.if-not-has_interval.false in
-    let searched = c.skip-ended.ensures in
-    let turned = c.walk_interval-turn.ensures (turn_ready ready way test _ _ first last searched) (underway ready way) in
-    walked_on ready way test _ _ first last searched _ _ _ (rw c.in-To.is at turned)
+    let turned = c.walk_interval-turn.ensures (turn_ready ready way test _ _ first last c.skip_ended.ensures) (underway ready way) in
+    walked_on ready way test _ _ first last c.skip_ended.ensures _ _ _ (rw c.in-To.is at turned)

@@ -23,51 +23,48 @@ module _ {s rows : List ℕ} {samples : ℕ} {clipped referenced : Bool}
 
 pub loop-k-init : goal.loop-k-init
 loop-k-init c = record {
-  from-long = refl;
-  held-long = refl;
-  fresh-long = refl;
-  found-long = refl;
-  owners-long = refl;
-  alts-long = refl;
-  out-long = refl;
-  way = λ ready way. through_start ready way;
-}
+      from-long = refl;
+      held-long = refl;
+      fresh-long = refl;
+      found-long = refl;
+      owners-long = refl;
+      alts-long = refl;
+      out-long = refl;
+      way = λ ready way. through_start ready way;
+    }
 
 pub walk_place-turn-requires : goal.walk_place-turn-requires
 unfolding place_ready
-walk_place-turn-requires c = let inv = c.loop-k.invariant in
-    let (ready, way) = c.requires in
-    let t = inv.way ready way in
-    (_, place_ready ready way t c.loop-k-test.true (room_here inv ready.room), carrying ready way t)
+walk_place-turn-requires c = let (ready, way) = c.requires in
+    let t = c.loop-k.invariant.way ready way in
+    (_, place_ready ready way t c.loop-k-test.true (room_here c.loop-k.invariant ready.room), carrying ready way t)
 
 pub shape_of-from-in-Refused : goal.shape_of-from-in-Refused
-shape_of-from-in-Refused c = c.walk_place-turn.auto.1.1.1.1.1.1.1.1.0 ∙ c.loop-k.invariant.from-long
+shape_of-from-in-Refused c = c.walk_place-turn.auto.from ∙ c.loop-k.invariant.from-long
 
 pub shape_of-held-in-Refused : goal.shape_of-held-in-Refused
-shape_of-held-in-Refused c = c.walk_place-turn.auto.1.1.1.1.1.1.1.1.1.1.1.1.0 ∙ c.loop-k.invariant.held-long
+shape_of-held-in-Refused c = c.walk_place-turn.auto.held ∙ c.loop-k.invariant.held-long
 
 pub shape_of-fresh-in-Refused : goal.shape_of-fresh-in-Refused
-shape_of-fresh-in-Refused c = c.walk_place-turn.auto.1.1.1.1.1.1.1.1.1.1.1.1.1.0 ∙ c.loop-k.invariant.fresh-long
+shape_of-fresh-in-Refused c = c.walk_place-turn.auto.fresh ∙ c.loop-k.invariant.fresh-long
 
 pub shape_of-found-in-Refused : goal.shape_of-found-in-Refused
-shape_of-found-in-Refused c = c.walk_place-turn.auto.1.1.1.1.1.1.1.1.1.1.1.1.1.1.0 ∙ c.loop-k.invariant.found-long
+shape_of-found-in-Refused c = c.walk_place-turn.auto.found ∙ c.loop-k.invariant.found-long
 
 pub shape_of-owners-in-Refused : goal.shape_of-owners-in-Refused
-shape_of-owners-in-Refused c = c.walk_place-turn.auto.1.1.1.1.1.1.1.1.1.1.1.1.1.1.1.0 ∙ c.loop-k.invariant.owners-long
+shape_of-owners-in-Refused c = c.walk_place-turn.auto.owners ∙ c.loop-k.invariant.owners-long
 
 pub shape_of-alts-in-Refused : goal.shape_of-alts-in-Refused
-shape_of-alts-in-Refused c = c.walk_place-turn.auto.1.1.1.1.1.1.1.1.1.1.1.1.1.1.1.1.0 ∙ c.loop-k.invariant.alts-long
+shape_of-alts-in-Refused c = c.walk_place-turn.auto.alts ∙ c.loop-k.invariant.alts-long
 
 pub shape_of-out-in-Refused : goal.shape_of-out-in-Refused
-shape_of-out-in-Refused c = c.walk_place-turn.auto.1.1.1.1.1.1.1.1.1.1.1.1.1.1.1.1.1.0 ∙ c.loop-k.invariant.out-long
+shape_of-out-in-Refused c = c.walk_place-turn.auto.out ∙ c.loop-k.invariant.out-long
 
 pub returns-in-Refused : goal.returns-in-Refused
 unfolding place_ready carrying WalkedTo
 returns-in-Refused c = λ ready way.
-    let inv = c.loop-k.invariant in
-    let more = c.loop-k-test.true in
-    let t = inv.way ready way in
-    rw c.in-Refused.is at (c.walk_place-turn.ensures _ (place_ready ready way t more (room_here inv ready.room))
+    let t = c.loop-k.invariant.way ready way in
+    rw c.in-Refused.is at (c.walk_place-turn.ensures _ (place_ready ready way t c.loop-k-test.true (room_here c.loop-k.invariant ready.room))
     (carrying ready way t))
 
 pub overflow_step-k : goal.overflow_step-k
@@ -78,20 +75,18 @@ loop-k-smaller c = omega (arith, c.loop-k-test.true)
 
 pub loop-k-preserved : goal.loop-k-preserved
 unfolding place_ready carrying WalkedTo
-loop-k-preserved c = let inv = c.loop-k.invariant in
-    let more = c.loop-k-test.true in
-    record {
-      from-long = c.walk_place-turn.auto.1.1.1.1.1.1.1.1.0 ∙ inv.from-long;
-      held-long = c.walk_place-turn.auto.1.1.1.1.1.1.1.1.1.1.1.1.0 ∙ inv.held-long;
-      fresh-long = c.walk_place-turn.auto.1.1.1.1.1.1.1.1.1.1.1.1.1.0 ∙ inv.fresh-long;
-      found-long = c.walk_place-turn.auto.1.1.1.1.1.1.1.1.1.1.1.1.1.1.0 ∙ inv.found-long;
-      owners-long = c.walk_place-turn.auto.1.1.1.1.1.1.1.1.1.1.1.1.1.1.1.0 ∙ inv.owners-long;
-      alts-long = c.walk_place-turn.auto.1.1.1.1.1.1.1.1.1.1.1.1.1.1.1.1.0 ∙ inv.alts-long;
-      out-long = c.walk_place-turn.auto.1.1.1.1.1.1.1.1.1.1.1.1.1.1.1.1.1.0 ∙ inv.out-long;
+loop-k-preserved c = record {
+      from-long = c.walk_place-turn.auto.from ∙ c.loop-k.invariant.from-long;
+      held-long = c.walk_place-turn.auto.held ∙ c.loop-k.invariant.held-long;
+      fresh-long = c.walk_place-turn.auto.fresh ∙ c.loop-k.invariant.fresh-long;
+      found-long = c.walk_place-turn.auto.found ∙ c.loop-k.invariant.found-long;
+      owners-long = c.walk_place-turn.auto.owners ∙ c.loop-k.invariant.owners-long;
+      alts-long = c.walk_place-turn.auto.alts ∙ c.loop-k.invariant.alts-long;
+      out-long = c.walk_place-turn.auto.out ∙ c.loop-k.invariant.out-long;
       way = λ ready way.
-          let t = inv.way ready way in
-          through_next ready way t more
-          (rw c.in-To.is at (c.walk_place-turn.ensures _ (place_ready ready way t more (room_here inv ready.room))
+          let t = c.loop-k.invariant.way ready way in
+          through_next ready way t c.loop-k-test.true
+          (rw c.in-To.is at (c.walk_place-turn.ensures _ (place_ready ready way t c.loop-k-test.true (room_here c.loop-k.invariant ready.room))
           (carrying ready way t)));
     }
 

@@ -42,15 +42,13 @@ module _ {s rows : List ℕ} {samples : ℕ} {clipped : Bool} {clip : List ℕ} 
   carrying ready begun = record { d₀ = begun.d₀; bytes = begun.bytes; records = begun.records; carried = inv.way ready begun }
 
 pub start_search-requires : goal.start_search-requires
-start_search-requires c = let ready = c.requires.0 in
-    (ready.runs.in_runs.bounded.long, omega (arith, ready.runs.on.loaded.few))
+start_search-requires c = record { samples_in_bounds = c.requires.0.runs.in_runs.bounded.long; samples_in_bounds_2 = omega (arith, c.requires.0.runs.on.loaded.few) }
 
 pub bounds-bounds-samples : goal.bounds-bounds-samples
 bounds-bounds-samples c = c.requires.0.runs.in_runs.bounded.long
 
 pub loop-more-init : goal.loop-more-init
-loop-more-init c = let ready = c.requires.0 in
-    record {
+loop-more-init c = record {
       scratch-long = refl;
       held-long = refl;
       fresh-long = refl;
@@ -58,116 +56,100 @@ loop-more-init c = let ready = c.requires.0 in
       out-long = refl;
       found-long = refl;
       owners-long = refl;
-      from-long = c.start_search.auto.1.1.0;
-      ended = ended_start ready.runs.in_runs.bounded (omega (arith, ready.runs.on.loaded.few)) c.start_search.ensures;
+      from-long = c.start_search.auto.from;
+      ended = ended_start c.requires.0.runs.in_runs.bounded (omega (arith, c.requires.0.runs.on.loaded.few)) c.start_search.ensures;
       none-past = λ never. let z : ◌≡◌ {A = ℕ} 0 1 = cc in absurd (omega arith);
-      way = λ ready begun. carried_start ready begun;
+      way = λ c.requires.0 begun. carried_start c.requires.0 begun;
     }
 
 pub slice_bounds-next_breakpoints-end : goal.slice_bounds-next_breakpoints-end
 slice_bounds-next_breakpoints-end c = numbers_exactly c.requires.0
 
 pub next_breakpoints-window-requires : goal.next_breakpoints-window-requires
-next_breakpoints-window-requires c = let ready = c.requires.0 in
-    (omega (arith, c.loop.invariant.scratch-long, c.requires.3), (ready.points.rows_in_range, ready.points.short))
+next_breakpoints-window-requires c = record { in_bounds = omega (arith, c.loop-more.invariant.scratch-long, c.requires.3); every = c.requires.0.points.rows_in_range; clip_len_bound = c.requires.0.points.short }
 
 pub slice_bounds-walk_window-end-in-loop-more : goal.slice_bounds-walk_window-end-in-loop-more
 slice_bounds-walk_window-end-in-loop-more c = stored_within c.next_breakpoints-window.ensures
 
 pub slice_bounds-walk_window-end-in-loop-more-2 : goal.slice_bounds-walk_window-end-in-loop-more-2
-slice_bounds-walk_window-end-in-loop-more-2 c = stored_exactly c.next-breakpoints.ensures
+slice_bounds-walk_window-end-in-loop-more-2 c = stored_exactly c.next_breakpoints-window.ensures
 
 pub walk_window-turn-requires : goal.walk_window-turn-requires
 unfolding window_ready
-walk_window-turn-requires c = let inv = c.loop.invariant in
-    let ready = c.requires.0 in
-    let begun = c.requires.1 in
-    let room = room_here inv ready.runs.on.loaded.few c.requires.2 in (
-      window_ready ready c.next-breakpoints.ensures inv.ended room,
-      carrying inv ready begun,
+walk_window-turn-requires c = let room = room_here c.loop-more.invariant c.requires.0.runs.on.loaded.few c.requires.2 in (
+      window_ready c.requires.0 c.next_breakpoints-window.ensures c.loop-more.invariant.ended room,
+      carrying c.loop-more.invariant c.requires.0 c.requires.1,
     )
 
 pub shape_of-scratch-in-Refused : goal.shape_of-scratch-in-Refused
-shape_of-scratch-in-Refused c = c.next-breakpoints.ensures.long ∙ c.loop.invariant.scratch-long
+shape_of-scratch-in-Refused c = c.next_breakpoints-window.ensures.long ∙ c.loop-more.invariant.scratch-long
 
 pub shape_of-held-in-Refused : goal.shape_of-held-in-Refused
-shape_of-held-in-Refused c = c.walk_window-turn.auto.1.1.1.1.1.1.1.1.1.1.1.1.0 ∙ c.loop.invariant.held-long
+shape_of-held-in-Refused c = c.walk_window-turn.auto.held ∙ c.loop-more.invariant.held-long
 
 pub shape_of-fresh-in-Refused : goal.shape_of-fresh-in-Refused
-shape_of-fresh-in-Refused c = c.walk_window-turn.auto.1.1.1.1.1.1.1.1.1.1.1.1.1.0 ∙ c.loop.invariant.fresh-long
+shape_of-fresh-in-Refused c = c.walk_window-turn.auto.fresh ∙ c.loop-more.invariant.fresh-long
 
 pub shape_of-alts-in-Refused : goal.shape_of-alts-in-Refused
-shape_of-alts-in-Refused c = c.walk_window-turn.auto.1.1.1.1.1.1.1.1.1.1.1.1.1.1.1.1.0 ∙ c.loop.invariant.alts-long
+shape_of-alts-in-Refused c = c.walk_window-turn.auto.alts ∙ c.loop-more.invariant.alts-long
 
 pub shape_of-out-in-Refused : goal.shape_of-out-in-Refused
-shape_of-out-in-Refused c = c.walk_window-turn.auto.1.1.1.1.1.1.1.1.1.1.1.1.1.1.1.1.1.0 ∙ c.loop.invariant.out-long
+shape_of-out-in-Refused c = c.walk_window-turn.auto.out ∙ c.loop-more.invariant.out-long
 
 pub returns-in-Refused : goal.returns-in-Refused
 unfolding window_ready WalkedTo RecordsWalked
 returns-in-Refused c = λ ready begun.
-    let found = c.next-breakpoints.ensures in
-    let inv = c.loop.invariant in
     rw c.in-Refused.is at (c.walk_window-turn.ensures
-    (window_ready ready found inv.ended (room_here inv ready.runs.on.loaded.few c.requires.2))
-    (carrying inv ready begun))
+    (window_ready ready c.next_breakpoints-window.ensures c.loop-more.invariant.ended (room_here c.loop-more.invariant ready.runs.on.loaded.few c.requires.2))
+    (carrying c.loop-more.invariant ready begun))
 
 pub loop-more-smaller : goal.loop-more-smaller
 unfolding window_ready contig_window WalkedTo
-loop-more-smaller c = let found = c.next-breakpoints.ensures in
-    let inv = c.loop.invariant in
-    let ready = c.requires.0 in
-    let begun = c.requires.1 in
-    let walked = rw c.in-To.is at (c.walk_window-turn.ensures
-    (window_ready ready found inv.ended (room_here inv ready.runs.on.loaded.few c.requires.2))
-    (carrying inv ready begun)) in
-    fewer_left ready.points found walked.there c.loop-test.true
+loop-more-smaller c = let walked = rw c.in-To.is at (c.walk_window-turn.ensures
+    (window_ready c.requires.0 c.next_breakpoints-window.ensures c.loop-more.invariant.ended (room_here c.loop-more.invariant c.requires.0.runs.on.loaded.few c.requires.2))
+    (carrying c.loop-more.invariant c.requires.0 c.requires.1)) in
+    fewer_left c.requires.0.points c.next_breakpoints-window.ensures walked.there c.loop-more-test.true
 
 pub loop-more-preserved : goal.loop-more-preserved
 unfolding window_ready contig_window WalkedTo
-loop-more-preserved c = let found = c.next-breakpoints.ensures in
-    let inv = c.loop.invariant in
-    let ready = c.requires.0 in
-    let begun = c.requires.1 in
-    let walked = rw c.in-To.is at (c.walk_window-turn.ensures
-    (window_ready ready found inv.ended (room_here inv ready.runs.on.loaded.few c.requires.2))
-    (carrying inv ready begun)) in
+loop-more-preserved c = let walked = rw c.in-To.is at (c.walk_window-turn.ensures
+    (window_ready c.requires.0 c.next_breakpoints-window.ensures c.loop-more.invariant.ended (room_here c.loop-more.invariant c.requires.0.runs.on.loaded.few c.requires.2))
+    (carrying c.loop-more.invariant c.requires.0 c.requires.1)) in
     record {
-      scratch-long = found.long ∙ inv.scratch-long;
-      held-long = c.walk_window-turn.auto.1.1.1.1.1.1.1.1.1.1.1.1.0 ∙ inv.held-long;
-      fresh-long = c.walk_window-turn.auto.1.1.1.1.1.1.1.1.1.1.1.1.1.0 ∙ inv.fresh-long;
-      alts-long = c.walk_window-turn.auto.1.1.1.1.1.1.1.1.1.1.1.1.1.1.1.1.0 ∙ inv.alts-long;
-      out-long = c.walk_window-turn.auto.1.1.1.1.1.1.1.1.1.1.1.1.1.1.1.1.1.0 ∙ inv.out-long;
-      found-long = c.walk_window-turn.auto.1.1.1.1.1.1.1.1.1.1.1.1.1.1.0 ∙ inv.found-long;
-      owners-long = c.walk_window-turn.auto.1.1.1.1.1.1.1.1.1.1.1.1.1.1.1.0 ∙ inv.owners-long;
-      from-long = c.walk_window-turn.auto.1.1.1.1.1.1.1.1.0 ∙ inv.from-long;
+      scratch-long = c.next_breakpoints-window.ensures.long ∙ c.loop-more.invariant.scratch-long;
+      held-long = c.walk_window-turn.auto.held ∙ c.loop-more.invariant.held-long;
+      fresh-long = c.walk_window-turn.auto.fresh ∙ c.loop-more.invariant.fresh-long;
+      alts-long = c.walk_window-turn.auto.alts ∙ c.loop-more.invariant.alts-long;
+      out-long = c.walk_window-turn.auto.out ∙ c.loop-more.invariant.out-long;
+      found-long = c.walk_window-turn.auto.found ∙ c.loop-more.invariant.found-long;
+      owners-long = c.walk_window-turn.auto.owners ∙ c.loop-more.invariant.owners-long;
+      from-long = c.walk_window-turn.auto.from ∙ c.loop-more.invariant.from-long;
       ended = walked.ended;
-      none-past = none_left ready.points found walked.there;
-      way = λ ready begun. (rw c.in-To.is at (c.walk_window-turn.ensures
-          (window_ready ready found inv.ended (room_here inv ready.runs.on.loaded.few c.requires.2))
-          (carrying inv ready begun))).carried;
+      none-past = none_left c.requires.0.points c.next_breakpoints-window.ensures walked.there;
+      way = λ c.requires.0 c.requires.1. (rw c.in-To.is at (c.walk_window-turn.ensures
+          (window_ready c.requires.0 c.next_breakpoints-window.ensures c.loop-more.invariant.ended (room_here c.loop-more.invariant c.requires.0.runs.on.loaded.few c.requires.2))
+          (carrying c.loop-more.invariant c.requires.0 c.requires.1))).carried;
     }
 
 pub put_pending-next-requires : goal.put_pending-next-requires
-put_pending-next-requires c = let ready = c.requires.0 in
-    pending_fits ready.runs.on (c.loop.invariant.way ready c.requires.1)
+put_pending-next-requires c = pending_fits c.requires.0.runs.on (c.loop-more.invariant.way c.requires.0 c.requires.1)
 
 pub shape_of-scratch : goal.shape_of-scratch
-shape_of-scratch c = c.loop.invariant.scratch-long
+shape_of-scratch c = c.loop-more.invariant.scratch-long
 
 pub shape_of-held : goal.shape_of-held
-shape_of-held c = c.loop.invariant.held-long
+shape_of-held c = c.loop-more.invariant.held-long
 
 pub shape_of-fresh : goal.shape_of-fresh
-shape_of-fresh c = c.loop.invariant.fresh-long
+shape_of-fresh c = c.loop-more.invariant.fresh-long
 
 pub shape_of-alts : goal.shape_of-alts
-shape_of-alts c = c.loop.invariant.alts-long
+shape_of-alts c = c.loop-more.invariant.alts-long
 
 pub shape_of-out : goal.shape_of-out
-shape_of-out c = c.put_pending-next.auto.1.1.1.0 ∙ c.loop.invariant.out-long
+shape_of-out c = c.put_pending-next.auto.out ∙ c.loop-more.invariant.out-long
 
 pub returns : goal.returns
 returns c = λ ready begun.
-    let inv = c.loop.invariant in
     rw (c.cap.ensures, c.count_pending-total.ensures)
-    (carried_end ready (inv.way ready begun) (inv.none-past c.loop-test.false) _ _ c.put_pending-next.ensures)
+    (carried_end ready (c.loop-more.invariant.way ready begun) (c.loop-more.invariant.none-past c.loop-more-test.false) _ _ c.put_pending-next.ensures)
