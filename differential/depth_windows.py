@@ -1,6 +1,6 @@
 """Holds `depth_windows::depth_windows` to a count position by position, on generated lists.
 
-    depth_windows.py SEED COUNT        in the repository's folder; target/bin/replay_depth must be built (rt check replay_depth)
+    depth_windows.py SEED COUNT        in the repository's folder; crates/replay_depth/out/replay_depth must be built (rt run in crates/replay_depth)
 
 The lists and the count are those of tools/make_depth_cases.py: one to three contigs of up to six records, blocks and single positions, with gaps;
 thresholds, lengths and steps of all sorts, samples that are not there (17), too few places (14). The program is fed as many calls at a time as it
@@ -25,7 +25,7 @@ def main(seed, count):
         stdin, wanted = depth.written(depth.CASES)
         if len(stdin) > depth.INPUT_ROOM:
             sys.exit(f"{len(stdin)} bytes, and room for {depth.INPUT_ROOM}")
-        found = subprocess.run(["target/bin/replay_depth"], input=stdin, capture_output=True, text=True).stdout
+        found = subprocess.run(["crates/replay_depth/out/replay_depth"], input=stdin, capture_output=True, text=True).stdout
         if found != wanted:
             for a, b in zip(found.splitlines(), wanted.splitlines()):
                 if a != b:

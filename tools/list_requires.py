@@ -17,8 +17,8 @@ def plain(fact):
     """A fact without the marks of the logic: what a slice holds is named by the slice."""
     fact = " ".join(fact.split())
     fact = fact.replace("«", "").replace("»", "")
-    fact = re.sub(r"\(now (\w+)\)", r"\1", fact)
-    return re.sub(r"\(([\w']+) \.0\)", r"\1", fact)
+    fact = re.sub(r"\b(\w+)\.(?:now|old)\b", r"\1", fact)
+    return re.sub(r"(?<![\w.'])([\w']+)\.0\b", r"\1", fact)
 
 
 def read(path):
@@ -36,7 +36,7 @@ def functions(path):
             continue
         name = owner + line.group(3) if line.group(3) else line.group(4)
         head = re.match(r".*?\n?\s*\{$", text[line.start():], re.S | re.M).group()
-        asked = [plain(r) for r in re.findall(r"requires \{ ⌜ (.*?) ⌝ \}", head, re.S)]
+        asked = [plain(r) for r in re.findall(r"requires(?: \w+)? \{ (.*?) \}(?=\n)", head, re.S)]
         if asked:
             yield name, asked
 
@@ -44,7 +44,7 @@ def functions(path):
 def imported(text):
     """From which crate a file takes each name."""
     names = {}
-    for crate, of in re.findall(r"use Rattle·(\w+)(?:·specs\.specs|\.specs|\.proofs)\.[\w.]+\.\{([^}]*)\}", text):
+    for crate, of in re.findall(r"use Rattle\.(\w+)\.(?:specs|proofs)\.[\w.]+\.\{([^}]*)\}", text):
         for name in of.split(","):
             names[name.strip()] = crate
     return names
@@ -81,7 +81,7 @@ def named(asked, known):
 
 
 def listed():
-    crates = [line.split(":")[0] for line in read("crates.txt").split("\n") if ":" in line and not line.startswith("#")]
+    crates = [line.split(":")[0].split()[0] for line in read("crates.txt").split("\n") if ":" in line and not line.startswith("#")]
     facts = []
     for crate in crates:
         for path in sorted(glob.glob("crates/%s/src/*.rt" % crate)):

@@ -1,5 +1,7 @@
 """Names the places in proof files: python3 tools/name_places.py [--all] FILE...
 
+No longer needed: it is for Proof.antt files of the older kit, whose needs were walked back by `c .before .before`.
+
 A chain `c .before .before … .args` of a long clause becomes `let at-args = c .before … in` at the head of the clause, each place
 named after what is taken there; doubled parentheses go, and a line of over 160 characters is broken before a `let`, behind an
 `in` or between arguments. Clauses without such a line stay as they are; with --all they too are written anew if that makes them

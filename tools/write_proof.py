@@ -1,5 +1,8 @@
 """Writes proof files from short answers: python3 tools/write_proof.py CRATE ANSWERS...
 
+No longer needed: it is for the older kit (`rt dev`, Proof.antt). Proofs are now Invariants.antt and Answers.antt, and `rt check --start F` writes
+the files to start from.
+
 Each ANSWERS file is about one function:
 
     @@ function

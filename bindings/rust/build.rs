@@ -1,4 +1,4 @@
-//! Links target/staticlib/libwintabol.a, which `rt staticlib wintabol` writes, or the archive in the folder that WINTABOL_LIB names.
+//! Links target/staticlib/libwintabol.a, which tools/static_library.sh makes, or the archive in the folder that WINTABOL_LIB names.
 
 use std::env;
 use std::path::PathBuf;

@@ -1,7 +1,7 @@
 #!/bin/sh
 # Fuzzes the compiled library with AFL++ (Debian's package afl++) for so many seconds: ./fuzz.sh SECONDS. Run in this folder.
-# The library is built as `rt staticlib` builds it, but with clang told to count edges; the kit is left as it is: a folder of links to it
-# has a clang of two lines. The archive in target/staticlib is put back afterwards.
+# The library is built as tools/static_library.sh builds it, but with clang told to count edges; the kit is left as it is: a folder of links to
+# it has a clang of two lines. The archive in target/staticlib stays as it is, and crates/wintabol_c/out is built anew at the end.
 set -e
 seconds=${1:?seconds}
 root=$(cd ../.. && pwd)
@@ -9,20 +9,20 @@ work=$root/target/fuzz
 kit=$work/kit
 home=$(cd "$(dirname "$(readlink -f "$(command -v rt)")")/.." && pwd)
 rm -rf "$work"
-mkdir -p "$kit/on/x86_64/toolchain/bin" "$work/lib" "$work/seeds"
-for f in "$home"/*; do [ "$(basename "$f")" = on ] || ln -s "$f" "$kit/"; done
-for f in "$home"/on/x86_64/*; do [ "$(basename "$f")" = toolchain ] || ln -s "$f" "$kit/on/x86_64/"; done
-tools=$home/on/x86_64/toolchain
-ln -s "$tools/lib" "$kit/on/x86_64/toolchain/lib"
-for f in llvm-ar ld.lld; do ln -s "$tools/bin/clang" "$kit/on/x86_64/toolchain/bin/$f"; done
-printf '#!/bin/sh\nexec %s -fsanitize-coverage=trace-pc-guard "$@"\n' "$tools/bin/clang" >"$kit/on/x86_64/toolchain/bin/clang"
-chmod +x "$kit/on/x86_64/toolchain/bin/clang"
+mkdir -p "$kit/bin" "$kit/toolchain/bin" "$work/lib" "$work/seeds"
+for f in "$home"/*; do case $(basename "$f") in bin | toolchain) ;; *) ln -s "$f" "$kit/" ;; esac; done
+# rt takes the kit that it lies in, so its scripts are copies
+for f in "$home"/bin/*; do case $(basename "$f") in rt*) cp "$f" "$kit/bin/" ;; *) ln -s "$f" "$kit/bin/" ;; esac; done
+tools=$home/toolchain
+ln -s "$tools/lib" "$kit/toolchain/lib"
+ln -s "$tools/bin/rattle-x64" "$kit/toolchain/bin/"
+for f in llvm-ar ld.lld; do ln -s "$tools/bin/clang" "$kit/toolchain/bin/$f"; done
+printf '#!/bin/sh\nexec %s -fsanitize-coverage=trace-pc-guard "$@"\n' "$tools/bin/clang" >"$kit/toolchain/bin/clang"
+chmod +x "$kit/toolchain/bin/clang"
 
-plain=$root/target/staticlib/libwintabol.a
-[ ! -f "$plain" ] || cp -p "$plain" "$work/plain.a"
-(cd "$root" && RATTLE_HOME=$kit rt staticlib wintabol >"$work/build.log")
-mv "$plain" "$work/lib/"
-[ ! -f "$work/plain.a" ] || cp -p "$work/plain.a" "$plain"
+(cd "$root/crates/wintabol_c" && "$kit/bin/rt" lib >"$work/build.log")
+mv "$root/crates/wintabol_c/out/libwintabol_c.a" "$work/lib/libwintabol.a"
+(cd "$root/crates/wintabol_c" && rt lib >>"$work/build.log")
 (cd .. && WINTABOL_LIB=$work/lib cargo build --release --offline -p compare --lib --target-dir "$work/cargo")
 afl-clang-fast -O2 main.c "$work/cargo/release/libcompare.a" -lpthread -ldl -lm -o "$work/one"
 

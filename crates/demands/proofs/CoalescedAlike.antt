@@ -119,6 +119,8 @@ module _ (names1 names2 : List (List ℕ)) (distinct1 : all_distinct same_bytes 
       → Alongside (Alike names1 names2) (coalesce_from r1 l1) (coalesce_from r2 l2)
   unfolding coalesce_from
   from_alike r1 r2 [] [] a ended = along a ended
+  from_alike r1 r2 [] (s2 ∷ l2) a x4 = elim x4 [ ]
+  from_alike r1 r2 (s1 ∷ l1) [] a x4 = elim x4 [ ]
   from_alike r1 r2 (s1 ∷ l1) (s2 ∷ l2) a (along b rest) =
       subst (λ (c : Bool). Alongside (Alike names1 names2)
       (cond (coalesces r1 s1) (coalesce_from (coalesced r1 s1) l1) (r1 ∷ coalesce_from s1 l1))
@@ -139,4 +141,6 @@ module _ (names1 names2 : List (List ℕ)) (distinct1 : all_distinct same_bytes 
       → Alongside (Alike names1 names2) (coalesce_blocks l1) (coalesce_blocks l2)
   unfolding coalesce_blocks
   coalesce_alike [] [] ended = ended
+  coalesce_alike [] (r2 ∷ l2) x4 = elim x4 [ ]
+  coalesce_alike (r1 ∷ l1) [] x4 = elim x4 [ ]
   coalesce_alike (r1 ∷ l1) (r2 ∷ l2) (along a rest) = from_alike r1 r2 l1 l2 a rest

@@ -27,6 +27,8 @@ alike_same : (names1 names2 : List (List ℕ)) (l k : List Record) → Alongside
     → SameRecords names1 names2 l k
 unfolding SameRecords
 alike_same names1 names2 [] [] ended = tt
+alike_same names1 names2 [] (s ∷ k) x4 = elim x4 [ ]
+alike_same names1 names2 (r ∷ l) [] x4 = elim x4 [ ]
 alike_same names1 names2 (r ∷ l) (s ∷ k) (along a rest) = (a.same, alike_same names1 names2 l k rest)
 
 module _ (x1 x2 : Input) (segments : List ReferenceSegment) (reference1 : x1.reference ≡ some segments)

@@ -1,5 +1,7 @@
 // The library as C and Rust programs link it: numbers and slices only. Each function that writes answers the number of the row that
 // refuses the call, 0 for none, and stores how many values it wrote.
+#![tactic(auto)]
+
 ghost use Rattle.std.specs.Prelude.{true, map, ◌≡◌, length};
 ghost use Rattle.allele_subsetting_pl.specs.UnusedAlts.{outputs, subset_none_above};
 ghost use Rattle.combine_gvcfs.specs.Combined.{texts_of};
@@ -35,8 +37,7 @@ fn give(outcome: Outcome, written: &mut usize) -> usize
 }
 
 // The combined list of cohort.kv, of clip.kv if `clipped`, and of reference.kv if `has_reference`.
-#[unsafe(no_mangle)]
-pub extern "C" fn wintabol_combine<'a>(
+pub fn wintabol_combine<'a>(
     cohort: &'a [u8],
     clipped: bool,
     clip: &[u8],
@@ -80,8 +81,7 @@ fn give_looked(looked: Looked, figure: &mut usize) -> usize
 
 // For planning, how many sites the search along a contig looks at, for the texts of `wintabol_combine`. The figure is 0 for a contig that no
 // site names, and where a row refuses the call.
-#[unsafe(no_mangle)]
-pub extern "C" fn wintabol_looks<'a>(
+pub fn wintabol_looks<'a>(
     cohort: &'a [u8],
     clipped: bool,
     clip: &[u8],
@@ -127,8 +127,7 @@ fn give_lookup(answer: Lookup, pairs: &mut usize, groups: &mut u32) -> usize
 
 // For each pair of `asked`, groups of `contig` and `pos` in list order, the number of the record of a combined list whose stretch holds it,
 // counted from 0, or 4294967295 for none; how many pairs there are; and how many record groups were read, front to back, up to the last pair.
-#[unsafe(no_mangle)]
-pub extern "C" fn wintabol_look_up(
+pub fn wintabol_look_up(
     list: &[u8],
     asked: &[u8],
     out: &mut [u32],
@@ -144,8 +143,7 @@ pub extern "C" fn wintabol_look_up(
 }
 
 // The called list of a combined list.
-#[unsafe(no_mangle)]
-pub extern "C" fn wintabol_call(list: &[u8], out: &mut [u8], written: &mut usize) -> usize
+pub fn wintabol_call(list: &[u8], out: &mut [u8], written: &mut usize) -> usize
     ensures { Exported
         (called_list list.now (length out.old))
         out.old out.new result written.new }
@@ -155,12 +153,7 @@ pub extern "C" fn wintabol_call(list: &[u8], out: &mut [u8], written: &mut usize
 }
 
 // The alleles of a comma list, REF first, without their common ending.
-#[unsafe(no_mangle)]
-pub extern "C" fn wintabol_reverse_trim_alleles(
-    alleles: &[u8],
-    out: &mut [u8],
-    written: &mut usize,
-) -> usize
+pub fn wintabol_reverse_trim_alleles(alleles: &[u8], out: &mut [u8], written: &mut usize) -> usize
     ensures { Exported
         (trimmed_alleles alleles.now (length out.old))
         out.old out.new result written.new }
@@ -170,20 +163,14 @@ pub extern "C" fn wintabol_reverse_trim_alleles(
 }
 
 // GQ of a list of PLs.
-#[unsafe(no_mangle)]
-pub extern "C" fn wintabol_gq_phred_from_pl(pl: &[u32]) -> u32
+pub fn wintabol_gq_phred_from_pl(pl: &[u32]) -> u32
     ensures { result ≡ gq_from_pl pl.now }
 {
     genotyping::gq_phred_from_pl(pl)
 }
 
 // The log10 likelihoods of PLs.
-#[unsafe(no_mangle)]
-pub extern "C" fn wintabol_log10_likelihoods_from_pl(
-    pl: &[u32],
-    out: &mut [f64],
-    written: &mut usize,
-) -> usize
+pub fn wintabol_log10_likelihoods_from_pl(pl: &[u32], out: &mut [f64], written: &mut usize) -> usize
     ensures answered { Exported
         (within (length out.old) (map log10_from_pl pl.now))
         out.old out.new result written.new }
@@ -194,8 +181,7 @@ pub extern "C" fn wintabol_log10_likelihoods_from_pl(
 }
 
 // Likelihoods over the alleles of a keep list.
-#[unsafe(no_mangle)]
-pub extern "C" fn wintabol_subset_log10_genotype_likelihoods(
+pub fn wintabol_subset_log10_genotype_likelihoods(
     gl: &[f64],
     alleles: usize,
     keep: &[usize],
@@ -232,8 +218,7 @@ fn give_alts(outcome: UnusedAltOutcome, alts: &mut usize, gl: &mut usize, ad: &m
 }
 
 // A record without the ALTs that the GT does not name.
-#[unsafe(no_mangle)]
-pub extern "C" fn wintabol_subset_unused_alts(
+pub fn wintabol_subset_unused_alts(
     alts: &[u8],
     gt: &[usize],
     gl: &[f64],

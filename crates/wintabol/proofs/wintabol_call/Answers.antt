@@ -1,5 +1,4 @@
 -- The outcome of the entry as two numbers.
-use borrow.Author.Rules.{rules}
 use Rattle.wintabol.proofs.Exported.{exported}
 use Rattle.laws.proofs.RefusalNumbers.{called_numbered}
 use Rattle.wintabol.proofs.wintabol_call.Goals as goal

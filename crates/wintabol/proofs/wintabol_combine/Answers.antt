@@ -1,5 +1,4 @@
 -- The outcome of the entry as two numbers.
-use borrow.Author.Rules.{rules}
 use Rattle.wintabol.proofs.Exported.{exported_list}
 use Rattle.wintabol.proofs.wintabol_combine.Goals as goal
 

@@ -1,6 +1,5 @@
 -- The answer of the entry as three numbers.
 use Rattle.wintabol.proofs.Exported.{exported_look_up}
-use borrow.Author.Rules.{rules}
 use Rattle.wintabol.proofs.wintabol_look_up.Goals as goal
 
 pub returns : goal.returns

@@ -1,5 +1,4 @@
 -- The answer of the entry as two numbers.
-use borrow.Author.Rules.{rules}
 use Rattle.wintabol.proofs.Exported.{exported_looks}
 use Rattle.wintabol.proofs.wintabol_looks.Goals as goal
 
