@@ -7,35 +7,35 @@ use Rattle.combined_list.proofs.combine_contigs.Goals as goal
 
 pub walk_contigs-measured-requires : goal.walk_contigs-measured-requires
 walk_contigs-measured-requires c = (
-      measuring c.requires.0,
-      record {
-        for_chosen = c.requires.1;
-        for_window = c.requires.2;
-        for_walk = record { for_held = omega arith; for_fresh = omega arith; for_alts = omega arith };
-      },
-    )
+  measuring c.requires.0,
+  record {
+    for_chosen = c.requires.1;
+    for_window = c.requires.2;
+    for_walk = record { for_held = omega arith; for_fresh = omega arith; for_alts = omega arith };
+  },
+)
 
 pub write_measured-requires : goal.write_measured-requires
 write_measured-requires c = (
-      measurement c.requires.0 _ c.walk_contigs-measured.ensures c.in-To.is,
-      record {
-        for_chosen = omega (arith, c.requires.1, c.walk_contigs-measured.auto.chosen);
-        for_window = omega (arith, c.requires.2, c.walk_contigs-measured.auto.scratch);
-        for_walk = record {
-          for_held = omega (arith, c.walk_contigs-measured.auto.held);
-          for_fresh = omega (arith, c.walk_contigs-measured.auto.fresh);
-          for_alts = omega (arith, c.walk_contigs-measured.auto.alts);
-        };
-      },
-    )
+  measurement c.requires.0 _ c.walk_contigs-measured.ensures c.in-To.is,
+  record {
+    for_chosen = omega (arith, c.requires.1, c.walk_contigs-measured.auto.chosen);
+    for_window = omega (arith, c.requires.2, c.walk_contigs-measured.auto.scratch);
+    for_walk = record {
+      for_held = omega (arith, c.walk_contigs-measured.auto.held);
+      for_fresh = omega (arith, c.walk_contigs-measured.auto.fresh);
+      for_alts = omega (arith, c.walk_contigs-measured.auto.alts);
+    };
+  },
+)
 
 pub returns-in-Refused : goal.returns-in-Refused
 returns-in-Refused c = λ ready.
     answered_refused (list_refused ready _ c.walk_contigs-measured.ensures _ c.decreases.given.1)
-    (nothing_left c.walk_contigs-measured.new.1.1.1.1.1.1.1.1.1.1.1.1.1.1.1.0 _ c.walk_contigs-measured.auto.out)
+    (nothing_left c.walk_contigs-measured.new.out _ c.walk_contigs-measured.auto.out)
 
 pub returns-in-To : goal.returns-in-To
 returns-in-To c = λ ready.
     list_answered ready _ c.walk_contigs-measured.ensures _ _ _ _ c.in-To.is
-    (nothing_left c.walk_contigs-measured.new.1.1.1.1.1.1.1.1.1.1.1.1.1.1.1.0 _ c.walk_contigs-measured.auto.out)
+    (nothing_left c.walk_contigs-measured.new.out _ c.walk_contigs-measured.auto.out)
     c.write_measured.ensures

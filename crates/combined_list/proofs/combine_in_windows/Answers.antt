@@ -19,10 +19,10 @@ slice_bounds-combine_contigs-end-2 c = taken_exactly _ _ (omega (arith, firsts_w
 
 pub combine_contigs-requires : goal.combine_contigs-requires
 combine_contigs-requires c = (
-      list_ready c.requires.0 c.requires.1.for_firsts (c.order_contigs-count.ensures (rows_for_lem c.requires.0)) c.group_by_sample.ensures.runs,
-      omega (arith, c.requires.1.for_chosen, c.group_by_sample.auto.order),
-      c.requires.2,
-    )
+  list_ready c.requires.0 c.requires.1.for_firsts (c.order_contigs-count.ensures (rows_for_lem c.requires.0)) c.group_by_sample.ensures.runs,
+  omega (arith, c.requires.1.for_chosen, c.group_by_sample.auto.order),
+  c.requires.2,
+)
 
 pub returns : goal.returns
 returns c = λ call.

@@ -27,14 +27,14 @@ module _ {s rows : List ℕ} {samples : ℕ} {clipped : Bool} {clip : List ℕ} 
 
 pub loop-c-init : goal.loop-c-init
 loop-c-init c = record {
-      chosen-long = refl;
-      scratch-long = refl;
-      held-long = refl;
-      fresh-long = refl;
-      alts-long = refl;
-      out-long = refl;
-      going = λ ready. going_start ready;
-    }
+  chosen-long = refl;
+  scratch-long = refl;
+  held-long = refl;
+  fresh-long = refl;
+  alts-long = refl;
+  out-long = refl;
+  going = λ ready. going_start ready;
+}
 
 pub walk_one-walked-requires : goal.walk_one-walked-requires
 walk_one-walked-requires c = (one_ready c.requires.0 (c.loop-c.invariant.going c.requires.0) c.loop-c-test.true, room_here c.loop-c.invariant c.requires.1)
@@ -62,18 +62,18 @@ returns-in-Refused c = λ ready.
     going_refused ready (c.loop-c.invariant.going ready) c.loop-c-test.true _ _ c.in-Refused.is c.walk_one-walked.ensures
 
 pub overflow_step-c : goal.overflow_step-c
-overflow_step-c c = omega (arith, c.loop-c-test.true, c.well-formed.1.1.1.1.1.1.1.0.0)
+overflow_step-c c = omega (arith, c.loop-c-test.true, c.well_formed.1.1.1.1.1.1.1.0.0)
 
 pub loop-c-preserved : goal.loop-c-preserved
 loop-c-preserved c = record {
-      chosen-long = c.walk_one-walked.auto.chosen ∙ c.loop-c.invariant.chosen-long;
-      scratch-long = c.walk_one-walked.auto.scratch ∙ c.loop-c.invariant.scratch-long;
-      held-long = c.walk_one-walked.auto.held ∙ c.loop-c.invariant.held-long;
-      fresh-long = c.walk_one-walked.auto.fresh ∙ c.loop-c.invariant.fresh-long;
-      alts-long = c.walk_one-walked.auto.alts ∙ c.loop-c.invariant.alts-long;
-      out-long = c.walk_one-walked.auto.out ∙ c.loop-c.invariant.out-long;
-      going = λ ready. going_next ready (c.loop-c.invariant.going ready) c.loop-c-test.true _ _ _ c.in-To.is c.walk_one-walked.ensures;
-    }
+  chosen-long = c.walk_one-walked.auto.chosen ∙ c.loop-c.invariant.chosen-long;
+  scratch-long = c.walk_one-walked.auto.scratch ∙ c.loop-c.invariant.scratch-long;
+  held-long = c.walk_one-walked.auto.held ∙ c.loop-c.invariant.held-long;
+  fresh-long = c.walk_one-walked.auto.fresh ∙ c.loop-c.invariant.fresh-long;
+  alts-long = c.walk_one-walked.auto.alts ∙ c.loop-c.invariant.alts-long;
+  out-long = c.walk_one-walked.auto.out ∙ c.loop-c.invariant.out-long;
+  going = λ ready. going_next ready (c.loop-c.invariant.going ready) c.loop-c-test.true _ _ _ c.in-To.is c.walk_one-walked.ensures;
+}
 
 pub shape_of-chosen : goal.shape_of-chosen
 shape_of-chosen c = c.loop-c.invariant.chosen-long

@@ -10,15 +10,15 @@ use Rattle.combined_list.proofs.AllContigs.{Going, going_end, going_next, going_
 use Rattle.combined_list.specs.Contigs.{AllReady, ContigRoom}
 use Rattle.combined_list.proofs.walk_contigs.Given as goal
 
-record Inv (s rows : List ℕ) (samples : ℕ) (clipped : Bool) (clip : List ℕ) (referenced : Bool) (reference contigs order runs : List ℕ)
+pub record Inv (s rows : List ℕ) (samples : ℕ) (clipped : Bool) (clip : List ℕ) (referenced : Bool) (reference contigs order runs : List ℕ)
     (chosen₀ scratch₀ held₀ fresh₀ alts₀ out₀ : List ℕ) (at : ℕ) (chosen scratch held fresh alts out : List ℕ) (next count c : ℕ) : Type 0 where
-  chosen-long : length chosen ≡ length chosen₀
-  scratch-long : length scratch ≡ length scratch₀
-  held-long : length held ≡ length held₀
-  fresh-long : length fresh ≡ length fresh₀
-  alts-long : length alts ≡ length alts₀
-  out-long : length out ≡ length out₀
-  going : (ready : AllReady s rows samples clipped clip referenced reference contigs order runs out₀ at) → Going ready out next count c
+  pub chosen-long : length chosen ≡ length chosen₀
+  pub scratch-long : length scratch ≡ length scratch₀
+  pub held-long : length held ≡ length held₀
+  pub fresh-long : length fresh ≡ length fresh₀
+  pub alts-long : length alts ≡ length alts₀
+  pub out-long : length out ≡ length out₀
+  pub going : (ready : AllReady s rows samples clipped clip referenced reference contigs order runs out₀ at) → Going ready out next count c
 
 abbrev pub invariant-loop-c : goal.invariant-loop-c
 invariant-loop-c l = Inv l.s l.rows l.samples l.clipped l.clip l.referenced l.reference l.contigs l.order l.runs l.initial.chosen l.initial.scratch l.initial.held l.initial.fresh l.initial.alts l.initial.out l.at l.chosen l.scratch l.held l.fresh l.alts l.out l.next l.count l.c

@@ -10,11 +10,11 @@ select_contig-requires c = record { bounded = c.requires.0.tables.grouped.bounde
 
 pub walk_windows-requires : goal.walk_windows-requires
 walk_windows-requires c = let runs = selected_known c.requires.0.tables.grouped _ _ c.select_contig.ensures.runs in (
-      one_windows c.requires.0.tables c.requires.0.is_first runs c.contig_name-contig.ensures c.given_clip-spans.ensures,
-      record { d₀ = c.requires.0.d₀; bytes = c.requires.0.bytes; records = c.requires.0.records; progress = c.requires.0.progress },
-      c.requires.1.for_walk,
-      c.requires.1.for_window,
-    )
+  one_windows c.requires.0.tables c.requires.0.is_first runs c.contig_name-contig.ensures c.given_clip-spans.ensures,
+  record { d₀ = c.requires.0.d₀; bytes = c.requires.0.bytes; records = c.requires.0.records; progress = c.requires.0.progress },
+  c.requires.1.for_walk,
+  c.requires.1.for_window,
+)
 
 pub shape_of-chosen : goal.shape_of-chosen
 shape_of-chosen c = c.select_contig.auto.chosen

@@ -19,10 +19,10 @@ returns-then-not-same_bytes c = rw (on_is _ (c.same_bytes.ensures) (c.part-on.en
 
 pub returns-then-not-is_deep : goal.returns-then-not-is_deep
 returns-then-not-is_deep c = rw (
-      on_is _ c.same_bytes.ensures c.part-on.ensures (c.if-not-same_bytes.false),
-      deep_is _ _ c.is_deep.ensures
-          c.dp_of-dp.ensures c.get.ensures (c.if-not-is_deep.true),
-    )
+  on_is _ c.same_bytes.ensures c.part-on.ensures (c.if-not-same_bytes.false),
+  deep_is _ _ c.is_deep.ensures
+      c.dp_of-dp.ensures c.get.ensures (c.if-not-is_deep.true),
+)
 
 pub add_stretch-requires : goal.add_stretch-requires
 add_stretch-requires c = rw (c.new.ensures.0, c.new.ensures.1, c.record_end-last.ensures)
@@ -35,11 +35,11 @@ add_stretch-requires c = rw (c.new.ensures.0, c.new.ensures.1, c.record_end-last
 
 pub returns : goal.returns
 returns c = c.add_stretch.ensures ∙ rw (
-      c.new.ensures.0,
-      c.new.ensures.1,
-      c.record_end-last.ensures,
-      on_is _ c.same_bytes.ensures
-          c.part-on.ensures (c.if-not-same_bytes.false),
-      deep_is _ _ c.is_deep.ensures c.dp_of-dp.ensures c.get.ensures
-          (c.if-not-is_deep.false),
-    )
+  c.new.ensures.0,
+  c.new.ensures.1,
+  c.record_end-last.ensures,
+  on_is _ c.same_bytes.ensures
+      c.part-on.ensures (c.if-not-same_bytes.false),
+  deep_is _ _ c.is_deep.ensures c.dp_of-dp.ensures c.get.ensures
+      (c.if-not-is_deep.false),
+)

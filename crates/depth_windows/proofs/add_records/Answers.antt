@@ -46,8 +46,8 @@ loop-place-smaller c = let r = rw c.in-Record.is at c.step-stepped.ensures in om
 pub loop-place-preserved : goal.loop-place-preserved
 unfolding SteppedFrom
 loop-place-preserved c = let r = rw c.in-Record.is at c.step-stepped.ensures in (
-      c.add_record.auto.counts ∙ c.loop-place.invariant.0,
-      λ ready. rw
-          (c.add_record.ensures ∙ place_added_lem r.to c.args.contig.now c.args.asked c.args.windows
-          c.loop-place.counts ready.sample_there) (walk_next _ _ _ (c.loop-place.invariant.1 ready) r),
-    )
+  c.add_record.auto.counts ∙ c.loop-place.invariant.0,
+  λ ready. rw
+      (c.add_record.ensures ∙ place_added_lem r.to c.args.contig.now c.args.asked c.args.windows
+      c.loop-place.counts ready.sample_there) (walk_next _ _ _ (c.loop-place.invariant.1 ready) r),
+)

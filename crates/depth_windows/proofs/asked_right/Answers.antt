@@ -15,8 +15,8 @@ returns-then-not-window_fits-2 c = rw (sym c.window_fits.ensures ∙ c.if-not-wi
 
 pub returns : goal.returns
 returns c = rw (
-      sym c.window_fits.ensures ∙ c.if-not-window_fits.false,
-      sym c.window_fits-2.ensures ∙ not-false _
-          c.if-not-window_fits-2.false-raw,
-      c.get.ensures,
-    )
+  sym c.window_fits.ensures ∙ c.if-not-window_fits.false,
+  sym c.window_fits-2.ensures ∙ not-false _
+      c.if-not-window_fits-2.false-raw,
+  c.get.ensures,
+)

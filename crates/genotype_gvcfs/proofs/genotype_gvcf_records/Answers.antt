@@ -32,19 +32,19 @@ genotype_one_record-laid-requires c = lay_ready _ _ _ _ c.requires (c.loop-read.
     (rw c.in-Record.is at c.record_at-found.ensures)
 
 pub overflow_add-read : goal.overflow_add-read
-overflow_add-read c = omega (arith, c.loop-read-test.true, c.well-formed.1.1.1.0)
+overflow_add-read c = omega (arith, c.loop-read-test.true, c.well_formed.1.1.1.0)
 
 pub loop-read-preserved : goal.loop-read-preserved
 unfolding RecordRead
 loop-read-preserved c = (
-      c.record_at-found.auto.rows ∙ c.loop-read.invariant.0,
-      c.genotype_one_record-laid.auto.out
-          ∙ c.loop-read.invariant.1,
-      omega (arith, c.loop-read-test.true),
-      λ ready. going_next _ _ _ _ ready (c.loop-read.invariant.3 ready)
-          c.loop-read-test.true (rw c.in-Record.is at c.record_at-found.ensures) c.record_end-last.ensures
-          c.genotype_one_record-laid.ensures,
-    )
+  c.record_at-found.auto.rows ∙ c.loop-read.invariant.0,
+  c.genotype_one_record-laid.auto.out
+      ∙ c.loop-read.invariant.1,
+  omega (arith, c.loop-read-test.true),
+  λ ready. going_next _ _ _ _ ready (c.loop-read.invariant.3 ready)
+      c.loop-read-test.true (rw c.in-Record.is at c.record_at-found.ensures) c.record_end-last.ensures
+      c.genotype_one_record-laid.ensures,
+)
 
 pub shape_of-rows-then-next-s : goal.shape_of-rows-then-next-s
 shape_of-rows-then-next-s c = c.loop-read.invariant.0

@@ -10,8 +10,7 @@ pub returns-then-sites-first : goal.returns-then-sites-first
 returns-then-sites-first c = λ ready. none_counted ready _ c.contig_number-first.ensures c.if-sites-first.true
 
 pub first_looks-requires : goal.first_looks-requires
-first_looks-requires c = let pre = c.requires in
-    (first_ready pre.0 _ c.contig_number-first.ensures c.if-sites-first.false, pre.1, pre.2)
+first_looks-requires c = (first_ready c.requires.0 _ c.contig_number-first.ensures c.if-sites-first.false, c.requires.1, c.requires.2)
 
 pub returns : goal.returns
 returns c = λ ready. asked_counted ready _ c.contig_number-first.ensures c.if-sites-first.false c.first_looks.ensures

@@ -6,22 +6,21 @@ use Rattle.search_looks.proofs.Figure.{sites_ready, walk_accepted, walk_refused}
 use Rattle.search_looks.proofs.contigs_looks.Goals as goal
 
 pub walk_contigs-measured-requires : goal.walk_contigs-measured-requires
-walk_contigs-measured-requires c = let pre = c.requires in (
-  measuring pre.0.list,
+walk_contigs-measured-requires c = (
+  measuring c.requires.0.list,
   record {
-    for_chosen = pre.1;
-    for_window = pre.2;
+    for_chosen = c.requires.1;
+    for_window = c.requires.2;
     for_walk = record { for_held = omega arith; for_fresh = omega arith; for_alts = omega arith };
   },
 )
 
 pub asked_looks-requires : goal.asked_looks-requires
-asked_looks-requires c = let pre = c.requires in
-    let kept = c.walk_contigs-measured.auto in (
-      sites_ready pre.0,
-      omega (arith, pre.1, kept.1.1.1.1.1.1.1.1.1.1.0),
-      omega (arith, pre.2, kept.1.1.1.1.1.1.1.1.1.1.1.0),
-    )
+asked_looks-requires c = (
+  sites_ready c.requires.0,
+  omega (arith, c.requires.1, c.walk_contigs-measured.auto.chosen),
+  omega (arith, c.requires.2, c.walk_contigs-measured.auto.scratch),
+)
 
 pub returns-in-Refused : goal.returns-in-Refused
 returns-in-Refused c = λ ready. walk_refused ready _ _ c.walk_contigs-measured.ensures c.decreases.given.1

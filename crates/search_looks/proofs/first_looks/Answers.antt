@@ -7,23 +7,19 @@ use Rattle.search_looks.proofs.AskedContig.{chosen_within, contig_ready, first_c
 use Rattle.search_looks.proofs.first_looks.Goals as goal
 
 pub select_contig-requires : goal.select_contig-requires
-select_contig-requires c = let ready = c.requires.0 in
-    (ready.tables.grouped.bounded, (c.requires.1, omega (arith, ready.tables.loaded.few)))
+select_contig-requires c = record { bounded = c.requires.0.tables.grouped.bounded; order_in_bounds = c.requires.1; samples_in_bounds = omega (arith, c.requires.0.tables.loaded.few) }
 
 pub slice_bounds-contig_looks-end : goal.slice_bounds-contig_looks-end
-slice_bounds-contig_looks-end c = let ready = c.requires.0 in
-    omega (arith, chosen_within ready (selected_known ready.tables.grouped _ _ c.select_contig.ensures.0))
+slice_bounds-contig_looks-end c = omega (arith, chosen_within c.requires.0 (selected_known c.requires.0.tables.grouped _ _ c.select_contig.ensures.runs))
 
 pub slice_bounds-contig_looks-end-2 : goal.slice_bounds-contig_looks-end-2
-slice_bounds-contig_looks-end-2 c = let ready = c.requires.0 in
-    taken_exactly _ _ (omega (arith, chosen_within ready (selected_known ready.tables.grouped _ _ c.select-contig.ensures.0)))
+slice_bounds-contig_looks-end-2 c = taken_exactly _ _ (omega (arith, chosen_within c.requires.0 (selected_known c.requires.0.tables.grouped _ _ c.select_contig.ensures.runs)))
 
 pub contig_looks-requires : goal.contig_looks-requires
-contig_looks-requires c = let ready = c.requires.0 in
-    let runs = selected_known ready.tables.grouped _ _ c.select-contig.ensures.0 in
-    (contig_ready ready runs c.contig-name.ensures c.given-clip.ensures, c.requires.2)
+contig_looks-requires c = let runs = selected_known c.requires.0.tables.grouped _ _ c.select_contig.ensures.runs in
+    (contig_ready c.requires.0 runs c.contig_name-contig.ensures c.given_clip-spans.ensures, c.requires.2)
 
 pub returns : goal.returns
 returns c = λ ready.
-    let runs = selected_known ready.tables.grouped _ _ c.select-contig.ensures.0 in
-    first_counted ready runs c.contig-name.ensures c.given-clip.ensures c.contig_looks.ensures
+    let runs = selected_known ready.tables.grouped _ _ c.select_contig.ensures.runs in
+    first_counted ready runs c.contig_name-contig.ensures c.given_clip-spans.ensures c.contig_looks.ensures

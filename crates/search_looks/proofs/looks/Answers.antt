@@ -4,5 +4,4 @@ use Rattle.search_looks.proofs.Figure.{looks_answered}
 use Rattle.search_looks.proofs.looks.Goals as goal
 
 pub returns : goal.returns
-returns c = let answer = c.texts_looks-looked in
-    looks_answered _ _ _ _ answer.result answer.ensures answer.auto.1.1.1.1.1.1.0 c.clear_places.ensures
+returns c = looks_answered _ _ _ _ c.texts_looks-looked.result c.texts_looks-looked.ensures c.texts_looks-looked.auto.scratch c.clear_places.ensures

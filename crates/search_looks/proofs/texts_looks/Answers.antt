@@ -7,9 +7,8 @@ use Rattle.search_looks.proofs.Figure.{texts_refused}
 use Rattle.search_looks.proofs.texts_looks.Goals as goal
 
 pub returns-then-not-all_short : goal.returns-then-not-all_short
-returns-then-not-all_short c = let a = c.args in
-    let long = sym c.all_short.ensures ∙ c.if-not-all_short.true in
-    texts_refused _ _ _ (too_long_lem a.cohort.now a.clipped a.clip.now a.referenced a.reference.now long)
+returns-then-not-all_short c = let long = sym c.all_short.ensures ∙ c.if-not-all_short.true in
+    texts_refused _ _ _ (too_long_lem c.args.cohort.now c.args.clipped c.args.clip.now c.args.referenced c.args.reference.now long)
 
 pub fitting_looks-requires : goal.fitting_looks-requires
 fitting_looks-requires c = sym c.all_short.ensures ∙ c.if-not-all_short.false

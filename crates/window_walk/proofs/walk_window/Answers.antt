@@ -23,15 +23,15 @@ module _ {s rows : List ℕ} {samples : ℕ} {clipped referenced : Bool}
 
 pub loop-k-init : goal.loop-k-init
 loop-k-init c = record {
-      from-long = refl;
-      held-long = refl;
-      fresh-long = refl;
-      found-long = refl;
-      owners-long = refl;
-      alts-long = refl;
-      out-long = refl;
-      way = λ ready way. through_start ready way;
-    }
+  from-long = refl;
+  held-long = refl;
+  fresh-long = refl;
+  found-long = refl;
+  owners-long = refl;
+  alts-long = refl;
+  out-long = refl;
+  way = λ ready way. through_start ready way;
+}
 
 pub walk_place-turn-requires : goal.walk_place-turn-requires
 unfolding place_ready
@@ -68,7 +68,7 @@ returns-in-Refused c = λ ready way.
     (carrying ready way t))
 
 pub overflow_step-k : goal.overflow_step-k
-overflow_step-k c = omega (arith, c.loop-k-test.true, c.well-formed)
+overflow_step-k c = omega (arith, c.loop-k-test.true, c.well_formed)
 
 pub loop-k-smaller : goal.loop-k-smaller
 loop-k-smaller c = omega (arith, c.loop-k-test.true)
@@ -76,19 +76,19 @@ loop-k-smaller c = omega (arith, c.loop-k-test.true)
 pub loop-k-preserved : goal.loop-k-preserved
 unfolding place_ready carrying WalkedTo
 loop-k-preserved c = record {
-      from-long = c.walk_place-turn.auto.from ∙ c.loop-k.invariant.from-long;
-      held-long = c.walk_place-turn.auto.held ∙ c.loop-k.invariant.held-long;
-      fresh-long = c.walk_place-turn.auto.fresh ∙ c.loop-k.invariant.fresh-long;
-      found-long = c.walk_place-turn.auto.found ∙ c.loop-k.invariant.found-long;
-      owners-long = c.walk_place-turn.auto.owners ∙ c.loop-k.invariant.owners-long;
-      alts-long = c.walk_place-turn.auto.alts ∙ c.loop-k.invariant.alts-long;
-      out-long = c.walk_place-turn.auto.out ∙ c.loop-k.invariant.out-long;
-      way = λ ready way.
-          let t = c.loop-k.invariant.way ready way in
-          through_next ready way t c.loop-k-test.true
-          (rw c.in-To.is at (c.walk_place-turn.ensures _ (place_ready ready way t c.loop-k-test.true (room_here c.loop-k.invariant ready.room))
-          (carrying ready way t)));
-    }
+  from-long = c.walk_place-turn.auto.from ∙ c.loop-k.invariant.from-long;
+  held-long = c.walk_place-turn.auto.held ∙ c.loop-k.invariant.held-long;
+  fresh-long = c.walk_place-turn.auto.fresh ∙ c.loop-k.invariant.fresh-long;
+  found-long = c.walk_place-turn.auto.found ∙ c.loop-k.invariant.found-long;
+  owners-long = c.walk_place-turn.auto.owners ∙ c.loop-k.invariant.owners-long;
+  alts-long = c.walk_place-turn.auto.alts ∙ c.loop-k.invariant.alts-long;
+  out-long = c.walk_place-turn.auto.out ∙ c.loop-k.invariant.out-long;
+  way = λ ready way.
+      let t = c.loop-k.invariant.way ready way in
+      through_next ready way t c.loop-k-test.true
+      (rw c.in-To.is at (c.walk_place-turn.ensures _ (place_ready ready way t c.loop-k-test.true (room_here c.loop-k.invariant ready.room))
+      (carrying ready way t)));
+}
 
 pub shape_of-from : goal.shape_of-from
 shape_of-from c = c.loop-k.invariant.from-long

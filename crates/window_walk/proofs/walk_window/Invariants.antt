@@ -12,17 +12,17 @@ use Rattle.window_walk.specs.Windows.{Carrying, WalkedTo, WindowReady}
 use Rattle.window_walk.specs.declared.Along.{Along}
 use Rattle.window_walk.proofs.walk_window.Given as goal
 
-record Inv (s rows : List ℕ) (samples : ℕ) (clipped referenced : Bool)
+pub record Inv (s rows : List ℕ) (samples : ℕ) (clipped referenced : Bool)
     (reference contig chosen from₀ bounds places held₀ fresh₀ found₀ owners₀ alts₀ out₀ : List ℕ)
     (along₀ : Along) (from held fresh found owners alts out : List ℕ) (along : Along) (k : ℕ) : Type 0 where
-  from-long : length from ≡ length from₀
-  held-long : length held ≡ length held₀
-  fresh-long : length fresh ≡ length fresh₀
-  found-long : length found ≡ length found₀
-  owners-long : length owners ≡ length owners₀
-  alts-long : length alts ≡ length alts₀
-  out-long : length out ≡ length out₀
-  way : (ready : WindowReady s rows samples clipped referenced reference contig chosen from₀ bounds places along₀.past held₀ fresh₀ found₀ owners₀ alts₀)
+  pub from-long : length from ≡ length from₀
+  pub held-long : length held ≡ length held₀
+  pub fresh-long : length fresh ≡ length fresh₀
+  pub found-long : length found ≡ length found₀
+  pub owners-long : length owners ≡ length owners₀
+  pub alts-long : length alts ≡ length alts₀
+  pub out-long : length out ≡ length out₀
+  pub way : (ready : WindowReady s rows samples clipped referenced reference contig chosen from₀ bounds places along₀.past held₀ fresh₀ found₀ owners₀ alts₀)
       (way : Carrying ready.runs.on.loaded.input samples contig held₀ out₀ along₀)
       → Through ready way from held out along k
 

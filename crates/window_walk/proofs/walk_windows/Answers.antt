@@ -48,7 +48,8 @@ pub bounds-bounds-samples : goal.bounds-bounds-samples
 bounds-bounds-samples c = c.requires.0.runs.in_runs.bounded.long
 
 pub loop-more-init : goal.loop-more-init
-loop-more-init c = record {
+loop-more-init c = let ready = c.requires.0 in
+    record {
       scratch-long = refl;
       held-long = refl;
       fresh-long = refl;
@@ -57,9 +58,9 @@ loop-more-init c = record {
       found-long = refl;
       owners-long = refl;
       from-long = c.start_search.auto.from;
-      ended = ended_start c.requires.0.runs.in_runs.bounded (omega (arith, c.requires.0.runs.on.loaded.few)) c.start_search.ensures;
+      ended = ended_start ready.runs.in_runs.bounded (omega (arith, ready.runs.on.loaded.few)) c.start_search.ensures;
       none-past = λ never. let z : ◌≡◌ {A = ℕ} 0 1 = cc in absurd (omega arith);
-      way = λ c.requires.0 begun. carried_start c.requires.0 begun;
+      way = λ ready begun. carried_start ready begun;
     }
 
 pub slice_bounds-next_breakpoints-end : goal.slice_bounds-next_breakpoints-end
@@ -77,9 +78,9 @@ slice_bounds-walk_window-end-in-loop-more-2 c = stored_exactly c.next_breakpoint
 pub walk_window-turn-requires : goal.walk_window-turn-requires
 unfolding window_ready
 walk_window-turn-requires c = let room = room_here c.loop-more.invariant c.requires.0.runs.on.loaded.few c.requires.2 in (
-      window_ready c.requires.0 c.next_breakpoints-window.ensures c.loop-more.invariant.ended room,
-      carrying c.loop-more.invariant c.requires.0 c.requires.1,
-    )
+  window_ready c.requires.0 c.next_breakpoints-window.ensures c.loop-more.invariant.ended room,
+  carrying c.loop-more.invariant c.requires.0 c.requires.1,
+)
 
 pub shape_of-scratch-in-Refused : goal.shape_of-scratch-in-Refused
 shape_of-scratch-in-Refused c = c.next_breakpoints-window.ensures.long ∙ c.loop-more.invariant.scratch-long
@@ -112,9 +113,11 @@ loop-more-smaller c = let walked = rw c.in-To.is at (c.walk_window-turn.ensures
 
 pub loop-more-preserved : goal.loop-more-preserved
 unfolding window_ready contig_window WalkedTo
-loop-more-preserved c = let walked = rw c.in-To.is at (c.walk_window-turn.ensures
-    (window_ready c.requires.0 c.next_breakpoints-window.ensures c.loop-more.invariant.ended (room_here c.loop-more.invariant c.requires.0.runs.on.loaded.few c.requires.2))
-    (carrying c.loop-more.invariant c.requires.0 c.requires.1)) in
+loop-more-preserved c = let ready = c.requires.0 in
+    let begun = c.requires.1 in
+    let walked = rw c.in-To.is at (c.walk_window-turn.ensures
+    (window_ready ready c.next_breakpoints-window.ensures c.loop-more.invariant.ended (room_here c.loop-more.invariant ready.runs.on.loaded.few c.requires.2))
+    (carrying c.loop-more.invariant ready begun)) in
     record {
       scratch-long = c.next_breakpoints-window.ensures.long ∙ c.loop-more.invariant.scratch-long;
       held-long = c.walk_window-turn.auto.held ∙ c.loop-more.invariant.held-long;
@@ -125,10 +128,10 @@ loop-more-preserved c = let walked = rw c.in-To.is at (c.walk_window-turn.ensure
       owners-long = c.walk_window-turn.auto.owners ∙ c.loop-more.invariant.owners-long;
       from-long = c.walk_window-turn.auto.from ∙ c.loop-more.invariant.from-long;
       ended = walked.ended;
-      none-past = none_left c.requires.0.points c.next_breakpoints-window.ensures walked.there;
-      way = λ c.requires.0 c.requires.1. (rw c.in-To.is at (c.walk_window-turn.ensures
-          (window_ready c.requires.0 c.next_breakpoints-window.ensures c.loop-more.invariant.ended (room_here c.loop-more.invariant c.requires.0.runs.on.loaded.few c.requires.2))
-          (carrying c.loop-more.invariant c.requires.0 c.requires.1))).carried;
+      none-past = none_left ready.points c.next_breakpoints-window.ensures walked.there;
+      way = λ ready begun. (rw c.in-To.is at (c.walk_window-turn.ensures
+          (window_ready ready c.next_breakpoints-window.ensures c.loop-more.invariant.ended (room_here c.loop-more.invariant ready.runs.on.loaded.few c.requires.2))
+          (carrying c.loop-more.invariant ready begun))).carried;
     }
 
 pub put_pending-next-requires : goal.put_pending-next-requires

@@ -20,20 +20,20 @@ use Rattle.window_walk.specs.Windows.{Carried, Carrying, WalkedTo, WindowsReady,
 use Rattle.window_walk.specs.declared.Along.{Along}
 use Rattle.window_walk.proofs.walk_windows.Given as goal
 
-record Inv (s rows : List ℕ) (samples : ℕ) (clipped : Bool) (clip : List ℕ) (referenced : Bool)
+pub record Inv (s rows : List ℕ) (samples : ℕ) (clipped : Bool) (clip : List ℕ) (referenced : Bool)
     (reference contig chosen bounds scratch₀ held₀ fresh₀ alts₀ out₀ : List ℕ)
     (at count : ℕ) (scratch held fresh alts out found owners from : List ℕ) (along : Along) (more : Bool) : Type 0 where
-  scratch-long : length scratch ≡ length scratch₀
-  held-long : length held ≡ length held₀
-  fresh-long : length fresh ≡ length fresh₀
-  alts-long : length alts ≡ length alts₀
-  out-long : length out ≡ length out₀
-  found-long : length found ≡ 64
-  owners-long : length owners ≡ 64
-  from-long : length from ≡ 64
-  ended : Ended rows chosen bounds from samples along.past
-  none-past : more ≡ false → filter_by (ltb along.past) (all_breakpoints rows (numbers_in samples chosen bounds) (spans_of clip contig)) ≡ []
-  way : (ready : WindowsReady s rows samples clipped clip referenced reference contig chosen bounds) (begun : Begun out₀ at count)
+  pub scratch-long : length scratch ≡ length scratch₀
+  pub held-long : length held ≡ length held₀
+  pub fresh-long : length fresh ≡ length fresh₀
+  pub alts-long : length alts ≡ length alts₀
+  pub out-long : length out ≡ length out₀
+  pub found-long : length found ≡ 64
+  pub owners-long : length owners ≡ 64
+  pub from-long : length from ≡ 64
+  pub ended : Ended rows chosen bounds from samples along.past
+  pub none-past : more ≡ false → filter_by (ltb along.past) (all_breakpoints rows (numbers_in samples chosen bounds) (spans_of clip contig)) ≡ []
+  pub way : (ready : WindowsReady s rows samples clipped clip referenced reference contig chosen bounds) (begun : Begun out₀ at count)
       → Carried ready.runs.on.loaded.input samples contig begun.d₀ begun.bytes begun.records held out along
 
 abbrev pub invariant-loop-more : goal.invariant-loop-more
