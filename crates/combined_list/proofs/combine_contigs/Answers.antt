@@ -31,7 +31,7 @@ write_measured-requires c = (
 
 pub returns-in-Refused : goal.returns-in-Refused
 returns-in-Refused c = λ ready.
-    answered_refused (list_refused ready _ c.walk_contigs-measured.ensures _ c.decreases.given.1)
+    answered_refused (list_refused ready _ c.walk_contigs-measured.ensures _ c.in-Refused.is)
     (nothing_left c.walk_contigs-measured.new.out _ c.walk_contigs-measured.auto.out)
 
 pub returns-in-To : goal.returns-in-To

@@ -23,7 +23,7 @@ asked_looks-requires c = (
 )
 
 pub returns-in-Refused : goal.returns-in-Refused
-returns-in-Refused c = λ ready. walk_refused ready _ _ c.walk_contigs-measured.ensures c.decreases.given.1
+returns-in-Refused c = λ ready. walk_refused ready _ _ c.walk_contigs-measured.ensures c.in-Refused.is
 
 pub returns-in-To : goal.returns-in-To
 returns-in-To c = λ ready. walk_accepted ready _ _ c.walk_contigs-measured.ensures c.in-To.is c.asked_looks.ensures
