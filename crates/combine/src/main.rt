@@ -1,4 +1,6 @@
 // Combines cohort.kv with clip.kv and reference.kv, files of the working folder, and prints the list, or `refused=` and the number.
-fn main() {
-    programs::run_combine();
+#![tactic(auto)]
+
+fn main(rt: HostRuntime) {
+    programs::run_combine(&rt);
 }

@@ -1,6 +1,8 @@
 // What the programs share: reading a file of the working folder whole, and the bytes that they print: the list that a call gave, a figure, or
 // `refused=` and the number.
-ghost use Rattle.std.specs.Prelude.{◌≡◌, ◌+◌, ◌<◌, ◌≤◌, ◌^◌, length, take};
+#![tactic(auto)]
+
+ghost use Rattle.std.specs.Prelude.{◌≡◌, ◌+◌, ◌<◌, ◌≤◌, ◌^◌, IfOk, length, take};
 ghost use Rattle.definitions.specs.Answers.{printed_answer, printed_looks};
 ghost use Rattle.definitions.specs.Checked.{accepted, refused};
 ghost use Rattle.definitions.specs.Numbers.{decimal};
@@ -10,7 +12,9 @@ ghost use Rattle.kv_write.specs.Keyed.{keyed};
 ghost use Rattle.kv_write.specs.Laid.{Laid};
 
 use answers::Outcome;
-use libc::{ENOENT, STDOUT_FILENO};
+use std::io::{ErrorKind, Read};
+use std::rt::Files;
+use std::{fs, io};
 
 // ---- a file
 
@@ -23,25 +27,32 @@ pub enum FileRead {
     Failed,
 }
 
+// A line on standard error: what failed, and why. One that can't be written is let be.
+fn fail(rt: &impl Eprint, what: &str, error: io::Error) {
+    let _ = eprintln!(rt; "{what}: {error}");
+}
+
 // One read behind the bytes that are there.
-fn read_behind(fd: i32, buffer: &mut [u8], count: usize) -> isize
+fn read_behind(file: &mut impl Read, buffer: &mut [u8], count: usize) -> io::Result<usize>
     requires { count ≤ length buffer.old }
+    ensures { IfOk result (λ n. count + n ≤ length buffer.old) }
 {
-    libc::read(fd, &mut buffer[count..])
+    file.read(&mut buffer[count..])
 }
 
 // Reads an open file to its end. It must end before the buffer does.
-fn read_to_end(fd: i32, name: &[u8], buffer: &mut [u8]) -> FileRead
+fn read_to_end(rt: &impl Eprint, file: &mut impl Read, name: &str, buffer: &mut [u8]) -> FileRead
     ensures { Below (length buffer.old) result }
 {
     let mut count = 0;
     while count < buffer.len() {
-        let got = read_behind(fd, buffer, count);
-        if got < 0 {
-            os::fail(name);
-            return FileRead::Failed;
-        }
-        let more = io::count(got, &buffer[count..]);
+        let more = match read_behind(file, buffer, count) {
+            Ok(more) => more,
+            Err(error) => {
+                fail(rt, name, error);
+                return FileRead::Failed;
+            }
+        };
         if more == 0 {
             return FileRead::Text(count);
         }
@@ -51,21 +62,28 @@ fn read_to_end(fd: i32, name: &[u8], buffer: &mut [u8]) -> FileRead
 }
 
 // Reads the file with this name, which must have fewer bytes than the buffer. One that is there and can't be read gets a line on
-// standard error.
-pub fn read_file(name: &[u8], buffer: &mut [u8]) -> FileRead
+// standard error, as does a name that is no UTF-8.
+pub fn read_file<R: Files + Eprint>(rt: &R, name: &[u8], buffer: &mut [u8]) -> FileRead
     ensures { Below (length buffer.old) result }
 {
-    let fd = os::open_read(name);
-    if fd < 0 {
-        if os::errno() == ENOENT {
-            return FileRead::Absent;
-        }
-        os::fail(name);
+    let Ok(name) = str::from_utf8(name) else {
+        fail(
+            rt,
+            "a file's name",
+            io::Error::from(ErrorKind::InvalidFilename),
+        );
         return FileRead::Failed;
+    };
+    match fs::open(rt, name) {
+        Ok(mut file) => read_to_end(rt, &mut file, name, buffer),
+        Err(error) => {
+            if error.kind() == ErrorKind::NotFound {
+                return FileRead::Absent;
+            }
+            fail(rt, name, error);
+            FileRead::Failed
+        }
     }
-    let read = read_to_end(fd, name, buffer);
-    libc::close(fd);
-    read
 }
 
 pub fn is_failed(read: FileRead) -> bool
@@ -182,18 +200,18 @@ pub fn put_answer(outcome: Outcome, list: &mut [u8; 65536]) -> usize
 }
 
 // Writes the first bytes of a buffer to standard output.
-fn print_part(bytes: &[u8], count: usize) {
-    if !io::write_all(STDOUT_FILENO, tables::part(bytes, 0, count)) {
-        os::fail(b"standard output");
+fn print_part<R: Print + Eprint>(rt: &R, bytes: &[u8], count: usize) {
+    if let Err(error) = rt.write_all(tables::part(bytes, 0, count)) {
+        fail(rt, "standard output", error);
     }
 }
 
 // Writes the first bytes of a list's buffer to standard output.
-pub fn print_first(list: &[u8; 65536], count: usize) {
-    print_part(list, count);
+pub fn print_first<R: Print + Eprint>(rt: &R, list: &[u8; 65536], count: usize) {
+    print_part(rt, list, count);
 }
 
 // The same for a line.
-pub fn print_line(line: &[u8; 32], count: usize) {
-    print_part(line, count);
+pub fn print_line<R: Print + Eprint>(rt: &R, line: &[u8; 32], count: usize) {
+    print_part(rt, line, count);
 }

@@ -3,6 +3,8 @@
 //
 // A file longer than 65,536 bytes is refused with 2. An absent combined.kv or places.kv is an empty text. A file that is there and can't be read
 // gets a line on standard error, and nothing is printed.
+#![tactic(auto)]
+
 ghost use Rattle.std.specs.Prelude.{◌≤◌, length, ◌≡◌};
 ghost use Rattle.definitions.specs.Answers.{look_up_files, printed_looked_up};
 ghost use Rattle.definitions.specs.Checked.{refused};
@@ -15,6 +17,7 @@ ghost use Rattle.list_programs.specs.FoundLines.{answer_lines, found_lines, most
 use files::{FileRead, is_failed, is_too_long, read_file, text};
 use kv_write::OptionalNumber;
 use position_lookup::Lookup;
+use std::rt::Files;
 
 // The number of a record, missing for 4294967295.
 fn record_number(number: u32) -> OptionalNumber
@@ -87,20 +90,20 @@ pub fn look_up_program(
 }
 
 // The program on files with these names.
-pub fn look_up_named(combined_name: &[u8], places_name: &[u8]) {
+pub fn look_up_named<R: Files + Print + Eprint>(rt: &R, combined_name: &[u8], places_name: &[u8]) {
     let mut combined = [0u8; 65537];
     let mut places = [0u8; 65537];
     let mut list = [0u8; 65536];
-    let of_combined = read_file(combined_name, &mut combined);
-    let of_places = read_file(places_name, &mut places);
+    let of_combined = read_file(rt, combined_name, &mut combined);
+    let of_places = read_file(rt, places_name, &mut places);
     if is_failed(of_combined) || is_failed(of_places) {
         return;
     }
     let count = look_up_program(of_combined, &combined, of_places, &places, &mut list);
-    files::print_first(&list, count);
+    files::print_first(rt, &list, count);
 }
 
 // Looks the pairs of places.kv up in combined.kv, a combined list.
-pub fn run_look_up() {
-    look_up_named(b"combined.kv", b"places.kv");
+pub fn run_look_up<R: Files + Print + Eprint>(rt: &R) {
+    look_up_named(rt, b"combined.kv", b"places.kv");
 }

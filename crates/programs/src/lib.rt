@@ -4,6 +4,8 @@
 // A file longer than 65,536 bytes is refused with 2. An absent cohort.kv, contig.kv or combined.kv is an empty text; an absent clip.kv or
 // reference.kv is not lent. A file that is there and can't be read gets a line on standard error, and nothing is printed. The exit
 // status is 0 all the same: a Rattle program has no other.
+#![tactic(auto)]
+
 ghost use Rattle.std.specs.Prelude.{◌≡◌, false};
 ghost use Rattle.answers.specs.Answered.{Answered};
 ghost use Rattle.definitions.specs.Answers.{called_file, printed_answer, printed_looks};
@@ -16,6 +18,7 @@ use answers::Outcome;
 use files::{FileRead, is_failed, is_text, is_too_long, read_file, text};
 use kv_text::ValueAt;
 use search_looks::Looked;
+use std::rt::Files;
 
 // ---- combine
 
@@ -91,15 +94,20 @@ pub fn combine_program<'a>(
 }
 
 // The program on files with these names.
-pub fn combine_named(cohort_name: &[u8], clip_name: &[u8], reference_name: &[u8]) {
+pub fn combine_named<R: Files + Print + Eprint>(
+    rt: &R,
+    cohort_name: &[u8],
+    clip_name: &[u8],
+    reference_name: &[u8],
+) {
     let mut cohort = [0u8; 65537];
     let mut clip = [0u8; 65537];
     let mut reference = [0u8; 65537];
     let mut scratch = [0u64; 8192];
     let mut list = [0u8; 65536];
-    let of_cohort = read_file(cohort_name, &mut cohort);
-    let of_clip = read_file(clip_name, &mut clip);
-    let of_reference = read_file(reference_name, &mut reference);
+    let of_cohort = read_file(rt, cohort_name, &mut cohort);
+    let of_clip = read_file(rt, clip_name, &mut clip);
+    let of_reference = read_file(rt, reference_name, &mut reference);
     if is_failed(of_cohort) || is_failed(of_clip) || is_failed(of_reference) {
         return;
     }
@@ -113,12 +121,12 @@ pub fn combine_named(cohort_name: &[u8], clip_name: &[u8], reference_name: &[u8]
         &mut scratch,
         &mut list,
     );
-    files::print_first(&list, count);
+    files::print_first(rt, &list, count);
 }
 
 // Combines cohort.kv with clip.kv and reference.kv.
-pub fn run_combine() {
-    combine_named(b"cohort.kv", b"clip.kv", b"reference.kv");
+pub fn run_combine<R: Files + Print + Eprint>(rt: &R) {
+    combine_named(rt, b"cohort.kv", b"clip.kv", b"reference.kv");
 }
 
 // ---- looks
@@ -249,7 +257,8 @@ pub fn looks_program<'a>(
 }
 
 // The program on files with these names.
-pub fn looks_named(
+pub fn looks_named<R: Files + Print + Eprint>(
+    rt: &R,
     cohort_name: &[u8],
     clip_name: &[u8],
     reference_name: &[u8],
@@ -261,10 +270,10 @@ pub fn looks_named(
     let mut contig = [0u8; 65537];
     let mut scratch = [0u64; 8192];
     let mut line = [0u8; 32];
-    let of_cohort = read_file(cohort_name, &mut cohort);
-    let of_clip = read_file(clip_name, &mut clip);
-    let of_reference = read_file(reference_name, &mut reference);
-    let of_contig = read_file(contig_name, &mut contig);
+    let of_cohort = read_file(rt, cohort_name, &mut cohort);
+    let of_clip = read_file(rt, clip_name, &mut clip);
+    let of_reference = read_file(rt, reference_name, &mut reference);
+    let of_contig = read_file(rt, contig_name, &mut contig);
     if is_failed(of_cohort)
         || is_failed(of_clip)
         || is_failed(of_reference)
@@ -284,12 +293,12 @@ pub fn looks_named(
         &mut scratch,
         &mut line,
     );
-    files::print_line(&line, count);
+    files::print_line(rt, &line, count);
 }
 
 // The looks of the contig that contig.kv asks for, for cohort.kv, clip.kv and reference.kv.
-pub fn run_looks() {
-    looks_named(b"cohort.kv", b"clip.kv", b"reference.kv", b"contig.kv");
+pub fn run_looks<R: Files + Print + Eprint>(rt: &R) {
+    looks_named(rt, b"cohort.kv", b"clip.kv", b"reference.kv", b"contig.kv");
 }
 
 // ---- call
@@ -313,18 +322,18 @@ pub fn call_program(of_combined: FileRead, combined: &[u8], list: &mut [u8; 6553
 }
 
 // The program on a file with this name.
-pub fn call_named(combined_name: &[u8]) {
+pub fn call_named<R: Files + Print + Eprint>(rt: &R, combined_name: &[u8]) {
     let mut combined = [0u8; 65537];
     let mut list = [0u8; 65536];
-    let of_combined = read_file(combined_name, &mut combined);
+    let of_combined = read_file(rt, combined_name, &mut combined);
     if is_failed(of_combined) {
         return;
     }
     let count = call_program(of_combined, &combined, &mut list);
-    files::print_first(&list, count);
+    files::print_first(rt, &list, count);
 }
 
 // Calls combined.kv, a combined list.
-pub fn run_call() {
-    call_named(b"combined.kv");
+pub fn run_call<R: Files + Print + Eprint>(rt: &R) {
+    call_named(rt, b"combined.kv");
 }

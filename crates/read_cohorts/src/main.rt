@@ -5,10 +5,14 @@
 //
 // For each case a line: the name, and `samples=2 sites=3` or `refused=1`. Then the rows of at most three sites, 22 numbers to a line.
 // tools/make_cohort_cases.py writes the input, and what is to be printed, from document 01's rules.
+#![tactic(auto)]
+
 ghost use Rattle.std.specs.Prelude.{◌<◌, length};
 
 use cohort::CohortRead;
-use test_cases::{Case, case_at, field, line_at, number_field, print, print_number, print_refused};
+use test_cases::{
+    Case, case_at, field, line_at, number_field, print, print_number, print_refused, read_input,
+};
 
 // ---- the text of a case
 
@@ -52,50 +56,50 @@ fn make_text(s: &[u8], case: Case, times: usize, text: &mut [u8]) -> usize {
 // ---- the output
 
 // What stands behind the number at a place of the rows.
-fn print_separator(place: usize) {
+fn print_separator(rt: &impl Print, place: usize) {
     if place % 22 == 21 {
-        print(b"\n");
+        print(rt, b"\n");
     } else {
-        print(b" ");
+        print(rt, b" ");
     }
 }
 
 // Prints the first so many numbers of the rows, 22 to a line.
-fn print_rows(rows: &[usize], count: usize) {
+fn print_rows(rt: &impl Print, rows: &[usize], count: usize) {
     let mut i = 0;
     while i < count {
         if rows.len() <= i {
             return;
         }
-        print_number(rows[i]);
-        print_separator(i);
+        print_number(rt, rows[i]);
+        print_separator(rt, i);
         i += 1;
     }
 }
 
-fn print_cohort(samples: usize, sites: usize, rows: &[usize]) {
-    print(b" samples=");
-    print_number(samples);
-    print(b" sites=");
-    print_number(sites);
-    print(b"\n");
+fn print_cohort(rt: &impl Print, samples: usize, sites: usize, rows: &[usize]) {
+    print(rt, b" samples=");
+    print_number(rt, samples);
+    print(rt, b" sites=");
+    print_number(rt, sites);
+    print(rt, b"\n");
     if sites <= 3 {
-        print_rows(rows, sites * 22);
+        print_rows(rt, rows, sites * 22);
     }
 }
 
 // Reads a text, and prints what it gave behind the case's name.
-fn print_read(text: &[u8], names: &mut [usize], rows: &mut [usize]) {
+fn print_read(rt: &impl Print, text: &[u8], names: &mut [usize], rows: &mut [usize]) {
     let read = cohort::read_cohort(text, names, rows);
     match read {
         CohortRead::Cohort(samples, sites) => {
-            print_cohort(samples, sites, rows);
+            print_cohort(rt, samples, sites, rows);
         }
         CohortRead::Refused(row) => {
-            print_refused(row);
+            print_refused(rt, row);
         }
         CohortRead::NoRoom => {
-            print(b" no room\n");
+            print(rt, b" no room\n");
         }
     }
 }
@@ -104,6 +108,7 @@ fn print_read(text: &[u8], names: &mut [usize], rows: &mut [usize]) {
 
 // The case at an offset; the answer is where the next one begins.
 fn run_case(
+    rt: &impl Print,
     input: &[u8],
     at: usize,
     text: &mut [u8],
@@ -116,25 +121,32 @@ fn run_case(
     let case = case_at(input, at);
     let line = line_at(input, at);
     let count = make_text(input, case, number_field(line, 3), text);
-    print(field(line, 4));
-    print_read(tables::part(text, 0, count), names, rows);
+    print(rt, field(line, 4));
+    print_read(rt, tables::part(text, 0, count), names, rows);
     case.next
 }
 
-fn run_cases(input: &[u8], text: &mut [u8], names: &mut [usize], rows: &mut [usize]) {
+fn run_cases(
+    rt: &impl Print,
+    input: &[u8],
+    text: &mut [u8],
+    names: &mut [usize],
+    rows: &mut [usize],
+) {
     let mut at = 0;
     while at < input.len() {
-        at = run_case(input, at, text, names, rows);
+        at = run_case(rt, input, at, text, names, rows);
     }
 }
 
-fn main() {
+fn main(rt: HostRuntime) {
     let mut input = [0u8; 131072];
     let mut text = [0u8; 320000];
     let mut names = [0usize; 128];
     let mut rows = [0usize; 90112];
-    let count = io::read_full(0, &mut input);
+    let count = read_input(&rt, &mut input);
     run_cases(
+        &rt,
         tables::part(&input, 0, count),
         &mut text,
         &mut names,

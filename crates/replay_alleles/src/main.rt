@@ -12,13 +12,15 @@
 // For each case a line: the name, and `refused=5`, or `written=` with how much was written and the lists behind it. Before the call all of
 // the output is set. A line tells if the output behind what was written, all of it after a refusal, isn't as it was.
 // tools/make_allele_cases.py writes the input, and what is to be printed, from recorded/ and document 01's rules.
+#![tactic(auto)]
+
 use allele_subsetting_pl::UnusedAltOutcome;
 use answers::Outcome;
 use bio_ids::AlleleIndex;
 use kv_text::same_bytes;
 use test_cases::{
     after_line, count_field, field, line_at, number_field, print, print_if_changed, print_number,
-    print_refused,
+    print_refused, read_input,
 };
 use values::{
     first_alleles, first_numbers, first_values, print_if_numbers_changed, print_if_values_changed,
@@ -40,66 +42,66 @@ fn text_field<'a>(line: &'a [u8], number: usize) -> &'a [u8] {
     text
 }
 
-fn print_written(count: usize) {
-    print(b" written=");
-    print_number(count);
+fn print_written(rt: &impl Print, count: usize) {
+    print(rt, b" written=");
+    print_number(rt, count);
 }
 
 // ---- alleles
 
 // Prints the answer, and returns how many bytes were written.
-fn print_alleles(outcome: Outcome, out: &[u8]) -> usize {
+fn print_alleles(rt: &impl Print, outcome: Outcome, out: &[u8]) -> usize {
     match outcome {
         Outcome::Written(count) => {
-            print_written(count);
-            print_text(tables::part(out, 0, count));
-            print(b"\n");
+            print_written(rt, count);
+            print_text(rt, tables::part(out, 0, count));
+            print(rt, b"\n");
             count
         }
         Outcome::Refused(row) => {
-            print_refused(row);
+            print_refused(rt, row);
             0
         }
     }
 }
 
-fn call_trim(line: &[u8], out: &mut [u8]) {
+fn call_trim(rt: &impl Print, line: &[u8], out: &mut [u8]) {
     let room = count_field(line, 2, out.len());
     let outcome = reverse_trim::reverse_trim_alleles(text_field(line, 3), &mut out[..room]);
-    let count = print_alleles(outcome, out);
-    print_if_changed(out, count);
+    let count = print_alleles(rt, outcome, out);
+    print_if_changed(rt, out, count);
 }
 
-fn run_trim(line: &[u8]) {
+fn run_trim(rt: &impl Print, line: &[u8]) {
     let mut out = [255u8; 4096];
-    call_trim(line, &mut out);
+    call_trim(rt, line, &mut out);
 }
 
 // ---- PL
 
-fn print_gq(pl: &[u32]) {
-    print(b" gq=");
+fn print_gq(rt: &impl Print, pl: &[u32]) {
+    print(rt, b" gq=");
     let gq = genotyping::gq_phred_from_pl(pl);
-    print_number(gq as usize);
-    print(b"\n");
+    print_number(rt, gq as usize);
+    print(rt, b"\n");
 }
 
-fn run_gq(line: &[u8]) {
+fn run_gq(rt: &impl Print, line: &[u8]) {
     let mut pl = [0u32; 136];
     let count = read_numbers(field(line, 2), &mut pl);
-    print_gq(first_numbers(&pl, count));
+    print_gq(rt, first_numbers(&pl, count));
 }
 
 // Prints so many PLs of the output, and their GQ.
-fn print_pl(out: &[u32], count: usize) {
-    print_written(count);
+fn print_pl(rt: &impl Print, out: &[u32], count: usize) {
+    print_written(rt, count);
     let pl = first_numbers(out, count);
-    print_numbers(pl);
-    print_gq(pl);
-    print_if_numbers_changed(out, count);
+    print_numbers(rt, pl);
+    print_gq(rt, pl);
+    print_if_numbers_changed(rt, out, count);
 }
 
-fn call_drop(line: &[u8], out: &mut [u32]) {
+fn call_drop(rt: &impl Print, line: &[u8], out: &mut [u32]) {
     let mut pl = [0u32; 136];
     let count = read_numbers(field(line, 4), &mut pl);
     let alleles = number_field(line, 2);
@@ -110,28 +112,28 @@ fn call_drop(line: &[u8], out: &mut [u32]) {
         first_numbers(&pl, count),
         out,
     );
-    print_pl(out, written);
+    print_pl(rt, out, written);
 }
 
-fn run_drop(line: &[u8]) {
+fn run_drop(rt: &impl Print, line: &[u8]) {
     let mut out = [4294967295u32; 136];
-    call_drop(line, &mut out);
+    call_drop(rt, line, &mut out);
 }
 
 // ---- likelihoods
 
 // Prints the answer, and if the output behind what was written has changed.
-fn print_likelihoods(outcome: Outcome, out: &[f64]) {
+fn print_likelihoods(rt: &impl Print, outcome: Outcome, out: &[f64]) {
     match outcome {
         Outcome::Written(count) => {
-            print_written(count);
-            print_values(first_values(out, count));
-            print(b"\n");
-            print_if_values_changed(out, count);
+            print_written(rt, count);
+            print_values(rt, first_values(out, count));
+            print(rt, b"\n");
+            print_if_values_changed(rt, out, count);
         }
         Outcome::Refused(row) => {
-            print_refused(row);
-            print_if_values_changed(out, 0);
+            print_refused(rt, row);
+            print_if_values_changed(rt, out, 0);
         }
     }
 }
@@ -165,21 +167,22 @@ fn log10_or_subset(line: &[u8], out: &mut [f64]) -> Outcome {
     subset(line, out)
 }
 
-fn call_likelihoods(line: &[u8], out: &mut [f64]) {
+fn call_likelihoods(rt: &impl Print, line: &[u8], out: &mut [f64]) {
     let room = count_field(line, 2, out.len());
     let outcome = log10_or_subset(line, &mut out[..room]);
-    print_likelihoods(outcome, out);
+    print_likelihoods(rt, outcome, out);
 }
 
-fn run_likelihoods(line: &[u8]) {
+fn run_likelihoods(rt: &impl Print, line: &[u8]) {
     let mut out = [0.5f64; 256];
-    call_likelihoods(line, &mut out);
+    call_likelihoods(rt, line, &mut out);
 }
 
 // ---- unused ALTs
 
 // Prints if an output has changed behind so many bytes, values and numbers.
 fn print_faults(
+    rt: &impl Print,
     alts: &[u8],
     alts_count: usize,
     gl: &[f64],
@@ -187,13 +190,14 @@ fn print_faults(
     ad: &[u32],
     ad_count: usize,
 ) {
-    print_if_changed(alts, alts_count);
-    print_if_values_changed(gl, gl_count);
-    print_if_numbers_changed(ad, ad_count);
+    print_if_changed(rt, alts, alts_count);
+    print_if_values_changed(rt, gl, gl_count);
+    print_if_numbers_changed(rt, ad, ad_count);
 }
 
 // Prints how much was written of each, and the lists.
 fn print_record(
+    rt: &impl Print,
     alts: &[u8],
     alts_count: usize,
     gl: &[f64],
@@ -201,26 +205,32 @@ fn print_record(
     ad: &[u32],
     ad_count: usize,
 ) {
-    print_written(alts_count);
-    print(b",");
-    print_number(gl_count);
-    print(b",");
-    print_number(ad_count);
-    print_text(tables::part(alts, 0, alts_count));
-    print_values(first_values(gl, gl_count));
-    print_numbers(first_numbers(ad, ad_count));
-    print(b"\n");
+    print_written(rt, alts_count);
+    print(rt, b",");
+    print_number(rt, gl_count);
+    print(rt, b",");
+    print_number(rt, ad_count);
+    print_text(rt, tables::part(alts, 0, alts_count));
+    print_values(rt, first_values(gl, gl_count));
+    print_numbers(rt, first_numbers(ad, ad_count));
+    print(rt, b"\n");
 }
 
-fn print_unused_outcome(outcome: UnusedAltOutcome, alts: &[u8], gl: &[f64], ad: &[u32]) {
+fn print_unused_outcome(
+    rt: &impl Print,
+    outcome: UnusedAltOutcome,
+    alts: &[u8],
+    gl: &[f64],
+    ad: &[u32],
+) {
     match outcome {
         UnusedAltOutcome::Written(alts_count, gl_count, ad_count) => {
-            print_record(alts, alts_count, gl, gl_count, ad, ad_count);
-            print_faults(alts, alts_count, gl, gl_count, ad, ad_count);
+            print_record(rt, alts, alts_count, gl, gl_count, ad, ad_count);
+            print_faults(rt, alts, alts_count, gl, gl_count, ad, ad_count);
         }
         UnusedAltOutcome::Refused(row) => {
-            print_refused(row);
-            print_faults(alts, 0, gl, 0, ad, 0);
+            print_refused(rt, row);
+            print_faults(rt, alts, 0, gl, 0, ad, 0);
         }
     }
 }
@@ -250,7 +260,13 @@ fn unused(
     )
 }
 
-fn call_unused(line: &[u8], alts_out: &mut [u8], gl_out: &mut [f64], ad_out: &mut [u32]) {
+fn call_unused(
+    rt: &impl Print,
+    line: &[u8],
+    alts_out: &mut [u8],
+    gl_out: &mut [f64],
+    ad_out: &mut [u32],
+) {
     let alts_room = count_field(line, 2, alts_out.len());
     let gl_room = count_field(line, 3, gl_out.len());
     let ad_room = count_field(line, 4, ad_out.len());
@@ -260,51 +276,56 @@ fn call_unused(line: &[u8], alts_out: &mut [u8], gl_out: &mut [f64], ad_out: &mu
         &mut gl_out[..gl_room],
         &mut ad_out[..ad_room],
     );
-    print_unused_outcome(outcome, alts_out, gl_out, ad_out);
+    print_unused_outcome(rt, outcome, alts_out, gl_out, ad_out);
 }
 
-fn run_unused(line: &[u8]) {
+fn run_unused(rt: &impl Print, line: &[u8]) {
     let mut alts_out = [255u8; 256];
     let mut gl_out = [0.5f64; 256];
     let mut ad_out = [4294967295u32; 32];
-    call_unused(line, &mut alts_out, &mut gl_out, &mut ad_out);
+    call_unused(rt, line, &mut alts_out, &mut gl_out, &mut ad_out);
 }
 
 // ---- the cases
 
-fn run_case(line: &[u8]) {
-    print(field(line, 0));
+fn run_case(rt: &impl Print, line: &[u8]) {
+    print(rt, field(line, 0));
     let function = field(line, 1);
     if same_bytes(function, b"trim") {
-        run_trim(line);
+        run_trim(rt, line);
     }
     if same_bytes(function, b"gq") {
-        run_gq(line);
+        run_gq(rt, line);
     }
     if same_bytes(function, b"drop") {
-        run_drop(line);
+        run_drop(rt, line);
     }
     if same_bytes(function, b"log10") {
-        run_likelihoods(line);
+        run_likelihoods(rt, line);
     }
     if same_bytes(function, b"subset") {
-        run_likelihoods(line);
+        run_likelihoods(rt, line);
     }
     if same_bytes(function, b"unused") {
-        run_unused(line);
+        run_unused(rt, line);
     }
 }
 
-fn run_cases(input: &[u8]) {
+fn run_cases(rt: &impl Print, input: &[u8]) {
     let mut at = 0;
     while at < input.len() {
-        run_case(line_at(input, at));
+        run_case(rt, line_at(input, at));
         at = after_line(input, at);
     }
 }
 
-fn main() {
+// Reads the input, and runs its cases. Apart from `main`, so that the proof has no literal of so many bytes before it.
+fn run_input(rt: &(impl Input + Print), input: &mut [u8; 524288]) {
+    let count = read_input(rt, input);
+    run_cases(rt, tables::part(input, 0, count));
+}
+
+fn main(rt: HostRuntime) {
     let mut input = [0u8; 524288];
-    let count = io::read_full(0, &mut input);
-    run_cases(tables::part(&input, 0, count));
+    run_input(&rt, &mut input);
 }

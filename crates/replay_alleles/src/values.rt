@@ -2,7 +2,6 @@
 ghost use Rattle.std.specs.Prelude.{◌≤◌, length};
 
 use kv_text::NumbersRead;
-use libc::STDOUT_FILENO;
 use test_cases::{after_field, at_most, print, print_number};
 
 // ---- reading
@@ -108,37 +107,37 @@ pub fn first_values<'a>(values: &'a [f64], count: usize) -> &'a [f64] {
 // ---- printing
 
 // What stands before the value at a place of a list.
-fn print_separator(place: usize) {
+fn print_separator(rt: &impl Print, place: usize) {
     if place == 0 {
-        print(b" ");
+        print(rt, b" ");
     } else {
-        print(b",");
+        print(rt, b",");
     }
 }
 
 // What stands for an empty list.
-fn print_empty(count: usize) {
+fn print_empty(rt: &impl Print, count: usize) {
     if count == 0 {
-        print(b" .");
+        print(rt, b" .");
     }
 }
 
 // Prints a text behind a space.
-pub fn print_text(s: &[u8]) {
-    print_empty(s.len());
+pub fn print_text(rt: &impl Print, s: &[u8]) {
+    print_empty(rt, s.len());
     if 0 < s.len() {
-        print(b" ");
+        print(rt, b" ");
     }
-    print(s);
+    print(rt, s);
 }
 
 // Prints a list of numbers behind a space.
-pub fn print_numbers(numbers: &[u32]) {
-    print_empty(numbers.len());
+pub fn print_numbers(rt: &impl Print, numbers: &[u32]) {
+    print_empty(rt, numbers.len());
     for i in 0..numbers.len() {
-        print_separator(i);
+        print_separator(rt, i);
         let n = numbers[i];
-        print_number(wide(n));
+        print_number(rt, wide(n));
     }
 }
 
@@ -154,12 +153,12 @@ fn bits_of(x: f64) -> u64 {
 }
 
 // Prints a list of f64 values behind a space.
-pub fn print_values(values: &[f64]) {
-    print_empty(values.len());
+pub fn print_values(rt: &impl Print, values: &[f64]) {
+    print_empty(rt, values.len());
     for i in 0..values.len() {
-        print_separator(i);
+        print_separator(rt, i);
         let x = values[i];
-        io::print_hex(STDOUT_FILENO, bits_of(x), 16);
+        let _ = print!(rt; "{:016x}", bits_of(x));
     }
 }
 
@@ -186,15 +185,15 @@ fn are_values_set(values: &[f64], from: usize) -> bool {
 }
 
 // Prints a line if the output behind a list of so many numbers is not as it was set.
-pub fn print_if_numbers_changed(out: &[u32], count: usize) {
+pub fn print_if_numbers_changed(rt: &impl Print, out: &[u32], count: usize) {
     if !are_numbers_set(out, count) {
-        print(b"the output has changed behind the list\n");
+        print(rt, b"the output has changed behind the list\n");
     }
 }
 
 // Prints a line if the output behind a list of so many values is not as it was set.
-pub fn print_if_values_changed(out: &[f64], count: usize) {
+pub fn print_if_values_changed(rt: &impl Print, out: &[f64], count: usize) {
     if !are_values_set(out, count) {
-        print(b"the output has changed behind the list\n");
+        print(rt, b"the output has changed behind the list\n");
     }
 }

@@ -6,44 +6,52 @@
 // For each case a line: the name, and `refused=1` or `written=40`, and the list behind it. Before the call all of the output is set. A line tells
 // if the output behind the list, all of it after a refusal, isn't as it was. tools/make_call_cases.py writes the input, and what is to be
 // printed, from recorded/ and document 01's rules.
+#![tactic(auto)]
+
 ghost use Rattle.std.specs.Prelude.{◌<◌, length};
 
-use test_cases::{case_at, count_field, field, line_at};
+use test_cases::{case_at, count_field, field, line_at, read_input};
 
 // The call of a case on its output.
-fn run(combined: &[u8], out: &mut [u8]) {
+fn run(rt: &impl Print, combined: &[u8], out: &mut [u8]) {
     test_cases::set_bytes(out);
     let outcome = genotype_gvcfs::call(combined, out);
-    let count = test_cases::print_outcome(outcome, out);
-    test_cases::print_if_changed(out, count);
+    let count = test_cases::print_outcome(rt, outcome, out);
+    test_cases::print_if_changed(rt, out, count);
 }
 
 // The case at an offset; the answer is where the next one begins.
-fn run_case(input: &[u8], at: usize, out: &mut [u8]) -> usize
+fn run_case(rt: &impl Print, input: &[u8], at: usize, out: &mut [u8]) -> usize
     requires { at < length input.now }
     ensures { at < result }
 {
     let case = case_at(input, at);
     let line = line_at(input, at);
     let room = count_field(line, 3, out.len());
-    test_cases::print(field(line, 4));
+    test_cases::print(rt, field(line, 4));
     run(
+        rt,
         tables::part(input, case.first, case.second),
         &mut out[..room],
     );
     case.next
 }
 
-fn run_cases(input: &[u8], out: &mut [u8]) {
+fn run_cases(rt: &impl Print, input: &[u8], out: &mut [u8]) {
     let mut at = 0;
     while at < input.len() {
-        at = run_case(input, at, out);
+        at = run_case(rt, input, at, out);
     }
 }
 
-fn main() {
+// Reads the input, and runs its cases. Apart from `main`, so that the proof has no literal of so many bytes before it.
+fn run_input(rt: &(impl Input + Print), input: &mut [u8; 524288], out: &mut [u8; 65536]) {
+    let count = read_input(rt, input);
+    run_cases(rt, tables::part(input, 0, count), out);
+}
+
+fn main(rt: HostRuntime) {
     let mut input = [0u8; 524288];
     let mut out = [0u8; 65536];
-    let count = io::read_full(0, &mut input);
-    run_cases(tables::part(&input, 0, count), &mut out);
+    run_input(&rt, &mut input, &mut out);
 }

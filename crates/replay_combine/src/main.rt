@@ -7,17 +7,20 @@
 // For each case a line: the name, and `refused=1` or `written=40`, and the list behind it. Before the call all of scratch and output is set. A line
 // tells if scratch isn't zero afterwards, or if the output behind the list, all of it after a refusal, isn't as it was.
 // tools/make_replay_cases.py writes the input, and what is to be printed, from recorded/ and document 01's rules.
+#![tactic(auto)]
+
 ghost use Rattle.std.specs.Prelude.{◌<◌, length};
 
 use test_cases::{
     case_at, count_field, field, line_at, number_field, print, print_if_changed, print_if_not_zero,
-    print_outcome, set_bytes, set_places,
+    print_outcome, read_input, set_bytes, set_places,
 };
 
 // ---- the cases
 
 // The call of a case on what it is lent.
 fn run<'a>(
+    rt: &impl Print,
     line: &[u8],
     cohort: &'a [u8],
     clip: &[u8],
@@ -37,13 +40,13 @@ fn run<'a>(
         scratch,
         out,
     );
-    let count = print_outcome(outcome, out);
-    print_if_not_zero(scratch);
-    print_if_changed(out, count);
+    let count = print_outcome(rt, outcome, out);
+    print_if_not_zero(rt, scratch);
+    print_if_changed(rt, out, count);
 }
 
 // The case at an offset; the answer is where the next one begins.
-fn run_case(input: &[u8], at: usize, scratch: &mut [u64], out: &mut [u8]) -> usize
+fn run_case(rt: &impl Print, input: &[u8], at: usize, scratch: &mut [u64], out: &mut [u8]) -> usize
     requires { at < length input.now }
     ensures { at < result }
 {
@@ -51,8 +54,9 @@ fn run_case(input: &[u8], at: usize, scratch: &mut [u64], out: &mut [u8]) -> usi
     let line = line_at(input, at);
     let places = count_field(line, 4, scratch.len());
     let room = count_field(line, 5, out.len());
-    print(field(line, 6));
+    print(rt, field(line, 6));
     run(
+        rt,
         line,
         tables::part(input, case.first, case.second),
         tables::part(input, case.second, case.third),
@@ -63,17 +67,27 @@ fn run_case(input: &[u8], at: usize, scratch: &mut [u64], out: &mut [u8]) -> usi
     case.next
 }
 
-fn run_cases(input: &[u8], scratch: &mut [u64], out: &mut [u8]) {
+fn run_cases(rt: &impl Print, input: &[u8], scratch: &mut [u64], out: &mut [u8]) {
     let mut at = 0;
     while at < input.len() {
-        at = run_case(input, at, scratch, out);
+        at = run_case(rt, input, at, scratch, out);
     }
 }
 
-fn main() {
+// Reads the input, and runs its cases. Apart from `main`, so that the proof has no literal of so many bytes before it.
+fn run_input(
+    rt: &(impl Input + Print),
+    input: &mut [u8; 524288],
+    scratch: &mut [u64; 8192],
+    out: &mut [u8; 65536],
+) {
+    let count = read_input(rt, input);
+    run_cases(rt, tables::part(input, 0, count), scratch, out);
+}
+
+fn main(rt: HostRuntime) {
     let mut input = [0u8; 524288];
     let mut scratch = [0u64; 8192];
     let mut out = [0u8; 65536];
-    let count = io::read_full(0, &mut input);
-    run_cases(tables::part(&input, 0, count), &mut scratch, &mut out);
+    run_input(&rt, &mut input, &mut scratch, &mut out);
 }

@@ -6,12 +6,15 @@
 // For each case a line: the name, and `refused=17`, or `windows=` and the counts with a space before each. Before the call all of the output is
 // set. A line tells if a place behind the counts, any place after a refusal, isn't as it was. tools/make_depth_cases.py writes the input, and
 // what is to be printed, from the rules of documents 01 and 02.
+#![tactic(auto)]
+
 ghost use Rattle.std.specs.Prelude.{◌<◌, length};
 
 use answers::Outcome;
 use bio_ids::SampleIndex;
 use test_cases::{
     case_at, count_field, field, line_at, number_field, print, print_number, print_refused,
+    read_input,
 };
 
 // Sets every place to a number that no window has.
@@ -22,41 +25,41 @@ fn set_numbers(out: &mut [u32]) {
 }
 
 // Prints a line if a place from an index on is not as it was set.
-fn print_if_changed(out: &[u32], from: usize) {
+fn print_if_changed(rt: &impl Print, out: &[u32], from: usize) {
     for i in from..out.len() {
         if out[i] != 4294967294 {
-            print(b"a place behind the counts has changed\n");
+            print(rt, b"a place behind the counts has changed\n");
             return;
         }
     }
 }
 
 // Prints a count.
-fn print_count(number: u32) {
-    print(b" ");
-    print_number(number as usize);
+fn print_count(rt: &impl Print, number: u32) {
+    print(rt, b" ");
+    print_number(rt, number as usize);
 }
 
 // Prints so many counts, as far as there are places.
-fn print_counts(out: &[u32], count: usize) {
+fn print_counts(rt: &impl Print, out: &[u32], count: usize) {
     for i in 0..out.len() {
         if i < count {
-            print_count(out[i]);
+            print_count(rt, out[i]);
         }
     }
 }
 
 // Prints the answer behind the case's name. The answer is how many windows there are.
-fn print_windows(outcome: Outcome, out: &[u32]) -> usize {
+fn print_windows(rt: &impl Print, outcome: Outcome, out: &[u32]) -> usize {
     match outcome {
         Outcome::Written(count) => {
-            print(b" windows=");
-            print_counts(out, count);
-            print(b"\n");
+            print(rt, b" windows=");
+            print_counts(rt, out, count);
+            print(rt, b"\n");
             count
         }
         Outcome::Refused(row) => {
-            print_refused(row);
+            print_refused(rt, row);
             0
         }
     }
@@ -81,35 +84,35 @@ fn run(line: &[u8], list: &[u8], out: &mut [u32]) -> Outcome {
 }
 
 // The case at an offset; the answer is where the next one begins.
-fn run_case(input: &[u8], at: usize, numbers: &mut [u32]) -> usize
+fn run_case(rt: &impl Print, input: &[u8], at: usize, numbers: &mut [u32]) -> usize
     requires { at < length input.now }
     ensures { at < result }
 {
     let case = case_at(input, at);
     let line = line_at(input, at);
     let places = count_field(line, 3, numbers.len());
-    print(field(line, 9));
+    print(rt, field(line, 9));
     set_numbers(numbers);
     let outcome = run(
         line,
         tables::part(input, case.first, case.second),
         &mut numbers[..places],
     );
-    let count = print_windows(outcome, numbers);
-    print_if_changed(numbers, count);
+    let count = print_windows(rt, outcome, numbers);
+    print_if_changed(rt, numbers, count);
     case.next
 }
 
-fn run_cases(input: &[u8], numbers: &mut [u32]) {
+fn run_cases(rt: &impl Print, input: &[u8], numbers: &mut [u32]) {
     let mut at = 0;
     while at < input.len() {
-        at = run_case(input, at, numbers);
+        at = run_case(rt, input, at, numbers);
     }
 }
 
-fn main() {
+fn main(rt: HostRuntime) {
     let mut input = [0u8; 262144];
     let mut numbers = [0u32; 4096];
-    let count = io::read_full(0, &mut input);
-    run_cases(tables::part(&input, 0, count), &mut numbers);
+    let count = read_input(&rt, &mut input);
+    run_cases(&rt, tables::part(&input, 0, count), &mut numbers);
 }

@@ -6,10 +6,14 @@
 // For each case a line: the name, and `refused=18`, or for each pair the record's number or `.`, and then `groups=2`. Before the call all
 // places are set, and a line tells if one behind the answers has changed.
 // tools/make_look_up_cases.py writes the input, and what is to be printed, from recorded/ and the rules of documents 01 and 02.
+#![tactic(auto)]
+
 ghost use Rattle.std.specs.Prelude.{◌<◌, length};
 
 use position_lookup::Lookup;
-use test_cases::{case_at, count_field, field, line_at, print, print_number, print_refused};
+use test_cases::{
+    case_at, count_field, field, line_at, print, print_number, print_refused, read_input,
+};
 
 // Sets every place to a number that no call leaves there.
 fn set_numbers(out: &mut [u32]) {
@@ -19,81 +23,81 @@ fn set_numbers(out: &mut [u32]) {
 }
 
 // Prints a line if a place from an index on is not as it was set.
-fn print_if_changed(out: &[u32], from: usize) {
+fn print_if_changed(rt: &impl Print, out: &[u32], from: usize) {
     for i in from..out.len() {
         if out[i] != 4294967294 {
-            print(b"a place behind the answers has changed\n");
+            print(rt, b"a place behind the answers has changed\n");
             return;
         }
     }
 }
 
 // Prints a record's number, or `.` for none.
-fn print_record(number: u32) {
-    print(b" ");
+fn print_record(rt: &impl Print, number: u32) {
+    print(rt, b" ");
     if number == 4294967295 {
-        print(b".");
+        print(rt, b".");
         return;
     }
-    print_number(number as usize);
+    print_number(rt, number as usize);
 }
 
 // Prints so many answers behind the case's name, as far as there are places.
-fn print_records(out: &[u32], count: usize) {
+fn print_records(rt: &impl Print, out: &[u32], count: usize) {
     for i in 0..out.len() {
         if i < count {
-            print_record(out[i]);
+            print_record(rt, out[i]);
         }
     }
 }
 
 // Prints the answer behind the case's name; it is how many places it has.
-fn print_lookup(answer: Lookup, out: &[u32]) -> usize {
+fn print_lookup(rt: &impl Print, answer: Lookup, out: &[u32]) -> usize {
     match answer {
         Lookup::Found(count, groups) => {
-            print_records(out, count);
-            print(b" groups=");
-            print_number(groups as usize);
-            print(b"\n");
+            print_records(rt, out, count);
+            print(rt, b" groups=");
+            print_number(rt, groups as usize);
+            print(rt, b"\n");
             count
         }
         Lookup::Refused(row) => {
-            print_refused(row);
+            print_refused(rt, row);
             0
         }
     }
 }
 
 // The case at an offset; the answer is where the next one begins.
-fn run_case(input: &[u8], at: usize, numbers: &mut [u32]) -> usize
+fn run_case(rt: &impl Print, input: &[u8], at: usize, numbers: &mut [u32]) -> usize
     requires { at < length input.now }
     ensures { at < result }
 {
     let case = case_at(input, at);
     let line = line_at(input, at);
     let places = count_field(line, 3, numbers.len());
-    print(field(line, 4));
+    print(rt, field(line, 4));
     set_numbers(numbers);
     let answer = position_lookup::look_up(
         tables::part(input, case.first, case.second),
         tables::part(input, case.second, case.third),
         &mut numbers[..places],
     );
-    let count = print_lookup(answer, numbers);
-    print_if_changed(numbers, count);
+    let count = print_lookup(rt, answer, numbers);
+    print_if_changed(rt, numbers, count);
     case.next
 }
 
-fn run_cases(input: &[u8], numbers: &mut [u32]) {
+fn run_cases(rt: &impl Print, input: &[u8], numbers: &mut [u32]) {
     let mut at = 0;
     while at < input.len() {
-        at = run_case(input, at, numbers);
+        at = run_case(rt, input, at, numbers);
     }
 }
 
-fn main() {
+fn main(rt: HostRuntime) {
     let mut input = [0u8; 262144];
     let mut numbers = [0u32; 1100];
-    let count = io::read_full(0, &mut input);
-    run_cases(tables::part(&input, 0, count), &mut numbers);
+    let count = read_input(&rt, &mut input);
+    run_cases(&rt, tables::part(&input, 0, count), &mut numbers);
 }

@@ -6,28 +6,37 @@
 //
 // For each case a line: the name, and `looks=4` or `refused=12`. Before the call all of scratch is set, and a line tells if it isn't zero afterwards.
 // tools/make_looks_cases.py writes the input, and what is to be printed, from recorded/ and the rules of documents 01 and 02.
+#![tactic(auto)]
+
 ghost use Rattle.std.specs.Prelude.{◌<◌, length};
 
 use search_looks::Looked;
 use test_cases::{
     case_at, count_field, field, line_at, number_field, print, print_if_not_zero, print_number,
-    print_refused, set_places,
+    print_refused, read_input, set_places,
 };
 
 // Prints the answer behind the case's name.
-fn print_looked(looked: Looked) {
+fn print_looked(rt: &impl Print, looked: Looked) {
     match looked {
         Looked::Figure(figure) => {
-            print(b" looks=");
-            print_number(figure);
-            print(b"\n");
+            print(rt, b" looks=");
+            print_number(rt, figure);
+            print(rt, b"\n");
         }
-        Looked::Refused(row) => print_refused(row),
+        Looked::Refused(row) => print_refused(rt, row),
     }
 }
 
 // The call of a case on what it is lent.
-fn run<'a>(line: &[u8], cohort: &'a [u8], clip: &[u8], reference: &'a [u8], scratch: &mut [u64]) {
+fn run<'a>(
+    rt: &impl Print,
+    line: &[u8],
+    cohort: &'a [u8],
+    clip: &[u8],
+    reference: &'a [u8],
+    scratch: &mut [u64],
+) {
     set_places(scratch);
     let given = number_field(line, 3);
     let looked = search_looks::looks(
@@ -39,20 +48,21 @@ fn run<'a>(line: &[u8], cohort: &'a [u8], clip: &[u8], reference: &'a [u8], scra
         field(line, 5),
         scratch,
     );
-    print_looked(looked);
-    print_if_not_zero(scratch);
+    print_looked(rt, looked);
+    print_if_not_zero(rt, scratch);
 }
 
 // The case at an offset; the answer is where the next one begins.
-fn run_case(input: &[u8], at: usize, scratch: &mut [u64]) -> usize
+fn run_case(rt: &impl Print, input: &[u8], at: usize, scratch: &mut [u64]) -> usize
     requires { at < length input.now }
     ensures { at < result }
 {
     let case = case_at(input, at);
     let line = line_at(input, at);
     let places = count_field(line, 4, scratch.len());
-    print(field(line, 6));
+    print(rt, field(line, 6));
     run(
+        rt,
         line,
         tables::part(input, case.first, case.second),
         tables::part(input, case.second, case.third),
@@ -62,16 +72,16 @@ fn run_case(input: &[u8], at: usize, scratch: &mut [u64]) -> usize
     case.next
 }
 
-fn run_cases(input: &[u8], scratch: &mut [u64]) {
+fn run_cases(rt: &impl Print, input: &[u8], scratch: &mut [u64]) {
     let mut at = 0;
     while at < input.len() {
-        at = run_case(input, at, scratch);
+        at = run_case(rt, input, at, scratch);
     }
 }
 
-fn main() {
+fn main(rt: HostRuntime) {
     let mut input = [0u8; 262144];
     let mut scratch = [0u64; 8192];
-    let count = io::read_full(0, &mut input);
-    run_cases(tables::part(&input, 0, count), &mut scratch);
+    let count = read_input(&rt, &mut input);
+    run_cases(&rt, tables::part(&input, 0, count), &mut scratch);
 }

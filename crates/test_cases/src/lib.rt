@@ -2,11 +2,42 @@
 //
 // A case is a line of fields with a space between. In most programs three texts stand behind its LF, and the first three fields say how many
 // bytes they have. Every offset is taken; past the end of the input there is nothing.
+#![tactic(auto)]
+
 ghost use Rattle.std.specs.Prelude.{◌≡◌, ◌+◌, ◌≤◌, min, length};
 
 use answers::Outcome;
 use kv_text::{FieldAt, NumberRead};
-use libc::STDOUT_FILENO;
+use std::io::Read;
+
+// ---- the cases
+
+// One read behind the bytes that are there; no byte if it fails.
+fn read_behind(reader: &mut impl Read, buffer: &mut [u8], count: usize) -> usize
+    requires { count ≤ length buffer.old }
+    ensures { count + result ≤ length buffer.old }
+{
+    match reader.read(&mut buffer[count..]) {
+        Ok(more) => more,
+        Err(_) => 0,
+    }
+}
+
+// Reads standard input until the buffer is full, the input ends or a read fails. The answer is how many bytes it has put at the start.
+pub fn read_input(rt: &impl Input, buffer: &mut [u8]) -> usize
+    ensures { result ≤ length buffer.old }
+{
+    let mut reader = rt.reader();
+    let mut count = 0;
+    while count < buffer.len() {
+        let more = read_behind(&mut reader, buffer, count);
+        if more == 0 {
+            return count;
+        }
+        count += more;
+    }
+    count
+}
 
 // ---- a case
 
@@ -109,33 +140,34 @@ pub fn case_at(s: &[u8], at: usize) -> Case
 
 // ---- what is printed
 
-pub fn print(bytes: &[u8]) {
-    io::write_all(STDOUT_FILENO, bytes);
+// What can't be written is let be.
+pub fn print(rt: &impl Print, bytes: &[u8]) {
+    let _ = rt.write_all(bytes);
 }
 
-pub fn print_number(n: usize) {
-    io::print_decimal(STDOUT_FILENO, n as u64);
+pub fn print_number(rt: &impl Print, n: usize) {
+    let _ = rt.print(n);
 }
 
 // The end of a line that tells of a refusal.
-pub fn print_refused(row: usize) {
-    print(b" refused=");
-    print_number(row);
-    print(b"\n");
+pub fn print_refused(rt: &impl Print, row: usize) {
+    print(rt, b" refused=");
+    print_number(rt, row);
+    print(rt, b"\n");
 }
 
 // Prints the answer behind the case's name. The answer is how many bytes the list has.
-pub fn print_outcome(outcome: Outcome, out: &[u8]) -> usize {
+pub fn print_outcome(rt: &impl Print, outcome: Outcome, out: &[u8]) -> usize {
     match outcome {
         Outcome::Written(count) => {
-            print(b" written=");
-            print_number(count);
-            print(b"\n");
-            print(tables::part(out, 0, count));
+            print(rt, b" written=");
+            print_number(rt, count);
+            print(rt, b"\n");
+            print(rt, tables::part(out, 0, count));
             count
         }
         Outcome::Refused(row) => {
-            print_refused(row);
+            print_refused(rt, row);
             0
         }
     }
@@ -161,9 +193,9 @@ fn is_set(bytes: &[u8]) -> bool {
 }
 
 // Prints a line if the output behind a list of so many bytes is not as it was set.
-pub fn print_if_changed(out: &[u8], count: usize) {
+pub fn print_if_changed(rt: &impl Print, out: &[u8], count: usize) {
     if !is_set(tables::part(out, count, out.len())) {
-        print(b"the output has changed behind the list\n");
+        print(rt, b"the output has changed behind the list\n");
     }
 }
 
@@ -186,8 +218,8 @@ fn is_zero(scratch: &[u64]) -> bool {
 }
 
 // Prints a line if scratch is not zero.
-pub fn print_if_not_zero(scratch: &[u64]) {
+pub fn print_if_not_zero(rt: &impl Print, scratch: &[u64]) {
     if !is_zero(scratch) {
-        print(b"scratch is not zero\n");
+        print(rt, b"scratch is not zero\n");
     }
 }

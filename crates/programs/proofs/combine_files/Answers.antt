@@ -15,4 +15,4 @@ returns c = let args = c.args in
     files_combined args.of_cohort args.of_clip args.of_reference args.cohort.now args.clip.now args.reference.now
     (sym c.any_too_long.ensures ∙ c.if-any_too_long.false) c.text.ensures
     c.is_text.ensures c.text-2.ensures c.is_text-2.ensures c.text-3.ensures
-    (omega (arith, c.combine-arg-1.given)) (omega (arith, c.combine-arg-2-1.given)) c.combine.ensures
+    (omega arith) (omega arith) c.combine.ensures

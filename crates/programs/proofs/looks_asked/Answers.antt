@@ -16,4 +16,4 @@ returns c = let args = c.args in
     asked_looked args.of_cohort args.of_clip args.of_reference args.cohort.now args.clip.now args.reference.now
     c.requires ((rw c.in-At.is at c.asked_contig-name.ensures) ∙ ap accepted (sym c.part.ensures))
     c.text.ensures c.is_text-clipped.ensures c.text-2.ensures
-    c.is_text-referenced.ensures c.text-3.ensures (omega (arith, c.looks-arg-1.given)) c.looks.ensures
+    c.is_text-referenced.ensures c.text-3.ensures (omega arith) c.looks.ensures

@@ -5,9 +5,10 @@ use borrow.Author.Rules.{rules}
 use Rattle.programs.proofs.put_looked.Goals as goal
 
 pub returns-in-Figure : goal.returns-in-Figure
-returns-in-Figure c = let figure = c.looked-1.given in
-    rw figure.1 (laid_printed (omega (arith, figure_short figure.0.0 (omega arith))) c.put_figure.ensures)
+returns-in-Figure c =
+    rw c.in-Figure.is (laid_printed (omega (arith, figure_short c.in-Figure.figure (omega arith))) c.put_figure.ensures)
 
 pub returns-in-Refused : goal.returns-in-Refused
-returns-in-Refused c = let row = c.looked-in-Refused-1.given in
-    rw (row.1, refusal_same row.0.0) (laid_printed (omega (arith, refusal_short row.0.0 (omega arith))) c.put_refusal.ensures)
+returns-in-Refused c =
+    rw (c.in-Refused.is, refusal_same c.in-Refused.number)
+    (laid_printed (omega (arith, refusal_short c.in-Refused.number (omega arith))) c.put_refusal.ensures)

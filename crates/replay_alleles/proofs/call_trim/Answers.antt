@@ -1,8 +1,0 @@
--- The room is within the output.
-use borrow.Author.Rules.{rules}
-use lib.ListN.{length-take}
-use native.Mathlib.Omega.{arith}
-use Rattle.replay_alleles.proofs.call_trim.Goals as goal
-
-pub slice_bounds-reverse_trim_alleles-end-2 : goal.slice_bounds-reverse_trim_alleles-end-2
-slice_bounds-reverse_trim_alleles-end-2 c = omega (arith, length-take c.count_field-room.result c.args.out.now, c.count_field-room.ensures)
