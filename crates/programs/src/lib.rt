@@ -3,7 +3,7 @@
 //
 // A file longer than 65,536 bytes is refused with 2. An absent cohort.kv, contig.kv or combined.kv is an empty text; an absent clip.kv or
 // reference.kv is not lent. A file that is there and can't be read gets a line on standard error, and nothing is printed. The exit
-// status is 0 all the same: a Rattle program has no other.
+// status is 0 all the same.
 #![tactic(auto)]
 
 ghost use Rattle.std.specs.Prelude.{◌≡◌, false};
