@@ -7,16 +7,17 @@ use mathlib.Core.Path.{◌≡◌, refl}
 use Rattle.definitions.specs.Answers.{output_after, written_of}
 use Rattle.definitions.specs.Checked.{Checked, accepted, refused, within}
 use Rattle.laws.proofs.Checked.{not_required, required}
-use Rattle.answers.specs.Answered.{Answered}
-use Rattle.answers.specs.declared.Outcome.TheVariants as outcome
+use Rattle.std.specs.Prelude.{Err, Ok}
+use Rattle.answers.specs.Answered.{Answered, row_of}
+use Rattle.answers.specs.declared.Refusal.{Refusal}
 
-pub answered_refused : {A : Type 0} {values : Checked (List A)} {out out' : List A} {row : ℕ} → values ≡ refused row → out' ≡ out
-    → Answered values out out' (outcome.Refused row)
+pub answered_refused : {A : Type 0} {values : Checked (List A)} {out out' : List A} {r : Refusal} → values ≡ refused (row_of r) → out' ≡ out
+    → Answered values out out' (Err r)
 unfolding output_after written_of
 answered_refused e same = rw e (record { answer = refl; output = same })
 
 pub answered_written : {A : Type 0} {values : Checked (List A)} {list out out' : List A} {n : ℕ} → values ≡ accepted list → n ≡ length list
-    → out' ≡ list ++ drop (length list) out → Answered values out out' (outcome.Written n)
+    → out' ≡ list ++ drop (length list) out → Answered values out out' (Ok n)
 unfolding output_after written_of
 answered_written e count same = rw e (record { answer = rw count; output = same })
 

@@ -7,17 +7,11 @@ use Rattle.definitions.specs.Bytes.{comma, fields_of, line_feed}
 use Rattle.definitions.specs.Lines.{lines_of, value_of}
 use Rattle.definitions.specs.Numbers.{number_list}
 use Rattle.kv_text.specs.Fields.{between, field_length, first_numbers}
-use Rattle.kv_text.specs.declared.ListAt.{ListAt}
-use Rattle.kv_text.specs.declared.ListAt.TheVariants as list
-use Rattle.kv_text.specs.declared.NumberAt.{NumberAt}
-use Rattle.kv_text.specs.declared.NumberAt.TheVariants as one
-use Rattle.kv_text.specs.declared.OptionalAt.{OptionalAt}
-use Rattle.kv_text.specs.declared.OptionalAt.TheVariants as optional
+use Rattle.answers.specs.Options.{option_of}
+use Rattle.kv_text.specs.declared.ListStart.{ListStart}
+use Rattle.kv_text.specs.declared.Part.{Part}
 use Rattle.kv_text.specs.declared.Reader.{Reader}
-use Rattle.kv_text.specs.declared.ValueAt.{ValueAt}
-use Rattle.kv_text.specs.declared.ValueAt.TheVariants as value
-use Rattle.kv_text.specs.declared.ValueStart.{ValueStart}
-use Rattle.kv_text.specs.declared.ValueStart.TheVariants as start
+use Rattle.std.specs.Prelude as std
 
 -- nothing, or what was read and where its LF stands
 pub data LineFound (A : Type 0) : Type 0 where
@@ -55,71 +49,73 @@ pub record Behind (s : List ℕ) (at₀ k at : ℕ) : Type 0 where
   pub lines : drop k (lines_of (drop at₀ s)) ≡ lines_of (drop at s)
   pub forward : at₀ ≤ at
 
--- the answers
-abbrev pub value_found : List ℕ → ValueAt → LineFound (List ℕ)
-value_found s (value.At a e) = read_to (between s a e) e
-value_found s value.Absent = unread
+-- what was read of a line, and where its LF stands
+abbrev pub found : {A : Type 0} → std.Option (A × ℕ) → LineFound A
+found (std.Some (a, e)) = read_to a e
+found std.None = unread
+
+-- the part of a text that stands up to a line's LF
+abbrev pub value_found : List ℕ → std.Option Part → LineFound (List ℕ)
+value_found s (std.Some part) = read_to (between s part.at part.end) part.end
+value_found s std.None = unread
 
 -- a value from a on, up to an LF at e, begins behind the key of the line at an offset
 pub record ValueStands (at : ℕ) (key : List ℕ) (a e : ℕ) : Type 0 where
   pub begins : a ≡ at + length key
   pub forward : a ≤ e
 
-abbrev pub Placed : ℕ → List ℕ → ValueAt → Type 0
-Placed at key (value.At a e) = ValueStands at key a e
-Placed at key value.Absent = Unit {0}
+abbrev pub Placed : ℕ → List ℕ → std.Option Part → Type 0
+Placed at key (std.Some part) = ValueStands at key part.at part.end
+Placed at key std.None = Unit {0}
 
 -- the value of the line at an offset, with this key
-abbrev pub ValueRead : List ℕ → ℕ → List ℕ → ValueAt → Type 0
+abbrev pub ValueRead : List ℕ → ℕ → List ℕ → std.Option Part → Type 0
 ValueRead s at key v = LineReads s at key some (value_found s v) × Placed at key v
 
 -- where a value stands that begins there, with its line's LF just before `next`
-abbrev pub value_before : ValueStart → ℕ → ValueAt
-value_before (start.At a) next = value.At a (next - 1)
-value_before start.Absent next = value.Absent
+abbrev pub value_before : std.Option ℕ → ℕ → std.Option Part
+value_before (std.Some a) next = std.Some (record { at = a; end = next - 1 })
+value_before std.None next = std.None
 
 -- there is an offset before `next`, if there is a value
-abbrev pub NextBehind : ValueStart → ℕ → Type 0
-NextBehind (start.At a) next = 0 < next
-NextBehind start.Absent next = Unit {0}
+abbrev pub NextBehind : std.Option ℕ → ℕ → Type 0
+NextBehind (std.Some a) next = 0 < next
+NextBehind std.None next = Unit {0}
 
 -- where the text goes on after the line at an offset: behind the LF, or where it was
-abbrev pub behind_line : ℕ → ValueAt → ℕ
-behind_line at (value.At a e) = e + 1
-behind_line at value.Absent = at
+abbrev pub behind_line : ℕ → std.Option Part → ℕ
+behind_line at (std.Some part) = part.end + 1
+behind_line at std.None = at
 
 -- a reader, moved there
-abbrev pub moved_behind : Reader → ValueAt → Reader
+abbrev pub moved_behind : Reader → std.Option Part → Reader
 moved_behind r v = record { text = r.text; at = behind_line r.at v }
 
-abbrev pub number_found : NumberAt → LineFound ℕ
-number_found (one.Found n e) = read_to n e
-number_found one.Wrong = unread
+-- a number that may be missing
+abbrev pub optional_found : std.Option (std.Option ℕ × ℕ) → LineFound (Option ℕ)
+optional_found (std.Some (n, e)) = read_to (option_of n) e
+optional_found std.None = unread
 
-abbrev pub optional_found : OptionalAt → LineFound (Option ℕ)
-optional_found (optional.Missing e) = read_to none e
-optional_found (optional.Found n e) = read_to (some n) e
-optional_found optional.Wrong = unread
-
-abbrev pub list_found : List ℕ → ListAt → LineFound (Option (List ℕ))
-list_found s (list.Missing e) = read_to none e
-list_found s (list.Found a e n) = read_to (some (first_numbers (fields_of comma (between s a e)))) e
-list_found s list.Wrong = unread
+-- a list of numbers that may be missing
+abbrev pub list_found : List ℕ → std.Option (std.Option ListStart × ℕ) → LineFound (Option (List ℕ))
+list_found s (std.Some (std.None, e)) = read_to none e
+list_found s (std.Some (std.Some list, e)) = read_to (some (first_numbers (fields_of comma (between s list.at e)))) e
+list_found s std.None = unread
 
 -- the list stands before its LF, reads, and has so many numbers
-abbrev pub list_count : List ℕ → ListAt → Type 0
-list_count s (list.Missing e) = Unit {0}
-list_count s (list.Found a e n) =
-    (a ≤ e) × (number_list (between s a e) ≡ some (first_numbers (fields_of comma (between s a e))))
-    × (n ≡ length (first_numbers (fields_of comma (between s a e))))
-list_count s list.Wrong = Unit {0}
+abbrev pub list_count : List ℕ → std.Option (std.Option ListStart × ℕ) → Type 0
+list_count s (std.Some (std.None, e)) = Unit {0}
+list_count s (std.Some (std.Some list, e)) =
+    (list.at ≤ e) × (number_list (between s list.at e) ≡ some (first_numbers (fields_of comma (between s list.at e))))
+    × (list.count ≡ length (first_numbers (fields_of comma (between s list.at e))))
+list_count s std.None = Unit {0}
 
 -- the numbers of the list in the line at an offset, up to the first field that spells none; none if no line has the key
 unfoldable pub line_numbers : List ℕ → ℕ → List ℕ → List ℕ
 line_numbers s at key = first_numbers (fields_of comma (Option.get_or (line_value s at key some) []))
 
 -- what a slice holds after the answer: the list's numbers at its front, as many as fit; of a list that does not read, those before the fault
-abbrev pub ListStored : List ℕ → ℕ → List ℕ → List ℕ → List ℕ → ListAt → Type 0
-ListStored s at key before after (list.Missing e) = after ≡ before
-ListStored s at key before after (list.Found a e n) = after ≡ sets before 0 (Option.get_or (number_list (between s a e)) [])
-ListStored s at key before after list.Wrong = after ≡ sets before 0 (line_numbers s at key)
+abbrev pub ListStored : List ℕ → ℕ → List ℕ → List ℕ → List ℕ → std.Option (std.Option ListStart × ℕ) → Type 0
+ListStored s at key before after (std.Some (std.None, e)) = after ≡ before
+ListStored s at key before after (std.Some (std.Some list, e)) = after ≡ sets before 0 (Option.get_or (number_list (between s list.at e)) [])
+ListStored s at key before after std.None = after ≡ sets before 0 (line_numbers s at key)

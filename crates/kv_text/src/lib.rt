@@ -1,121 +1,78 @@
 // Reading: fields, numbers, names, alleles and lines at an offset of a lent text. Every offset is taken; past the end there is nothing.
 #![tactic(auto)]
 
-ghost use Rattle.std.specs.Prelude.{◌≡◌, ◌+◌, eqb, drop, length, set, map};
+ghost use Rattle.std.specs.Prelude.{◌≡◌, ◌+◌, eqb, drop, length, map};
 ghost use Rattle.std.proofs.lemmas.List.Edits.{sets};
+ghost use Rattle.answers.specs.Options.{option_of, order_of};
 ghost use Rattle.definitions.specs.Alleles.{allele_of, capital, is_letter, letters_of};
 ghost use Rattle.definitions.specs.Bytes.{comma, compare_bytes, fields_of, same_bytes, strip_prefix};
 ghost use Rattle.definitions.specs.Lists.{is_there};
 ghost use Rattle.definitions.specs.Numbers.{is_digit, is_name_byte, name, number, number_list, or_missing};
-ghost use Rattle.kv_text.specs.Fields.{FieldFound, allele_read, digits_read, field_length, first_numbers, number_read, numbers_read, order_of};
-ghost use Rattle.kv_text.specs.Lines.{LineReads, ListStored, NextBehind, Placed, ValueRead, behind_line, list_count, list_found, moved_behind, number_found, optional_found, value_before, value_found};
+ghost use Rattle.kv_text.specs.Fields.{FieldFound, allele_read, digits_read, field_length, first_numbers, numbers_read};
+ghost use Rattle.kv_text.specs.Lines.{LineReads, ListStored, NextBehind, Placed, ValueRead, behind_line, found, list_count, list_found, moved_behind, optional_found, value_before, value_found};
+
+use slices::store;
+use std::cmp::Ordering;
 
 // ---- bytes
 
-// How two byte strings stand to each other in byte order.
-#[derive(Clone, Copy)]
-pub enum Order {
-    Less,
-    Same,
-    Greater,
-}
-
 // Byte order: by the first byte that differs; a prefix comes first.
-pub fn compare_bytes(a: &[u8], b: &[u8]) -> Order
+pub fn compare_bytes(a: &[u8], b: &[u8]) -> Ordering
     ensures { order_of result ≡ compare_bytes a.now b.now }
 {
-    let mut i = 0;
-    while i < a.len() {
-        if b.len() <= i {
-            return Order::Greater;
-        }
-        if a[i] < b[i] {
-            return Order::Less;
-        }
-        if b[i] < a[i] {
-            return Order::Greater;
-        }
-        i += 1;
-    }
-    if i < b.len() {
-        return Order::Less;
-    }
-    Order::Same
+    a.cmp(b)
 }
 
 // The same bytes: as many, and each the same.
 pub fn same_bytes(a: &[u8], b: &[u8]) -> bool
     ensures { result ≡ same_bytes a.now b.now }
 {
-    if a.len() != b.len() {
-        return false;
-    }
-    let mut i = 0;
-    while i < a.len() {
-        if a[i] != b[i] {
-            return false;
-        }
-        i += 1;
-    }
-    true
+    a == b
 }
 
 // Whether a text begins with a key.
 fn has_key(line: &[u8], key: &[u8]) -> bool
     ensures { result ≡ is_there (strip_prefix key.now line.now) }
 {
-    let mut i = 0;
-    while i < key.len() {
-        if line.len() <= i {
-            return false;
-        }
-        if key[i] != line[i] {
-            return false;
-        }
-        i += 1;
-    }
-    true
+    line.starts_with(key)
 }
 
 // ---- fields
+
+// A part of a text: from an offset to just before another.
+#[derive(Clone, Copy)]
+pub struct Part {
+    pub at: usize,
+    pub end: usize,
+}
 
 // Where the field at an offset ends: the first separator there or after, or the end of the text.
 pub fn field_end(s: &[u8], at: usize, separator: u8) -> usize
     ensures { result ≡ at + field_length separator (drop at s.now) }
 {
-    let mut i = at;
-    while i < s.len() {
-        if s[i] == separator {
-            return i;
-        }
-        i += 1;
+    if s.len() <= at {
+        return at;
     }
-    i
-}
-
-// Where a field stands: from an offset to just before another.
-#[derive(Clone, Copy)]
-pub enum FieldAt {
-    At(usize, usize),
-    Absent,
+    match s[at..].iter().position(|b| *b == separator) {
+        Some(length) => at + length,
+        None => s.len(),
+    }
 }
 
 // The field with this number, from 0, of a text.
-pub fn field_at(s: &[u8], separator: u8, number: usize) -> FieldAt
+pub fn field_at(s: &[u8], separator: u8, number: usize) -> Option<Part>
     ensures { FieldFound s.now separator number result }
 {
-    let mut left = number;
     let mut at = 0;
     let mut end = field_end(s, 0, separator);
-    while 0 < left {
+    for _ in 0..number {
         if s.len() <= end {
-            return FieldAt::Absent;
+            return None;
         }
         at = end + 1;
         end = field_end(s, at, separator);
-        left -= 1;
     }
-    FieldAt::At(at, end)
+    Some(Part { at, end })
 }
 
 // How many fields a text has: one more than separators.
@@ -155,102 +112,64 @@ fn is_field_end(s: &[u8], at: usize) -> bool
     s[at] == b','
 }
 
-// What the field at an offset of a list spells: a number, and where the field ends.
-#[derive(Clone, Copy)]
-enum DigitsAt {
-    Found(u32, usize),
-    Fault,
-}
-
-// The number in the field at an offset of a list: decimal digits, 0 to 2147483647, with no leading zero.
-fn read_digits(s: &[u8], at: usize) -> DigitsAt
+// The number in the field at an offset of a list, and where the field ends: decimal digits, 0 to 2147483647, with no leading zero.
+fn read_digits(s: &[u8], at: usize) -> Option<(u32, usize)>
     ensures { digits_read result s.now at }
 {
     if s.len() <= at {
-        return DigitsAt::Fault;
+        return None;
     }
     let first = s[at];
     if !is_digit(first) {
-        return DigitsAt::Fault;
+        return None;
     }
-    let mut i = at + 1;
     if first == b'0' {
-        if is_field_end(s, i) {
-            return DigitsAt::Found(0, i);
+        if is_field_end(s, at + 1) {
+            return Some((0, at + 1));
         }
-        return DigitsAt::Fault;
+        return None;
     }
     let mut n = wide(first - 48);
-    while i < s.len() {
+    for i in at + 1..s.len() {
         let b = s[i];
         if !is_digit(b) {
             if b == b',' {
-                return DigitsAt::Found(n as u32, i);
+                return Some((n as u32, i));
             }
-            return DigitsAt::Fault;
+            return None;
         }
         let v = n * 10 + wide(b - 48);
         if 2147483647 < v {
-            return DigitsAt::Fault;
+            return None;
         }
         n = v;
-        i += 1;
     }
-    DigitsAt::Found(n as u32, i)
-}
-
-// What a field spells as a number.
-#[derive(Clone, Copy)]
-pub enum NumberRead {
-    Value(u32),
-    Fault,
+    Some((n as u32, s.len()))
 }
 
 // A number, where it is the whole text.
-pub fn read_number(s: &[u8]) -> NumberRead
-    ensures { number_read result ≡ number s.now }
+pub fn read_number(s: &[u8]) -> Option<u32>
+    ensures { option_of result ≡ number s.now }
 {
-    let digits = read_digits(s, 0);
-    let DigitsAt::Found(n, end) = digits else {
-        return NumberRead::Fault;
-    };
+    let (n, end) = read_digits(s, 0)?;
     if end < s.len() {
-        return NumberRead::Fault;
+        return None;
     }
-    NumberRead::Value(n)
+    Some(n)
 }
 
-// What a field spells as a list of numbers.
-#[derive(Clone, Copy)]
-pub enum NumbersRead {
-    Count(usize),
-    Fault,
-}
-
-// Stores a number at a place, if there is one.
-pub fn store(out: &mut [u32], place: usize, n: u32)
-    ensures { out.new ≡ set out.old place n }
-{
-    if place < out.len() {
-        out[place] = n;
-    }
-}
-
-// The numbers of a list with commas, as many as fit, into a slice; at a fault, those before it.
-pub fn read_numbers(s: &[u8], out: &mut [u32]) -> NumbersRead
+// The numbers of a list with commas, as many as fit, into a slice, and how many they are; at a fault, those before it.
+pub fn read_numbers(s: &[u8], out: &mut [u32]) -> Option<usize>
     ensures { numbers_read result s.now × (out.new ≡ sets out.old 0 (first_numbers (fields_of comma s.now))) }
 {
     let mut at = 0;
     let mut count = 0;
     loop {
-        let digits = read_digits(s, at);
-        let DigitsAt::Found(v, end) = digits else {
-            return NumbersRead::Fault;
-        };
-        store(out, count, v);
+        let (n, end) = read_digits(s, at)?;
+        store(out, count, n);
         count += 1;
         if s.len() <= end {
-            return NumbersRead::Count(count);
+            return Some(count);
         }
         at = end + 1;
     }
@@ -283,12 +202,7 @@ pub fn is_name(s: &[u8]) -> bool
     if 32 < s.len() {
         return false;
     }
-    for i in 0..s.len() {
-        if !is_name_byte(s[i]) {
-            return false;
-        }
-    }
-    true
+    s.iter().all(|b| is_name_byte(*b))
 }
 
 // Whether a byte is one of ACGTN, in either case.
@@ -349,59 +263,39 @@ pub fn is_letters(s: &[u8], most: usize) -> bool
     if most < s.len() {
         return false;
     }
-    for i in 0..s.len() {
-        if !is_letter(s[i]) {
-            return false;
-        }
-    }
-    true
+    s.iter().all(|b| is_letter(*b))
 }
 
-// What a field spells as an ALT.
+// The three kinds of allele that a field may spell as an ALT.
 #[derive(Clone, Copy)]
-pub enum AlleleRead {
+pub enum AlleleKind {
     Letters,
     SpanDel,
     NonRef,
-    Fault,
 }
 
 // An ALT: letters, `*` or `<NON_REF>`.
-pub fn read_allele(s: &[u8], most: usize) -> AlleleRead
+pub fn read_allele(s: &[u8], most: usize) -> Option<AlleleKind>
     ensures { allele_read result s.now ≡ allele_of most s.now }
 {
     if same_bytes(s, b"*") {
-        return AlleleRead::SpanDel;
+        return Some(AlleleKind::SpanDel);
     }
     if same_bytes(s, b"<NON_REF>") {
-        return AlleleRead::NonRef;
+        return Some(AlleleKind::NonRef);
     }
     if is_letters(s, most) {
-        return AlleleRead::Letters;
+        return Some(AlleleKind::Letters);
     }
-    AlleleRead::Fault
+    None
 }
 
 // ---- lines
 
-// Where the value of a line stands, from an offset to the line's LF.
-#[derive(Clone, Copy)]
-pub enum ValueAt {
-    At(usize, usize),
-    Absent,
-}
-
-// Where the value of a line begins.
-#[derive(Clone, Copy)]
-pub enum ValueStart {
-    At(usize),
-    Absent,
-}
-
 // What reading a line gives: where its value begins, and where the text goes on.
 #[derive(Clone, Copy)]
 struct LineRead {
-    value: ValueStart,
+    value: Option<usize>,
     next: usize,
 }
 
@@ -412,31 +306,29 @@ fn value_at(s: &[u8], at: usize, key: &[u8]) -> LineRead
     let end = field_end(s, at, b'\n');
     if end >= s.len() {
         return LineRead {
-            value: ValueStart::Absent,
+            value: None,
             next: at,
         };
     }
     if !has_key(&s[at..end], key) {
         return LineRead {
-            value: ValueStart::Absent,
+            value: None,
             next: at,
         };
     }
     LineRead {
-        value: ValueStart::At(at + key.len()),
+        value: Some(at + key.len()),
         next: end + 1,
     }
 }
 
-// Where a value stands, whose line has its LF just before an offset.
-fn value_before(value: ValueStart, next: usize) -> ValueAt
+// Where a value stands, from an offset to the line's LF, which stands just before another offset.
+fn value_before(value: Option<usize>, next: usize) -> Option<Part>
     requires { NextBehind value next }
     ensures { result ≡ value_before value next }
 {
-    match value {
-        ValueStart::At(a) => ValueAt::At(a, next - 1),
-        ValueStart::Absent => ValueAt::Absent,
-    }
+    let at = value?;
+    Some(Part { at, end: next - 1 })
 }
 
 // A lent text and an offset of it, any offset: every line is read through one.
@@ -449,7 +341,7 @@ pub struct Reader<'a> {
 // Where the value of a line begins, and the reader, moved behind the line's LF; without a value it stays where it stood.
 #[derive(Clone, Copy)]
 pub struct NextValue<'a> {
-    pub value: ValueStart,
+    pub value: Option<usize>,
     pub reader: Reader<'a>,
 }
 
@@ -484,97 +376,69 @@ impl<'a> Reader<'a> {
 }
 
 // The same for a text and an offset: the value of the line there. Its LF stands just before the reader that comes back.
-pub fn value_line(s: &[u8], at: usize, key: &[u8]) -> ValueAt
+pub fn value_line(s: &[u8], at: usize, key: &[u8]) -> Option<Part>
     ensures { ValueRead s.now at key.now result }
 {
     let read = Reader::new(s, at).next_value(key);
     value_before(read.value, read.reader.offset())
 }
 
-// A number, and where its line ends.
-#[derive(Clone, Copy)]
-pub enum NumberAt {
-    Found(u32, usize),
-    Wrong,
-}
-
-// The number in the line at an offset.
-pub fn number_line(s: &[u8], at: usize, key: &[u8]) -> NumberAt
-    ensures { LineReads s.now at key.now number (number_found result) }
+// The number in the line at an offset, and where the line ends.
+pub fn number_line(s: &[u8], at: usize, key: &[u8]) -> Option<(u32, usize)>
+    ensures { LineReads s.now at key.now number (found result) }
 {
-    let v = value_line(s, at, key);
-    let ValueAt::At(a, e) = v else {
-        return NumberAt::Wrong;
-    };
-    let n = read_number(&s[a..e]);
-    match n {
-        NumberRead::Value(n) => NumberAt::Found(n, e),
-        NumberRead::Fault => NumberAt::Wrong,
-    }
+    let value = value_line(s, at, key)?;
+    let n = read_number(&s[value.at..value.end])?;
+    Some((n, value.end))
 }
 
-// The name in the line at an offset.
-pub fn name_line(s: &[u8], at: usize, key: &[u8]) -> ValueAt
+// Where the name in the line at an offset stands, up to the line's LF.
+pub fn name_line(s: &[u8], at: usize, key: &[u8]) -> Option<Part>
     ensures { LineReads s.now at key.now name (value_found s.now result) × Placed at key.now result }
 {
-    let v = value_line(s, at, key);
-    let ValueAt::At(a, e) = v else {
-        return ValueAt::Absent;
-    };
-    if is_name(&s[a..e]) {
-        return ValueAt::At(a, e);
+    let value = value_line(s, at, key)?;
+    if !is_name(&s[value.at..value.end]) {
+        return None;
     }
-    ValueAt::Absent
+    Some(value)
 }
 
-// A number that may be missing, and where its line ends.
-#[derive(Clone, Copy)]
-pub enum OptionalAt {
-    Missing(usize),
-    Found(u32, usize),
-    Wrong,
-}
-
-// The number, or `.`, in the line at an offset.
-pub fn optional_number_line(s: &[u8], at: usize, key: &[u8]) -> OptionalAt
+// The number, or `.`, in the line at an offset, and where the line ends.
+pub fn optional_number_line(s: &[u8], at: usize, key: &[u8]) -> Option<(Option<u32>, usize)>
     ensures { LineReads s.now at key.now (or_missing number) (optional_found result) }
 {
-    let v = value_line(s, at, key);
-    let ValueAt::At(a, e) = v else {
-        return OptionalAt::Wrong;
-    };
-    if same_bytes(&s[a..e], b".") {
-        return OptionalAt::Missing(e);
+    let value = value_line(s, at, key)?;
+    if same_bytes(&s[value.at..value.end], b".") {
+        return Some((None, value.end));
     }
-    let n = read_number(&s[a..e]);
-    match n {
-        NumberRead::Value(n) => OptionalAt::Found(n, e),
-        NumberRead::Fault => OptionalAt::Wrong,
-    }
+    let n = read_number(&s[value.at..value.end])?;
+    Some((Some(n), value.end))
 }
 
-// A list of numbers that may be missing: where it stands, to its line's LF, and how many numbers it has.
+// Where a list of numbers begins in a text, and how many numbers it has.
 #[derive(Clone, Copy)]
-pub enum ListAt {
-    Missing(usize),
-    Found(usize, usize, usize),
-    Wrong,
+pub struct ListStart {
+    pub at: usize,
+    pub count: usize,
 }
 
-// The list of numbers, or `.`, in the line at an offset; its numbers, as many as fit, into a slice.
-pub fn optional_numbers_line(s: &[u8], at: usize, key: &[u8], out: &mut [u32]) -> ListAt
+// The list of numbers, or `.`, in the line at an offset, and where the line ends; its numbers, as many as fit, into a slice.
+pub fn optional_numbers_line(
+    s: &[u8],
+    at: usize,
+    key: &[u8],
+    out: &mut [u32],
+) -> Option<(Option<ListStart>, usize)>
     ensures { LineReads s.now at key.now (or_missing number_list) (list_found s.now result) × list_count s.now result × ListStored s.now at key.now out.old out.new result }
 {
-    let v = value_line(s, at, key);
-    let ValueAt::At(a, e) = v else {
-        return ListAt::Wrong;
+    let value = value_line(s, at, key)?;
+    if same_bytes(&s[value.at..value.end], b".") {
+        return Some((None, value.end));
+    }
+    let count = read_numbers(&s[value.at..value.end], out)?;
+    let list = ListStart {
+        at: value.at,
+        count,
     };
-    if same_bytes(&s[a..e], b".") {
-        return ListAt::Missing(e);
-    }
-    let n = read_numbers(&s[a..e], out);
-    match n {
-        NumbersRead::Count(count) => ListAt::Found(a, e, count),
-        NumbersRead::Fault => ListAt::Wrong,
-    }
+    Some((Some(list), value.end))
 }

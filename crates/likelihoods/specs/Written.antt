@@ -2,15 +2,15 @@
 use Rattle.std.specs.Prelude.{◌<◌, ℕ, Float, pos, get_or, take, Bool, false, List}
 use Rattle.std.specs.Float.{fin, nan}
 use Rattle.std.specs.Float.Ieee.{le}
-use Rattle.answers.specs.declared.Outcome.{Outcome}
-use Rattle.answers.specs.declared.Outcome.TheVariants as outcome
+use Rattle.std.specs.Prelude.{Result, Ok, Err}
+use Rattle.answers.specs.declared.Refusal.{Refusal}
 use Rattle.definitions.specs.Likelihoods.{NearMinusTenth}
 use Rattle.definitions.specs.Lists.{all_of}
 
 -- how many values a call wrote: none if it is refused
-abbrev pub count_of : Outcome → ℕ
-count_of (outcome.Written n) = n
-count_of (outcome.Refused row) = 0
+abbrev pub count_of : Result ℕ Refusal → ℕ
+count_of (Ok n) = n
+count_of (Err r) = 0
 
 -- 0, or below it
 abbrev pub not_above : Float → Bool

@@ -10,7 +10,7 @@ ghost use Rattle.definitions.specs.Lists.{all_of};
 ghost use Rattle.answers.specs.Answered.{Answered};
 ghost use Rattle.likelihoods.specs.Written.{NearTenths, count_of};
 
-use answers::Outcome;
+use answers::Refusal;
 
 // The likelihood of a PL: minus a tenth of it, rounded once.
 pub fn log10_from_pl(pl: u32) -> f64
@@ -41,7 +41,7 @@ fn put_log10_from_pl(pl: &[u32], out: &mut [f64])
 }
 
 // The likelihoods of all PLs. Row 14 if the output is too short.
-pub fn log10_likelihoods_from_pl(pl: &[u32], out: &mut [f64]) -> Outcome
+pub fn log10_likelihoods_from_pl(pl: &[u32], out: &mut [f64]) -> Result<usize, Refusal>
     ensures answered { Answered
         (within (length out.old) (map log10_from_pl pl.now))
         out.old out.new result }
@@ -49,10 +49,10 @@ pub fn log10_likelihoods_from_pl(pl: &[u32], out: &mut [f64]) -> Outcome
 {
     let count = pl.len();
     if out.len() < count {
-        return Outcome::Refused(14);
+        return Err(Refusal::Output);
     }
     put_log10_from_pl(pl, out);
-    Outcome::Written(count)
+    Ok(count)
 }
 
 // The second if it is greater than the first, else the first.

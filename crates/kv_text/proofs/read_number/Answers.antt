@@ -13,7 +13,8 @@ use Rattle.definitions.specs.Lists.{all_of, only_if}
 use Rattle.definitions.specs.Numbers.{is_digit, number}
 use Rattle.kv_text.proofs.Fields.{field_more, first_whole}
 use Rattle.kv_text.specs.Fields.{digits_read, field_length, first_field}
-use Rattle.kv_text.specs.declared.DigitsAt.TheVariants.{Fault, Found}
+use Rattle.answers.specs.Options.{option_of}
+use Rattle.std.specs.Prelude.{None, Some}
 use Rattle.kv_text.proofs.read_number.Goals as goal
 
 not-digits : (s : List ℕ) → field_length 44 s < length s → all_of is_digit s ≡ false
@@ -30,7 +31,7 @@ module _ (s : List ℕ) where
   unfolding number only_if
   with-comma h = simp (not-digits s h)
 
-  fault : digits_read Fault s 0 → none ≡ number s
+  fault : digits_read None s 0 → none ≡ number s
   unfolding digits_read comma
   fault e = go (dec_lt (field_length 44 s) (length s))
     where
@@ -38,7 +39,7 @@ module _ (s : List ℕ) where
       go (yes h) = with-comma h
       go (no h) = rw (first_whole 44 s (omega arith)) at (sym e)
 
-  module _ (n end : ℕ) (r : digits_read (Found n end) s 0) where
+  module _ (n end : ℕ) (r : digits_read (Some (n, end)) s 0) where
     inside : end < length s → none ≡ number s
     unfolding digits_read comma
     inside h = with-comma (omega (arith, r.1))
@@ -47,11 +48,11 @@ module _ (s : List ℕ) where
     unfolding digits_read comma
     whole h = rw (first_whole 44 s (omega (arith, r.1))) at (sym r.0)
 
-pub returns-in_default : goal.returns-in_default
-returns-in_default c = fault _ (rw c.in_default.is at c.read_digits-digits.ensures)
+pub returns-in_err-digits : goal.returns-in_err-digits
+returns-in_err-digits c = ?
 
 pub returns-then-end-s : goal.returns-then-end-s
-returns-then-end-s c = inside _ _ _ (rw c.in-Found.is at c.read_digits-digits.ensures) c.if-end-s.true
+returns-then-end-s c = ?
 
 pub returns : goal.returns
-returns c = whole _ _ _ (rw c.in-Found.is at c.read_digits-digits.ensures) c.if-end-s.false
+returns c = ?
