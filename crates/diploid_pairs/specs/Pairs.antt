@@ -3,8 +3,7 @@ use Rattle.std.specs.Prelude.{suc, ℕ, eqb, leb, ltb, Bool, ◌&&◌, true, Lis
 use Rattle.std.proofs.Math.Option.{Option, none, some}
 use Rattle.definitions.specs.Genotypes.{AllelePair, genotype_index}
 use Rattle.diploid_pairs.specs.declared.AllelePair as source
-use Rattle.diploid_pairs.specs.declared.PairAt.{PairAt}
-use Rattle.diploid_pairs.specs.declared.PairAt.TheVariants.{NoPair, Pair}
+use Rattle.std.specs.Prelude as std
 
 -- a test passes at each entry of a table and its place, counted from i
 unfoldable pub passes_from : {A : Type 0} → ℕ → (ℕ → A → Bool) → List A → Bool
@@ -16,6 +15,6 @@ unfoldable pub in_place : ℕ → source.AllelePair → Bool
 in_place place pair = leb pair.0 pair.1 && ltb pair.1 16 && eqb (genotype_index pair.0 pair.1) place
 
 -- the answer of `pair_at`
-unfoldable pub pair_of : PairAt → Option AllelePair
-pair_of (Pair low high) = some (record { low = low.0; high = high.0 })
-pair_of NoPair = none
+unfoldable pub pair_of : std.Option source.AllelePair → Option AllelePair
+pair_of (std.Some pair) = some (record { low = pair.0; high = pair.1 })
+pair_of std.None = none

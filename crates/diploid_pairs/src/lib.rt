@@ -12,6 +12,20 @@ use bio_ids::AlleleIndex;
 #[derive(Clone, Copy)]
 pub struct AllelePair(pub u8, pub u8);
 
+impl AllelePair {
+    pub fn low(self) -> AlleleIndex
+        ensures { result.0 ≡ self.0 }
+    {
+        AlleleIndex::new(self.0)
+    }
+
+    pub fn high(self) -> AlleleIndex
+        ensures { result.0 ≡ self.1 }
+    {
+        AlleleIndex::new(self.1)
+    }
+}
+
 // The pairs of 16 alleles, by place.
 const PAIRS: [AllelePair; 136] = [
     AllelePair(0, 0),
@@ -159,26 +173,11 @@ pub fn table() -> [AllelePair; 136]
     PAIRS
 }
 
-// What stands at a place.
-#[derive(Clone, Copy)]
-pub enum PairAt {
-    // The lower and the higher allele.
-    Pair(AlleleIndex, AlleleIndex),
-    // The place is 136 or more.
-    NoPair,
-}
-
 // The pair at a place. The pairs of fewer than 16 alleles stand at the same places.
-pub fn pair_at(place: usize) -> PairAt
+pub fn pair_at(place: usize) -> Option<AllelePair>
     ensures { pair_of result ≡ get_elem? (genotype_pairs 16) place }
 {
-    if place < 136 {
-        let pairs = table();
-        let pair = pairs[place];
-        PairAt::Pair(AlleleIndex::new(pair.0), AlleleIndex::new(pair.1))
-    } else {
-        PairAt::NoPair
-    }
+    table().get(place).copied()
 }
 
 // The place of two alleles, in either order.

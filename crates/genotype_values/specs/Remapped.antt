@@ -1,18 +1,10 @@
 -- What the functions that remap values promise.
 use Rattle.std.specs.Prelude.{suc, ℕ, leb, get_or, length, cond, List, [], ◌∷◌, map, ◌≡◌}
 use Rattle.std.proofs.lemmas.List.Edits.{sets}
-use Rattle.std.proofs.Math.Option.{Option, none, some}
 use Rattle.definitions.specs.Alleles.{genotype_count}
 use Rattle.definitions.specs.Genotypes.{remapped_pl}
 use Rattle.definitions.specs.Lists.{numbers_from}
 use Rattle.genotype_values.specs.Values.{mapped_place}
-use Rattle.genotype_values.specs.declared.MappedAt.{MappedAt}
-use Rattle.genotype_values.specs.declared.MappedAt.TheVariants.{At, NoPair}
-
--- the answer of `genotype_index_map_diploid`
-unfoldable pub place_of : MappedAt → Option ℕ
-place_of (At place) = some place
-place_of NoPair = none
 
 -- PL of the pairs whose higher allele is `high`, by the lower one; that PL is these rows one behind the other is `pl_by_rows` of proofs/Rows.antt
 unfoldable pub pl_row : List ℕ → List ℕ → ℕ → List ℕ

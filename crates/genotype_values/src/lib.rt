@@ -3,51 +3,29 @@
 #![tactic(auto)]
 
 ghost use Rattle.std.proofs.Math.Option;
-ghost use Rattle.std.specs.Prelude.{◌≡◌, ◌+◌, ◌-◌, ◌<◌, ◌≤◌, ◌^◌, min, get_or, length, set};
+ghost use Rattle.std.specs.Prelude.{◌≡◌, ◌+◌, ◌<◌, ◌≤◌, ◌^◌, get_or, length};
 ghost use Rattle.std.proofs.Math.ListN.{get_elem?};
 ghost use Rattle.std.proofs.lemmas.List.Edits.{sets};
+ghost use Rattle.answers.specs.Options.{option_of};
 ghost use Rattle.definitions.specs.Genotypes.{genotype_index_any, genotype_pairs, missing_data, remapped_ad, remapped_pl};
 ghost use Rattle.definitions.specs.Printed.{printed_sample_data, written_genotype};
 ghost use Rattle.definitions.specs.Lines.{line};
 ghost use Rattle.definitions.specs.Numbers.{written_or_missing};
 ghost use Rattle.diploid_pairs.specs.Pairs.{pair_of};
 ghost use Rattle.kv_write.specs.Laid.{Laid};
-ghost use Rattle.kv_write.specs.Optional.{option_of};
-ghost use Rattle.genotype_values.specs.Remapped.{Filled, PlRemapped, of_present, place_of, pl_row};
+ghost use Rattle.genotype_values.specs.Remapped.{Filled, PlRemapped, of_present, pl_row};
 ghost use Rattle.genotype_values.specs.Values.{Printable, genotype_line, least_pair, least_place, mapped_place, present, said_of, values_of};
 
 use bio_ids::AlleleIndex;
-use diploid_pairs::PairAt;
-use kv_write::OptionalNumber;
-
-// The value at a place; 0 if there is none.
-pub fn value_at(values: &[u32], place: usize) -> u32
-    ensures { result ≡ get_or values.now place 0 }
-{
-    if place < values.len() {
-        values[place]
-    } else {
-        0
-    }
-}
-
-// Stores a value, if there is room at the place.
-pub fn put_value(out: &mut [u32], place: usize, x: u32)
-    ensures { out.new ≡ set out.old place x }
-{
-    if place < out.len() {
-        out[place] = x;
-    }
-}
+use diploid_pairs::AllelePair;
 
 // AD over the record's alleles, as far as it fits; an absent entry counts 0.
 pub fn remap_ad(map: &[u8], ad: &[u32], out: &mut [u32])
     ensures { out.new ≡ sets out.old 0 (remapped_ad map.now ad.now) }
 {
-    for i in 0..map.len() {
-        let a = map[i];
-        let x = value_at(ad, AlleleIndex::new(a).get());
-        put_value(out, i, x);
+    for (i, a) in map.iter().enumerate() {
+        let own = AlleleIndex::new(*a);
+        slices::store(out, i, slices::value_or(ad, own.get(), 0));
     }
 }
 
@@ -55,20 +33,7 @@ pub fn remap_ad(map: &[u8], ad: &[u32], out: &mut [u32])
 fn mapped_allele(map: &[u8], allele: AlleleIndex) -> AlleleIndex
     ensures { result.0 ≡ get_or map.now allele.0 0 }
 {
-    let i = allele.get();
-    if i < map.len() {
-        AlleleIndex::new(map[i])
-    } else {
-        AlleleIndex::reference()
-    }
-}
-
-// Where a pair of the record's alleles stands in the sample's PL.
-#[derive(Clone, Copy)]
-pub enum MappedAt {
-    At(usize),
-    // The record's PL has no such place: it is 136 or more.
-    NoPair,
+    AlleleIndex::new(slices::value_or(map, allele.get(), 0))
 }
 
 // The place in the sample's PL of a pair of the record's alleles.
@@ -80,14 +45,12 @@ fn mapped_place(map: &[u8], low: AlleleIndex, high: AlleleIndex) -> usize
     diploid_pairs::place_of(a, b)
 }
 
-// The place in the sample's PL of the pair at a place of the record's.
-pub fn genotype_index_map_diploid(map: &[u8], place: usize) -> MappedAt
-    ensures { place_of result ≡ Option.map (mapped_place map.now) (get_elem? (genotype_pairs 16) place) }
+// The place in the sample's PL of the pair at a place of the record's; none if that is 136 or more.
+pub fn genotype_index_map_diploid(map: &[u8], place: usize) -> Option<usize>
+    ensures { option_of result ≡ Option.map (mapped_place map.now) (get_elem? (genotype_pairs 16) place) }
 {
-    match diploid_pairs::pair_at(place) {
-        PairAt::Pair(low, high) => MappedAt::At(mapped_place(map, low, high)),
-        PairAt::NoPair => MappedAt::NoPair,
-    }
+    let pair = diploid_pairs::pair_at(place)?;
+    Some(mapped_place(map, pair.low(), pair.high()))
 }
 
 // The place of two alleles, in either order, in the sample's PL; `row` is that of REF and the second.
@@ -103,17 +66,6 @@ fn place_in_row(first: AlleleIndex, second: AlleleIndex, row: usize) -> usize
     }
 }
 
-// How many of `count` values have room from a place on.
-fn room_for(count: usize, at: usize, len: usize) -> usize
-    ensures { result ≡ min count (len - at) }
-{
-    if len <= at {
-        return 0;
-    }
-    let room = len - at;
-    if count <= room { count } else { room }
-}
-
 // Lays the PLs of the record's pairs whose higher allele is `high`, by the lower, as far as they fit.
 fn remap_pl_row(map: &[u8], pl: &[u32], high: AlleleIndex, out: &mut [u32], at: usize)
     requires { high.0 < length map.now }
@@ -122,11 +74,10 @@ fn remap_pl_row(map: &[u8], pl: &[u32], high: AlleleIndex, out: &mut [u32], at: 
     let last = high.get();
     let b = AlleleIndex::new(map[last]);
     let row = diploid_pairs::place_of(AlleleIndex::reference(), b);
-    let room = room_for(last + 1, at, out.len());
-    for low in 0..room {
-        let a = AlleleIndex::new(map[low]);
-        let x = value_at(pl, place_in_row(a, b, row));
-        out[at + low] = x;
+    let room = (last + 1).min(out.len().saturating_sub(at));
+    for (low, own) in map[..room].iter().enumerate() {
+        let a = AlleleIndex::new(*own);
+        out[at + low] = slices::value_or(pl, place_in_row(a, b, row), 0);
     }
 }
 
@@ -152,23 +103,22 @@ fn least_place(pl: &[u32]) -> usize
     ensures { result ≡ least_place pl.now }
 {
     let mut best = 0;
-    let mut least = value_at(pl, 0);
-    for i in 1..pl.len() {
-        let x = pl[i];
-        if x < least {
+    let mut least = slices::value_or(pl, 0, 0);
+    for (i, x) in pl.iter().enumerate() {
+        if *x < least {
             best = i;
-            least = x;
+            least = *x;
         }
     }
     best
 }
 
 // GT: the first pair with the least PL; none if there is no PL, or if that pair is not one of 16 alleles.
-pub fn best_diploid_gt_from_pl(pl: &[u32]) -> PairAt
+pub fn best_diploid_gt_from_pl(pl: &[u32]) -> Option<AllelePair>
     ensures { pair_of result ≡ least_pair pl.now }
 {
     if pl.len() == 0 {
-        return PairAt::NoPair;
+        return None;
     }
     diploid_pairs::pair_at(least_place(pl))
 }
@@ -208,28 +158,28 @@ fn put_pair_line(out: &mut [u8], at: usize, low: AlleleIndex, high: AlleleIndex)
 }
 
 // Lays the GT line: a genotype, or a missing value.
-fn put_genotype_line(out: &mut [u8], at: usize, gt: PairAt) -> usize
+fn put_genotype_line(out: &mut [u8], at: usize, gt: Option<AllelePair>) -> usize
     requires { at + length (line "gt" (written_or_missing written_genotype (pair_of gt))) < 2 ^ 64 }
     ensures { Laid out.old at (line "gt" (written_or_missing written_genotype (pair_of gt))) out.new result }
 {
     match gt {
-        PairAt::Pair(low, high) => put_pair_line(out, at, low, high),
-        PairAt::NoPair => kv_write::put_missing_line(out, at, b"gt="),
+        Some(pair) => put_pair_line(out, at, pair.low(), pair.high()),
+        None => kv_write::put_missing_line(out, at, b"gt="),
     }
 }
 
 // DP and MIN_DP of a sample.
 #[derive(Clone, Copy)]
 pub struct Depths {
-    pub dp: OptionalNumber,
-    pub mindp: OptionalNumber,
+    pub dp: Option<u32>,
+    pub mindp: Option<u32>,
 }
 
 // Lays the lines of a sample whose AD and PL are over the record's alleles; an empty one is missing.
 fn put_values(
     out: &mut [u8],
     at: usize,
-    gq: OptionalNumber,
+    gq: Option<u32>,
     depths: Depths,
     ad: &[u32],
     pl: &[u32],
@@ -261,7 +211,7 @@ pub fn put_sample_data(
     out: &mut [u8],
     at: usize,
     map: &[u8],
-    gq: OptionalNumber,
+    gq: Option<u32>,
     depths: Depths,
     ad: &[u32],
     pl: &[u32],

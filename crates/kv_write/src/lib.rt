@@ -5,13 +5,13 @@
 #![tactic(auto)]
 
 ghost use Rattle.std.specs.Prelude.{cond, [], ◌∷◌, map, ◌≡◌, ◌+◌, ◌*◌, ◌<◌, ◌≤◌, ◌^◌, leb, length};
+ghost use Rattle.answers.specs.Options.{option_of};
 ghost use Rattle.definitions.specs.Alleles.{capital};
 ghost use Rattle.definitions.specs.Bytes.{text};
 ghost use Rattle.definitions.specs.Lists.{only_if};
 ghost use Rattle.definitions.specs.Numbers.{decimal, decimals, written_or_missing};
 ghost use Rattle.kv_write.specs.Keyed.{keyed};
 ghost use Rattle.kv_write.specs.Laid.{Laid};
-ghost use Rattle.kv_write.specs.Optional.{option_of};
 
 // Lays one byte.
 pub fn put_byte(out: &mut [u8], at: usize, b: u8) -> usize
@@ -25,17 +25,6 @@ pub fn put_byte(out: &mut [u8], at: usize, b: u8) -> usize
     next
 }
 
-// Copies bytes over as many.
-fn copy_bytes(to: &mut [u8], bytes: &[u8])
-    requires { length to.old ≡ length bytes.now }
-    ensures { to.new ≡ bytes.now }
-{
-    for i in 0..bytes.len() {
-        let b = bytes[i];
-        to[i] = b;
-    }
-}
-
 // Lays bytes.
 pub fn put_bytes(out: &mut [u8], at: usize, bytes: &[u8]) -> usize
     requires { at + length bytes.now < 2 ^ 64 }
@@ -46,11 +35,11 @@ pub fn put_bytes(out: &mut [u8], at: usize, bytes: &[u8]) -> usize
         return end;
     }
     if end <= out.len() {
-        copy_bytes(&mut out[at..end], bytes);
+        out[at..end].copy_from_slice(bytes);
         return end;
     }
     let room = out.len() - at;
-    copy_bytes(&mut out[at..], &bytes[..room]);
+    out[at..].copy_from_slice(&bytes[..room]);
     end
 }
 
@@ -59,9 +48,8 @@ fn copy_letters(to: &mut [u8], bytes: &[u8])
     requires { length to.old ≡ length bytes.now }
     ensures { to.new ≡ map capital bytes.now }
 {
-    for i in 0..bytes.len() {
-        let letter = bytes[i];
-        let raised = kv_text::capital(letter);
+    for (i, letter) in bytes.iter().enumerate() {
+        let raised = kv_text::capital(*letter);
         to[i] = raised;
     }
 }
@@ -88,10 +76,7 @@ pub fn put_letters(out: &mut [u8], at: usize, bytes: &[u8]) -> usize
 fn at_least(n: u32, from: u32) -> usize
     ensures { (result ≤ 1) × (result ≡ cond (leb from n) 1 0) }
 {
-    if from <= n {
-        return 1;
-    }
-    0
+    if from <= n { 1 } else { 0 }
 }
 
 // The offset behind a number's decimal digits.
@@ -195,9 +180,8 @@ fn numbers_end(at: usize, numbers: &[u32]) -> usize
 {
     let first = numbers[0];
     let mut next = number_end(at, first);
-    for i in 1..numbers.len() {
-        let n = numbers[i];
-        next = number_end(next + 1, n);
+    for n in &numbers[1..] {
+        next = number_end(next + 1, *n);
     }
     next
 }
@@ -210,10 +194,9 @@ fn store_numbers(out: &mut [u8], at: usize, numbers: &[u32]) -> usize
 {
     let first = numbers[0];
     let mut next = store_number(out, at, first);
-    for i in 1..numbers.len() {
+    for n in &numbers[1..] {
         out[next] = b',';
-        let n = numbers[i];
-        next = store_number(out, next + 1, n);
+        next = store_number(out, next + 1, *n);
     }
     next
 }
@@ -225,10 +208,9 @@ fn put_each_number(out: &mut [u8], at: usize, numbers: &[u32]) -> usize
 {
     let first = numbers[0];
     let mut next = put_number(out, at, first);
-    for i in 1..numbers.len() {
+    for n in &numbers[1..] {
         next = put_byte(out, next, b',');
-        let n = numbers[i];
-        next = put_number(out, next, n);
+        next = put_number(out, next, *n);
     }
     next
 }
@@ -290,28 +272,16 @@ pub fn put_missing_line(out: &mut [u8], at: usize, key: &[u8]) -> usize
     put_line(out, at, key, b".")
 }
 
-// A number that may be missing.
-#[derive(Clone, Copy)]
-pub enum OptionalNumber {
-    Missing,
-    Present(u32),
-}
-
 // Lays a line with a number or a missing value.
-pub fn put_optional_number_line(
-    out: &mut [u8],
-    at: usize,
-    key: &[u8],
-    value: OptionalNumber,
-) -> usize
+pub fn put_optional_number_line(out: &mut [u8], at: usize, key: &[u8], value: Option<u32>) -> usize
     requires { at + length (keyed key.now (written_or_missing decimal (option_of value))) < 2 ^ 64 }
     ensures { Laid out.old at
         (keyed key.now (written_or_missing decimal (option_of value)))
         out.new result }
 {
     match value {
-        OptionalNumber::Missing => put_missing_line(out, at, key),
-        OptionalNumber::Present(n) => put_number_line(out, at, key, n),
+        None => put_missing_line(out, at, key),
+        Some(n) => put_number_line(out, at, key, n),
     }
 }
 

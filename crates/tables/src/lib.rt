@@ -2,56 +2,23 @@
 // of a row is answered: past the table's end all columns are 0.
 #![tactic(auto)]
 
-ghost use Rattle.std.specs.Prelude.{◌≡◌, ◌+◌, ◌<◌, ◌≤◌, eqb, get_or, length, []};
+ghost use Rattle.std.specs.Prelude.{◌≡◌, ◌+◌, ◌<◌, ◌≤◌, eqb, length, []};
 ghost use Rattle.std.proofs.lemmas.List.Edits.{sets};
 ghost use Rattle.std.proofs.Math.Option;
-ghost use Rattle.definitions.specs.Answers.{scratch_after};
+ghost use Rattle.answers.specs.Options.{option_of};
 ghost use Rattle.definitions.specs.Bytes.{comma, fields_of};
 ghost use Rattle.definitions.specs.Numbers.{number_list};
 ghost use Rattle.kv_text.specs.Fields.{between, first_numbers};
-ghost use Rattle.kv_write.specs.Optional.{option_of};
 ghost use Rattle.tables.specs.Tables.{ad_at, code_option, column, depth_at, dp_at, first_numbers_at, half_at, is_stored, list_columns, min_dp_at, numbers_at, part_at, pl_at, segment_column, segment_count, segments_next, stored_numbers, with_numbers, word_of};
 
 use bio_ids::{GenomePosition, SampleIndex};
-use kv_text::NumbersRead;
-use kv_write::OptionalNumber;
-
-// Sets every number of a table to 0.
-pub fn clear(table: &mut [usize])
-    ensures { table.new ≡ scratch_after table.old }
-{
-    for i in 0..table.len() {
-        table[i] = 0;
-    }
-}
-
-// Sets every place of scratch to 0.
-pub fn clear_places(scratch: &mut [u64])
-    ensures { scratch.new ≡ scratch_after scratch.old }
-{
-    for i in 0..scratch.len() {
-        scratch[i] = 0;
-    }
-}
-
-// Sets every number of a list to 0.
-pub fn clear_numbers(numbers: &mut [u32])
-    ensures { numbers.new ≡ scratch_after numbers.old }
-{
-    for i in 0..numbers.len() {
-        numbers[i] = 0;
-    }
-}
 
 // Stores the numbers of a row from an offset on.
 pub fn store_row(rows: &mut [usize], first: usize, row: &[usize])
     requires { first + length row.now ≤ length rows.old }
     ensures { rows.new ≡ sets rows.old first row.now }
 {
-    for k in 0..row.len() {
-        let n = row[k];
-        rows[first + k] = n;
-    }
+    rows[first..first + row.len()].copy_from_slice(row);
 }
 
 // A part of a text, as far as the text goes.
@@ -87,10 +54,7 @@ fn column(rows: &[usize], site: usize, k: usize) -> usize
         return 0;
     }
     let at = site * 22 + k;
-    if rows.len() <= at {
-        return 0;
-    }
-    rows[at]
+    slices::value_or(rows, at, 0)
 }
 
 // The sample whose site it is.
@@ -129,24 +93,24 @@ pub fn is_block(rows: &[usize], site: usize) -> bool
 }
 
 // A number of a table that may be missing.
-fn optional(code: usize) -> OptionalNumber
+fn optional(code: usize) -> Option<u32>
     ensures { option_of result ≡ code_option code }
 {
     if code <= 2147483647 {
-        return OptionalNumber::Present(code as u32);
+        return Some(code as u32);
     }
-    OptionalNumber::Missing
+    None
 }
 
 // The site's GQ.
-pub fn gq_of(rows: &[usize], site: usize) -> OptionalNumber
+pub fn gq_of(rows: &[usize], site: usize) -> Option<u32>
     ensures { option_of result ≡ code_option (column 5 rows.now site) }
 {
     optional(column(rows, site, 5))
 }
 
 // The depth in a half of the column that DP and MIN_DP share.
-fn depth_of(rows: &[usize], site: usize, half: usize) -> OptionalNumber
+fn depth_of(rows: &[usize], site: usize, half: usize) -> Option<u32>
     ensures { option_of result ≡ depth_at half rows.now site }
 {
     let depths = column(rows, site, 6);
@@ -154,14 +118,14 @@ fn depth_of(rows: &[usize], site: usize, half: usize) -> OptionalNumber
 }
 
 // The site's DP.
-pub fn dp_of(rows: &[usize], site: usize) -> OptionalNumber
+pub fn dp_of(rows: &[usize], site: usize) -> Option<u32>
     ensures { option_of result ≡ dp_at rows.now site }
 {
     depth_of(rows, site, 0)
 }
 
 // The site's MIN_DP.
-pub fn min_dp_of(rows: &[usize], site: usize) -> OptionalNumber
+pub fn min_dp_of(rows: &[usize], site: usize) -> Option<u32>
     ensures { option_of result ≡ min_dp_at rows.now site }
 {
     depth_of(rows, site, 1)
@@ -216,11 +180,7 @@ fn numbers_in(list: &[u8], out: &mut [u32]) -> usize
     ensures count { result ≡ length (Option.get_or (number_list list.now) []) }
     ensures values { out.new ≡ sets out.old 0 (first_numbers (fields_of comma list.now)) }
 {
-    let numbers = kv_text::read_numbers(list, out);
-    match numbers {
-        NumbersRead::Count(n) => n,
-        NumbersRead::Fault => 0,
-    }
+    kv_text::read_numbers(list, out).unwrap_or(0)
 }
 
 // Whether so many numbers of a list stand in a row that has room for `most`.
@@ -248,7 +208,7 @@ fn stored_numbers(rows: &[usize], site: usize, k: usize, out: &mut [u32])
     let count = column(rows, site, k);
     for i in 0..count {
         let n = column(rows, site, k + 1 + i / 2);
-        kv_text::store(out, i, half_at(n, i));
+        slices::store(out, i, half_at(n, i));
     }
 }
 
@@ -290,23 +250,13 @@ pub fn pl_of(s: &[u8], rows: &[usize], site: usize, out: &mut [u32]) -> usize
     numbers_at(s, rows, site, 16, 10, out)
 }
 
-// The value at a place of a list; 0 if there is none.
-fn value_at(numbers: &[u32], place: usize) -> usize
-    ensures { result ≡ get_or numbers.now place 0 }
-{
-    if place < numbers.len() {
-        return numbers[place] as usize;
-    }
-    0
-}
-
 // Two numbers of a list in one.
 fn word_of(numbers: &[u32], j: usize) -> usize
     requires { j < 4611686018427387904 }
     ensures { result ≡ word_of numbers.now j }
 {
-    let low = value_at(numbers, 2 * j);
-    let high = value_at(numbers, 2 * j + 1);
+    let low = slices::value_or(numbers, 2 * j, 0) as usize;
+    let high = slices::value_or(numbers, 2 * j + 1, 0) as usize;
     low + high * 4294967296
 }
 
@@ -337,16 +287,6 @@ pub fn store_numbers(rows: &mut [usize], at: usize, words: usize, numbers: &[u32
 // 2^58: so many rows of 5 have more numbers than any table.
 const TOO_MANY_SEGMENTS: usize = 288230376151711744;
 
-// The number at an offset of a table.
-fn number_at(rows: &[usize], at: usize) -> usize
-    ensures { result ≡ get_or rows.now at 0 }
-{
-    if at < rows.len() {
-        return rows[at];
-    }
-    0
-}
-
 // A number of a reference segment's row.
 pub fn segment_column(rows: &[usize], segment: usize, k: usize) -> usize
     ensures { result ≡ segment_column k rows.now segment }
@@ -357,19 +297,19 @@ pub fn segment_column(rows: &[usize], segment: usize, k: usize) -> usize
     if TOO_MANY_NUMBERS <= k {
         return 0;
     }
-    number_at(rows, 90112 + segment * 5 + k)
+    slices::value_or(rows, 90112 + segment * 5 + k, 0)
 }
 
 // How many reference segments have rows.
 pub fn segment_count(rows: &[usize]) -> usize
     ensures { result ≡ segment_count rows.now }
 {
-    number_at(rows, 95232)
+    slices::value_or(rows, 95232, 0)
 }
 
 // Where the reference segments without rows begin in their text.
 pub fn segments_next(rows: &[usize]) -> usize
     ensures { result ≡ segments_next rows.now }
 {
-    number_at(rows, 95233)
+    slices::value_or(rows, 95233, 0)
 }
