@@ -1,5 +1,5 @@
 -- A list of ALTs as it is laid, and the letter ALTs of the sites in a table, by the bytes that spell them in either case.
-use Rattle.std.specs.Prelude.{◌*◌, ◌<◌, ◌≤◌, suc, zero, ℕ, eqb, drop, length, take, Bool, cond, ◌≡◌}
+use Rattle.std.specs.Prelude.{◌*◌, ◌<◌, ◌≤◌, suc, zero, ℕ, eqb, drop, length, take, Bool, cond, ◌≡◌, Option, None, Some}
 use mathlib.Core.List.{List, [], ◌++◌, ◌∷◌, flat_map, foldl, map}
 use Rattle.definitions.specs.Alleles.{Allele, capital, letters, non_ref, span_del, spelled, written_alleles}
 use Rattle.definitions.specs.Bytes.{comma, fields_of, same_bytes}
@@ -7,8 +7,7 @@ use Rattle.definitions.specs.Cohort.{Site}
 use Rattle.definitions.specs.Lists.{any_of}
 use Rattle.definitions.specs.MergedAlleles.{span_del_alt}
 use Rattle.tables.specs.Tables.{column, part_at, site_at}
-use Rattle.merged_alleles.specs.declared.AltsAt.{AltsAt}
-use Rattle.merged_alleles.specs.declared.AltsAt.TheVariants.{Alts, TooMany}
+use Rattle.merged_alleles.specs.declared.AltList.{AltList}
 
 -- ---- ALTs by first occurrence
 
@@ -40,9 +39,9 @@ pub record Listed (d : List ℕ) (len n : ℕ) : Type 0 where
   pub count : length (listed d len n) ≡ n
 
 -- these ALTs were added behind others, or there are over 14
-unfoldable pub Added : List (List ℕ) → List (List ℕ) → List ℕ → AltsAt → Type 0
-Added alts fs d (Alts len n) = Listed d len n × (listed d len n ≡ add_all alts fs)
-Added alts fs d TooMany = 14 < length (add_all alts fs)
+unfoldable pub Added : List (List ℕ) → List (List ℕ) → List ℕ → Option AltList → Type 0
+Added alts fs d (Some list) = Listed d list.len list.count × (listed d list.len list.count ≡ add_all alts fs)
+Added alts fs d None = 14 < length (add_all alts fs)
 
 -- ---- the letter ALTs of a site
 
@@ -75,6 +74,6 @@ pub record AltsWritten (alts : List Allele) (work : List ℕ) (len n : ℕ) : Ty
   pub few : n ≤ 15
 
 -- or there are over 15 (row 13: over 16 alleles), and nothing is promised of the work buffer
-unfoldable pub AltsLaid : List Allele → List ℕ → AltsAt → Type 0
-AltsLaid alts work (Alts len n) = AltsWritten alts work len n
-AltsLaid alts work TooMany = 15 < length alts
+unfoldable pub AltsLaid : List Allele → List ℕ → Option AltList → Type 0
+AltsLaid alts work (Some list) = AltsWritten alts work list.len list.count
+AltsLaid alts work None = 15 < length alts

@@ -16,11 +16,11 @@ ghost use Rattle.merged_alleles.specs.SoundSites.{ShortField, ShortFields, Sound
 
 use bio_ids::GenomePosition;
 
-// A list of ALTs: how long its text is and how many they are, or that they are too many.
+// A list of ALTs: how long its text is, and how many they are. None stands for too many.
 #[derive(Clone, Copy)]
-pub enum AltsAt {
-    Alts(usize, usize),
-    TooMany,
+pub struct AltList {
+    pub len: usize,
+    pub count: usize,
 }
 
 // ---- a list in a buffer
@@ -57,62 +57,60 @@ fn is_listed(text: &[u8], len: usize, n: usize, from: usize) -> bool
 }
 
 // Lays letters and the end of REF, as capitals, behind the list, and adds them to it unless they are on it.
-fn add_allele(field: &[u8], end: &[u8], alts: &mut [u8], len: usize, n: usize) -> AltsAt
-    requires { Listed alts.old len n × ShortField field.now × ShortField end.now }
-    ensures { Added (listed alts.old len n)
+fn add_allele(field: &[u8], end: &[u8], alts: &mut [u8], so_far: AltList) -> Option<AltList>
+    requires { Listed alts.old so_far.len so_far.count × ShortField field.now × ShortField end.now }
+    ensures { Added (listed alts.old so_far.len so_far.count)
         ((map capital field.now ++ map capital end.now) ∷ [])
         alts.new result }
 {
-    let from = put_comma(alts, len, n);
+    let AltList { len, count } = so_far;
+    let from = put_comma(alts, len, count);
     let middle = kv_write::put_letters(alts, from, field);
     let next = kv_write::put_letters(alts, middle, end);
-    if is_listed(&alts[..next], len, n, from) {
-        return AltsAt::Alts(len, n);
+    if is_listed(&alts[..next], len, count, from) {
+        return Some(so_far);
     }
-    if 14 <= n {
-        return AltsAt::TooMany;
+    if 14 <= count {
+        return None;
     }
-    AltsAt::Alts(next, n + 1)
+    Some(AltList {
+        len: next,
+        count: count + 1,
+    })
 }
 
 // ---- letter ALTs
 
 // Adds an ALT of a site that starts at the position, if it is letters, extended by the end of REF that its own REF lacks.
-fn extend_allele(field: &[u8], end: &[u8], alts: &mut [u8], len: usize, n: usize) -> AltsAt
-    requires { Listed alts.old len n × ShortField field.now × ShortField end.now }
-    ensures { Added (listed alts.old len n)
+fn extend_allele(field: &[u8], end: &[u8], alts: &mut [u8], so_far: AltList) -> Option<AltList>
+    requires { Listed alts.old so_far.len so_far.count × ShortField field.now × ShortField end.now }
+    ensures { Added (listed alts.old so_far.len so_far.count)
         (extended_letters end.now field.now)
         alts.new result }
 {
     if alleles::is_span_del(field) {
-        return AltsAt::Alts(len, n);
+        return Some(so_far);
     }
     if alleles::is_non_ref(field) {
-        return AltsAt::Alts(len, n);
+        return Some(so_far);
     }
-    add_allele(field, end, alts, len, n)
+    add_allele(field, end, alts, so_far)
 }
 
 // The same for each ALT of the site.
-fn extend_alleles(list: &[u8], end: &[u8], alts: &mut [u8], len: usize, n: usize) -> AltsAt
-    requires { Listed alts.old len n × ShortFields list.now × ShortField end.now }
-    ensures { Added (listed alts.old len n)
+fn extend_alleles(list: &[u8], end: &[u8], alts: &mut [u8], so_far: AltList) -> Option<AltList>
+    requires { Listed alts.old so_far.len so_far.count × ShortFields list.now × ShortField end.now }
+    ensures { Added (listed alts.old so_far.len so_far.count)
         (flat_map (extended_letters end.now) (fields_of comma list.now))
         alts.new result }
 {
-    let mut written = len;
-    let mut count = n;
+    let mut laid = so_far;
     let mut at = 0;
     loop {
         let stop = kv_text::field_end(list, at, b',');
-        let step = extend_allele(&list[at..stop], end, alts, written, count);
-        let AltsAt::Alts(next, more) = step else {
-            return AltsAt::TooMany;
-        };
-        written = next;
-        count = more;
+        laid = extend_allele(&list[at..stop], end, alts, laid)?;
         if list.len() <= stop {
-            return AltsAt::Alts(written, count);
+            return Some(laid);
         }
         at = stop + 1;
     }
@@ -133,21 +131,20 @@ fn remap_alleles(
     position: GenomePosition,
     reference: &[u8],
     alts: &mut [u8],
-    len: usize,
-    n: usize,
-) -> AltsAt
-    requires { Listed alts.old len n × SoundRow s.now rows.now site × ShortField reference.now }
-    ensures { Added (listed alts.old len n)
+    so_far: AltList,
+) -> Option<AltList>
+    requires { Listed alts.old so_far.len so_far.count × SoundRow s.now rows.now site × ShortField reference.now }
+    ensures { Added (listed alts.old so_far.len so_far.count)
         (site_letters s.now rows.now reference.now position.0 site)
         alts.new result }
 {
     if !starts_at(rows, site, position) {
-        return AltsAt::Alts(len, n);
+        return Some(so_far);
     }
     let own = tables::reference_allele(s, rows, site);
     let end = tables::part(reference, own.len(), reference.len());
     let list = tables::alternate_alleles(s, rows, site);
-    extend_alleles(list, end, alts, len, n)
+    extend_alleles(list, end, alts, so_far)
 }
 
 // Adds the letter ALTs of all sites, last sample first.
@@ -158,27 +155,17 @@ fn letter_alts(
     position: GenomePosition,
     reference: &[u8],
     alts: &mut [u8],
-) -> AltsAt
+) -> Option<AltList>
     requires { (4096 ≤ length alts.old) × SoundSites s.now rows.now found.now reference.now }
     ensures { Added []
         (flat_map (site_letters s.now rows.now reference.now position.0) (reverse found.now))
         alts.new result }
 {
-    let count = found.len();
-    let mut len = 0;
-    let mut n = 0;
-    let mut left = count;
-    while 0 < left {
-        let site = found[left - 1];
-        let step = remap_alleles(s, rows, site, position, reference, alts, len, n);
-        let AltsAt::Alts(next, more) = step else {
-            return AltsAt::TooMany;
-        };
-        len = next;
-        n = more;
-        left -= 1;
+    let mut laid = AltList { len: 0, count: 0 };
+    for site in found.iter().rev() {
+        laid = remap_alleles(s, rows, *site, position, reference, alts, laid)?;
     }
-    AltsAt::Alts(len, n)
+    Some(laid)
 }
 
 // ---- `*` and `<NON_REF>`
@@ -200,30 +187,33 @@ fn any_span_del(s: &[u8], rows: &[usize], found: &[usize], position: GenomePosit
     requires { Every (SoundRow s.now rows.now) found.now }
     ensures { (ref : List ℕ) → result ≡ any_of (shows_span_del ref position.0) (sites_at s.now rows.now found.now) }
 {
-    for i in 0..found.len() {
-        let site = found[i];
-        if shows_span_del(s, rows, site, position) {
-            return true;
-        }
-    }
-    false
+    found
+        .iter()
+        .any(|site| shows_span_del(s, rows, *site, position))
 }
 
 // Lays `*`, if it is shown, and `<NON_REF>` behind letter ALTs.
-fn put_ends(alts: &mut [u8], len: usize, n: usize, shown: bool) -> AltsAt
-    requires { Listed alts.old len n }
-    ensures { AltsLaid (with_ends (listed alts.old len n) shown) alts.new result }
+fn put_ends(alts: &mut [u8], letters: AltList, shown: bool) -> Option<AltList>
+    requires { Listed alts.old letters.len letters.count }
+    ensures { AltsLaid (with_ends (listed alts.old letters.len letters.count) shown) alts.new result }
 {
+    let AltList { len, count } = letters;
     if !shown {
-        let last = put_alt(alts, len, n, b"<NON_REF>");
-        return AltsAt::Alts(last, n + 1);
+        let last = put_alt(alts, len, count, b"<NON_REF>");
+        return Some(AltList {
+            len: last,
+            count: count + 1,
+        });
     }
-    if 14 <= n {
-        return AltsAt::TooMany;
+    if 14 <= count {
+        return None;
     }
-    let next = put_alt(alts, len, n, b"*");
-    let last = put_alt(alts, next, n + 1, b"<NON_REF>");
-    AltsAt::Alts(last, n + 2)
+    let next = put_alt(alts, len, count, b"*");
+    let last = put_alt(alts, next, count + 1, b"<NON_REF>");
+    Some(AltList {
+        len: last,
+        count: count + 2,
+    })
 }
 
 // ---- all ALTs
@@ -239,16 +229,13 @@ pub fn collect_target_alleles(
     position: GenomePosition,
     reference: &[u8],
     alts: &mut [u8],
-) -> AltsAt
+) -> Option<AltList>
     requires { (4096 ≤ length alts.old) × SoundSites s.now rows.now found.now reference.now }
     ensures { AltsLaid
         (merged_alts (map capital reference.now) position.0 (sites_at s.now rows.now found.now))
         alts.new result }
 {
-    let letters = letter_alts(s, rows, found, position, reference, alts);
-    let AltsAt::Alts(len, n) = letters else {
-        return AltsAt::TooMany;
-    };
+    let letters = letter_alts(s, rows, found, position, reference, alts)?;
     let shown = any_span_del(s, rows, found, position);
-    put_ends(alts, len, n, shown)
+    put_ends(alts, letters, shown)
 }

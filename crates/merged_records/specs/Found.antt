@@ -1,5 +1,7 @@
 -- What is found at a position: the covering sites, REF and the ALTs of the record there.
-use Rattle.std.specs.Prelude.{◌<◌, ◌≤◌, ℕ, length, take, Bool, List, [], map, ◌≡◌}
+use Rattle.std.specs.Prelude.{◌<◌, ◌≤◌, ℕ, length, take, Bool, List, [], map, ◌≡◌, Option, None, Some, Result, Ok, Err}
+use Rattle.answers.specs.Answered.{row_of}
+use Rattle.answers.specs.declared.Refusal.{Refusal}
 use Rattle.definitions.specs.Alleles.{capital, written_alleles}
 use Rattle.definitions.specs.Checked.{accepted, refused}
 use Rattle.definitions.specs.Cohort.{Site}
@@ -13,8 +15,7 @@ use Rattle.merged_ref.specs.Answers.{ref_bytes}
 use Rattle.merged_ref.specs.declared.RefAt.{RefAt}
 use Rattle.tables.specs.Tables.{site_at}
 use Rattle.merged_records.specs.Loaded.{OnContig, covering_numbers}
-use Rattle.merged_records.specs.declared.RecordAt.{RecordAt}
-use Rattle.merged_records.specs.declared.RecordAt.TheVariants as answer
+use Rattle.merged_records.specs.declared.FoundRecord.{FoundRecord}
 
 module _ {s rows : List ℕ} {samples : ℕ} {referenced : Bool} {reference contig : List ℕ}
     (on : OnContig s rows samples referenced reference contig) (position : ℕ) where
@@ -34,13 +35,19 @@ module _ {s rows : List ℕ} {samples : ℕ} {referenced : Bool} {reference cont
     pub number : count ≡ length (merged_alts (map capital (ref_bytes s reference at)) position covering)
     pub few_alts : count ≤ 15
 
-  -- no site covers the position; or some do and the record is refused, however far its interval goes; or it is as found, with n sites in a list
-  unfoldable pub RecordFound : (ℕ → List ℕ) → List ℕ → RecordAt → Type 0
-  RecordFound found alts answer.NoSites = covering ≡ []
-  RecordFound found alts (answer.Refused row) =
+  -- no site covers the position; or the record is as found, with so many sites in a list; or some cover it and the record is refused, however
+  -- far its interval goes
+  unfoldable pub RecordFound : (ℕ → List ℕ) → List ℕ → Result (Option FoundRecord) Refusal → Type 0
+  RecordFound found alts (Ok None) = covering ≡ []
+  RecordFound found alts (Ok (Some r)) = RecordTo (found r.sites) alts r.sites r.reference r.alts.len r.alts.count
+  RecordFound found alts (Err r) =
       (0 < length covering)
-      × ((last : ℕ) → interval_record on.loaded.input contig (record { first = position; last = last }) ≡ refused row)
-  RecordFound found alts (answer.Record n at len count) = RecordTo (found n) alts n at len count
+      × ((last : ℕ) → interval_record on.loaded.input contig (record { first = position; last = last }) ≡ refused (row_of r))
+
+-- a record, or why it is refused, where some site covers the position
+abbrev pub some_record : Result FoundRecord Refusal → Result (Option FoundRecord) Refusal
+some_record (Ok r) = Ok (Some r)
+some_record (Err r) = Err r
 
 -- the ALTs over these sites with this REF are too many (row 13), or are laid
 pub record AltsTo (s rows reference : List ℕ) (position : ℕ) (at : RefAt) (found alts : List ℕ) (n : ℕ) (same : RefAt) (len count : ℕ) : Type 0 where
@@ -48,11 +55,11 @@ pub record AltsTo (s rows reference : List ℕ) (position : ℕ) (at : RefAt) (f
   pub same_ref : same ≡ at
   pub written : AltsWritten (merged_alts (map capital (ref_bytes s reference at)) position (map (site_at s rows) found)) alts len count
 
-unfoldable pub AltsFound : List ℕ → List ℕ → List ℕ → ℕ → RefAt → List ℕ → List ℕ → RecordAt → Type 0
-AltsFound s rows reference position at found alts answer.NoSites = ⊥
-AltsFound s rows reference position at found alts (answer.Refused row) =
-    (row ≡ 13) × (15 < length (merged_alts (map capital (ref_bytes s reference at)) position (map (site_at s rows) found)))
-AltsFound s rows reference position at found alts (answer.Record n same len count) = AltsTo s rows reference position at found alts n same len count
+unfoldable pub AltsFound : List ℕ → List ℕ → List ℕ → ℕ → RefAt → List ℕ → List ℕ → Result FoundRecord Refusal → Type 0
+AltsFound s rows reference position at found alts (Err r) =
+    (row_of r ≡ 13) × (15 < length (merged_alts (map capital (ref_bytes s reference at)) position (map (site_at s rows) found)))
+AltsFound s rows reference position at found alts (Ok r) =
+    AltsTo s rows reference position at found alts r.sites r.reference r.alts.len r.alts.count
 
 -- these are the numbers of the sites that cover a position of the contig, and there are some
 pub record Over (s rows : List ℕ) (samples : ℕ) (referenced : Bool) (reference contig : List ℕ) (position : ℕ) (found : List ℕ) : Type 0 where

@@ -1,8 +1,11 @@
 -- What the answers about REF of the record at a position stand for. Sites are numbers of a table's rows, in the order of samples.
-use Rattle.std.specs.Prelude.{◌+◌, ◌-◌, ℕ, eqb, ltb, drop, length, take, cond}
+use Rattle.std.specs.Prelude.{◌+◌, ◌-◌, ℕ, eqb, ltb, drop, length, take, cond, Result, Ok, Err}
+use Rattle.std.specs.Prelude as std
 use mathlib.Core.List.{List, [], ◌++◌, ◌∷◌, foldr, map}
 use Rattle.std.proofs.Math.Option
-use Rattle.std.proofs.Math.Option.{Option, none, or_else, some}
+use Rattle.std.proofs.Math.Option.{Option, none, or_else}
+use Rattle.answers.specs.Answered.{row_of}
+use Rattle.answers.specs.declared.Refusal.{Refusal}
 use Rattle.clip_and_reference.specs.Groups.{PlacedSegment, segments_placed, segments_read}
 use Rattle.definitions.specs.Alleles.{capital}
 use Rattle.definitions.specs.Checked.{Checked, accepted, refused}
@@ -13,10 +16,6 @@ use Rattle.definitions.specs.MergedRef.{site_ref, starts_at, unknown_base}
 use Rattle.indexed_groups.specs.Indexed.{placed_at}
 use Rattle.kv_text.specs.Fields.{between}
 use Rattle.tables.specs.Tables.{column, part_at, segment_at, segment_count, segments_next, site_at}
-use Rattle.merged_ref.specs.declared.LetterAt.{LetterAt}
-use Rattle.merged_ref.specs.declared.LetterAt.TheVariants as letter
-use Rattle.merged_ref.specs.declared.LongestAt.{LongestAt}
-use Rattle.merged_ref.specs.declared.LongestAt.TheVariants as longer
 use Rattle.merged_ref.specs.declared.Place.{Place}
 use Rattle.merged_ref.specs.declared.Place.TheVariants as place
 use Rattle.merged_ref.specs.declared.RefAt.{RefAt}
@@ -67,26 +66,21 @@ unfoldable pub letter_place : List ℕ → ℕ → List PlacedSegment → Option
 letter_place contig position segments =
     Option.map (place_in position) (first_where (λ (p : PlacedSegment). segment_holds contig position p.segment) segments)
 
--- the answer
-abbrev pub letter_offset : LetterAt → Option ℕ
-letter_offset (letter.At i) = some i
-letter_offset letter.Absent = none
-
 -- ---- REF
 
 -- the site, or the longest so far if its REF is not shorter
-unfoldable pub longer_of : List ℕ → List ℕ → ℕ → LongestAt → LongestAt
-longer_of s rows site longer.NoneStarts = longer.Site site
-longer_of s rows site (longer.Site other) =
-    cond (ltb (length (part_at 9 10 s rows other)) (length (part_at 9 10 s rows site))) (longer.Site site) (longer.Site other)
+unfoldable pub longer_of : List ℕ → List ℕ → ℕ → std.Option ℕ → std.Option ℕ
+longer_of s rows site std.None = std.Some site
+longer_of s rows site (std.Some other) =
+    cond (ltb (length (part_at 9 10 s rows other)) (length (part_at 9 10 s rows site))) (std.Some site) (std.Some other)
 
 -- the longest with one more site in front, if it starts at the position
-unfoldable pub longer_site : List ℕ → List ℕ → ℕ → ℕ → LongestAt → LongestAt
+unfoldable pub longer_site : List ℕ → List ℕ → ℕ → ℕ → std.Option ℕ → std.Option ℕ
 longer_site s rows position site best = cond (starts_at position (site_at s rows site)) (longer_of s rows site best) best
 
 -- which of these sites has the longest REF of those that start at the position: of equally long ones the last
-unfoldable pub longest_site : List ℕ → List ℕ → ℕ → List ℕ → LongestAt
-longest_site s rows position = foldr (longer_site s rows position) longer.NoneStarts
+unfoldable pub longest_site : List ℕ → List ℕ → ℕ → List ℕ → std.Option ℕ
+longest_site s rows position = foldr (longer_site s rows position) std.None
 
 -- ---- a letter of the sites' own REFs
 
@@ -116,14 +110,12 @@ part_or other part = cond (eqb (length part) 0) other part
 unfoldable pub ref_or : List ℕ → List ℕ → List ℕ → RefAt → List ℕ
 ref_or unknown s reference (answer.Allele from to) = between s from to
 ref_or unknown s reference (answer.Letter place) = part_or unknown (letter_bytes reference s place)
-ref_or unknown s reference (answer.Refused row) = []
 
 -- REF: `N` for a letter that stands nowhere
 unfoldable pub ref_bytes : List ℕ → List ℕ → RefAt → List ℕ
 ref_bytes s reference at = ref_or (unknown_base ∷ []) s reference at
 
 -- REF, its letters as capitals, or the row that refuses it
-unfoldable pub ref_answer : List ℕ → List ℕ → RefAt → Checked (List ℕ)
-ref_answer s reference (answer.Allele from to) = accepted (map capital (ref_bytes s reference (answer.Allele from to)))
-ref_answer s reference (answer.Letter place) = accepted (map capital (ref_bytes s reference (answer.Letter place)))
-ref_answer s reference (answer.Refused row) = refused row
+unfoldable pub ref_answer : List ℕ → List ℕ → Result RefAt Refusal → Checked (List ℕ)
+ref_answer s reference (Ok at) = accepted (map capital (ref_bytes s reference at))
+ref_answer s reference (Err r) = refused (row_of r)

@@ -3,56 +3,49 @@
 // are compared in either case.
 #![tactic(auto)]
 
-ghost use Rattle.std.specs.Prelude.{drop, take, [], ◌∷◌, map, ◌≡◌, ◌-◌};
+ghost use Rattle.std.specs.Prelude.{drop, take, [], ◌∷◌, map, ◌≡◌};
+ghost use Rattle.answers.specs.Options.{option_of};
 ghost use Rattle.clip_and_reference.specs.Groups.{segments_placed};
 ghost use Rattle.definitions.specs.Alleles.{capital};
 ghost use Rattle.definitions.specs.Bytes.{is_prefix};
 ghost use Rattle.definitions.specs.Lists.{all_of, only_if};
 ghost use Rattle.definitions.specs.MergedRef.{merged_ref, ref_letter};
 ghost use Rattle.indexed_groups.specs.Indexed.{placed_at};
-ghost use Rattle.merged_ref.specs.Answers.{letter_bytes, letter_offset, letter_place, longer_site, longest_site, part_or, placed_by, placed_in, reached_offset, reached_place, ref_answer, ref_or, reference_placed, reference_segments, sites_at, starting_refs};
+ghost use Rattle.merged_ref.specs.Answers.{letter_bytes, letter_place, longer_site, longest_site, part_or, placed_by, placed_in, reached_offset, reached_place, ref_answer, ref_or, reference_placed, reference_segments, sites_at, starting_refs};
 
+use answers::Refusal;
 use bio_ids::GenomePosition;
-use clip_and_reference::SegmentAt;
+use kv_text::Part;
 
 // ---- the reference letter
 
-// Where a letter stands in a text.
-#[derive(Clone, Copy)]
-pub enum LetterAt {
-    At(usize),
-    Absent,
-}
-
-// The letter that a reference group gives, if it is on the contig and has one at the position.
+// The letter that a segment gives whose contig's name and bases stand in these parts of the reference, if it is on the contig and has one
+// at the position.
 fn letter_in(
     reference: &[u8],
-    contig_at: usize,
-    contig_end: usize,
+    name: Part,
     first: GenomePosition,
-    bases_at: usize,
-    bases_end: usize,
+    bases: Part,
     contig: &[u8],
     position: GenomePosition,
-) -> LetterAt
-    ensures { letter_offset result ≡ letter_place contig.now position.0
-        (placed_by reference.now contig_at contig_end first.0 bases_at bases_end ∷ []) }
+) -> Option<usize>
+    ensures { option_of result ≡ letter_place contig.now position.0
+        (placed_by reference.now name.at name.end first.0 bases.at bases.end ∷ []) }
 {
-    let name = tables::part(reference, contig_at, contig_end);
-    if !kv_text::same_bytes(contig, name) {
-        return LetterAt::Absent;
+    if !kv_text::same_bytes(contig, tables::part(reference, name.at, name.end)) {
+        return None;
     }
     let wanted = position.get();
     let from = first.get();
     if wanted < from {
-        return LetterAt::Absent;
+        return None;
     }
     let index = wanted - from;
-    let bases = tables::part(reference, bases_at, bases_end);
-    if bases.len() as u64 <= index {
-        return LetterAt::Absent;
+    let letters = tables::part(reference, bases.at, bases.end);
+    if letters.len() as u64 <= index {
+        return None;
     }
-    LetterAt::At(bases_at + index as usize)
+    Some(bases.at + index as usize)
 }
 
 // The letter that the segment with this row gives, if it is on the contig and has one at the position.
@@ -62,22 +55,24 @@ fn letter_in_row(
     segment: usize,
     contig: &[u8],
     position: GenomePosition,
-) -> LetterAt
-    ensures { letter_offset result ≡ letter_place contig.now position.0
+) -> Option<usize>
+    ensures { option_of result ≡ letter_place contig.now position.0
         (placed_at reference.now rows.now segment ∷ []) }
 {
-    let contig_at = tables::segment_column(rows, segment, 0);
-    let contig_end = tables::segment_column(rows, segment, 1);
+    let name = Part {
+        at: tables::segment_column(rows, segment, 0),
+        end: tables::segment_column(rows, segment, 1),
+    };
     let first = tables::segment_column(rows, segment, 2);
-    let bases_at = tables::segment_column(rows, segment, 3);
-    let bases_end = tables::segment_column(rows, segment, 4);
+    let bases = Part {
+        at: tables::segment_column(rows, segment, 3),
+        end: tables::segment_column(rows, segment, 4),
+    };
     letter_in(
         reference,
-        contig_at,
-        contig_end,
+        name,
         GenomePosition::new_1based(first as u64),
-        bases_at,
-        bases_end,
+        bases,
         contig,
         position,
     )
@@ -89,47 +84,46 @@ fn letter_in_rows(
     rows: &[usize],
     contig: &[u8],
     position: GenomePosition,
-) -> LetterAt
-    ensures { letter_offset result ≡ letter_place contig.now position.0
+) -> Option<usize>
+    ensures { option_of result ≡ letter_place contig.now position.0
         (placed_in reference.now rows.now) }
 {
     let count = tables::segment_count(rows);
     for segment in 0..count {
         let letter = letter_in_row(reference, rows, segment, contig, position);
-        if let LetterAt::At(i) = letter {
-            return LetterAt::At(i);
+        if letter.is_some() {
+            return letter;
         }
     }
-    LetterAt::Absent
+    None
 }
 
 // The letter at the position that the first group from an offset on gives that holds it, up to the first faulty one.
-fn letter_from(reference: &[u8], from: usize, contig: &[u8], position: GenomePosition) -> LetterAt
-    ensures { letter_offset result ≡ letter_place contig.now position.0 (segments_placed reference.now from) }
+fn letter_from(
+    reference: &[u8],
+    from: usize,
+    contig: &[u8],
+    position: GenomePosition,
+) -> Option<usize>
+    ensures { option_of result ≡ letter_place contig.now position.0 (segments_placed reference.now from) }
 {
     let mut at = from;
     while at < reference.len() {
-        let group = clip_and_reference::segment_at(reference, at);
-        let SegmentAt::Segment {
-            contig_at,
-            contig_end,
-            first,
-            bases_at,
-            bases_end,
-            next,
-        } = group
-        else {
-            return LetterAt::Absent;
-        };
+        let group = clip_and_reference::segment_at(reference, at)?;
         let letter = letter_in(
-            reference, contig_at, contig_end, first, bases_at, bases_end, contig, position,
+            reference,
+            group.contig,
+            group.first,
+            group.bases,
+            contig,
+            position,
         );
-        if let LetterAt::At(i) = letter {
-            return LetterAt::At(i);
+        if letter.is_some() {
+            return letter;
         }
-        at = next;
+        at = group.next;
     }
-    LetterAt::Absent
+    None
 }
 
 // The letter at the position that the first segment gives that holds it: of those with rows, and of the groups behind them.
@@ -138,61 +132,55 @@ pub fn find_letter(
     rows: &[usize],
     contig: &[u8],
     position: GenomePosition,
-) -> LetterAt
-    ensures { letter_offset result ≡ letter_place contig.now position.0
+) -> Option<usize>
+    ensures { option_of result ≡ letter_place contig.now position.0
         (reference_placed reference.now rows.now) }
 {
     let letter = letter_in_rows(reference, rows, contig, position);
-    if let LetterAt::At(i) = letter {
-        return LetterAt::At(i);
+    if letter.is_some() {
+        return letter;
     }
-    let from = tables::segments_next(rows);
-    letter_from(reference, from, contig, position)
+    letter_from(reference, tables::segments_next(rows), contig, position)
 }
 
 // ---- the sites that start at the position
 
-// The site with the longest REF of those that start at the position.
-#[derive(Clone, Copy)]
-pub enum LongestAt {
-    Site(usize),
-    NoneStarts,
-}
-
-// The longest with one more site in front.
+// The site with the longest REF of those that start at the position, with one more site in front.
 fn longer_ref(
     s: &[u8],
     rows: &[usize],
     site: usize,
     position: GenomePosition,
-    best: LongestAt,
-) -> LongestAt
+    best: Option<usize>,
+) -> Option<usize>
     ensures { result ≡ longer_site s.now rows.now position.0 site best }
 {
     if tables::start_of(rows, site).get() != position.get() {
         return best;
     }
-    let LongestAt::Site(other) = best else {
-        return LongestAt::Site(site);
+    let Some(other) = best else {
+        return Some(site);
     };
     let mine = tables::reference_allele(s, rows, site);
     let longest = tables::reference_allele(s, rows, other);
     if longest.len() < mine.len() {
-        return LongestAt::Site(site);
+        return Some(site);
     }
-    LongestAt::Site(other)
+    best
 }
 
 // Of the found sites that start at the position, one with the longest REF: of equally long ones the last.
-pub fn longest_ref(s: &[u8], rows: &[usize], found: &[usize], position: GenomePosition) -> LongestAt
+pub fn longest_ref(
+    s: &[u8],
+    rows: &[usize],
+    found: &[usize],
+    position: GenomePosition,
+) -> Option<usize>
     ensures { result ≡ longest_site s.now rows.now position.0 found.now }
 {
-    let mut best = LongestAt::NoneStarts;
-    let mut i = found.len();
-    while 0 < i {
-        i -= 1;
-        let site = found[i];
-        best = longer_ref(s, rows, site, position, best);
+    let mut best = None;
+    for site in found.iter().rev() {
+        best = longer_ref(s, rows, *site, position, best);
     }
     best
 }
@@ -232,54 +220,44 @@ pub fn refs_agree(
 ) -> bool
     ensures { result ≡ all_of (λ ref. is_prefix ref (map capital longest.now)) (starting_refs position.0 (sites_at s.now rows.now found.now)) }
 {
-    for i in 0..found.len() {
-        let site = found[i];
-        if !ref_agrees(s, rows, site, position, longest) {
-            return false;
-        }
-    }
-    true
+    found
+        .iter()
+        .all(|site| ref_agrees(s, rows, *site, position, longest))
 }
 
 // ---- the letter of the sites' own REFs
 
-// How far a position lies behind another; 0 if it does not.
-fn behind(position: u64, start: u64) -> u64
-    ensures { result ≡ position - start }
-{
-    if position < start {
-        return 0;
-    }
-    position - start
-}
-
 // The letter that a site's REF has at the position, by its offset in the cohort text, if REF reaches the position.
-fn site_letter(s: &[u8], rows: &[usize], site: usize, position: GenomePosition) -> LetterAt
-    ensures { letter_offset result ≡ reached_offset s.now rows.now position.0 site }
+fn site_letter(s: &[u8], rows: &[usize], site: usize, position: GenomePosition) -> Option<usize>
+    ensures { option_of result ≡ reached_offset s.now rows.now position.0 site }
 {
     let start = tables::start_of(rows, site);
-    let index = behind(position.get(), start.get());
+    let index = position.get().saturating_sub(start.get());
     let allele = tables::reference_allele(s, rows, site);
     if allele.len() as u64 <= index {
-        return LetterAt::Absent;
+        return None;
     }
     let from = tables::reference_allele_from(rows, site);
     let at = from + index as usize;
-    LetterAt::At(at)
+    Some(at)
 }
 
 // That of the first found site whose REF reaches the position.
-fn reached_letter(s: &[u8], rows: &[usize], found: &[usize], position: GenomePosition) -> LetterAt
-    ensures { letter_offset result ≡ reached_place s.now rows.now position.0 found.now }
+fn reached_letter(
+    s: &[u8],
+    rows: &[usize],
+    found: &[usize],
+    position: GenomePosition,
+) -> Option<usize>
+    ensures { option_of result ≡ reached_place s.now rows.now position.0 found.now }
 {
-    for k in 0..found.len() {
-        let site = found[k];
-        let letter = site_letter(s, rows, site, position);
-        if let LetterAt::At(i) = letter {
-            return LetterAt::At(i);
+    for site in found {
+        let letter = site_letter(s, rows, *site, position);
+        if letter.is_some() {
+            return letter;
         }
     }
-    LetterAt::Absent
+    None
 }
 
 // ---- REF
@@ -292,12 +270,11 @@ pub enum Place {
     Nowhere,
 }
 
-// Where REF stands: in the cohort text, from an offset to before another, or it is a letter; or the row that refuses it.
+// Where REF stands: in the cohort text, from an offset to before another, or it is a letter.
 #[derive(Clone, Copy)]
 pub enum RefAt {
     Allele(usize, usize),
     Letter(Place),
-    Refused(usize),
 }
 
 // The reference letter, or without a reference that of the first found site whose REF reaches the position. Row 11: the reference lacks
@@ -310,22 +287,18 @@ fn ref_letter(
     reference: &[u8],
     contig: &[u8],
     position: GenomePosition,
-) -> RefAt
+) -> Result<RefAt, Refusal>
     ensures { ref_answer s.now reference.now result
         ≡ ref_letter (only_if referenced (reference_segments reference.now rows.now))
         contig.now position.0 (sites_at s.now rows.now found.now) }
 {
-    if !referenced {
-        let reached = reached_letter(s, rows, found, position);
-        let LetterAt::At(i) = reached else {
-            return RefAt::Letter(Place::Nowhere);
-        };
-        return RefAt::Letter(Place::Cohort(i));
+    if referenced {
+        let i = find_letter(reference, rows, contig, position).ok_or(Refusal::ReferenceLetter)?;
+        return Ok(RefAt::Letter(Place::Reference(i)));
     }
-    let letter = find_letter(reference, rows, contig, position);
-    match letter {
-        LetterAt::At(i) => RefAt::Letter(Place::Reference(i)),
-        LetterAt::Absent => RefAt::Refused(11),
+    match reached_letter(s, rows, found, position) {
+        Some(i) => Ok(RefAt::Letter(Place::Cohort(i))),
+        None => Ok(RefAt::Letter(Place::Nowhere)),
     }
 }
 
@@ -338,22 +311,21 @@ pub fn determine_reference_allele(
     reference: &[u8],
     contig: &[u8],
     position: GenomePosition,
-) -> RefAt
+) -> Result<RefAt, Refusal>
     ensures { ref_answer s.now reference.now result
         ≡ merged_ref (only_if referenced (reference_segments reference.now rows.now))
         contig.now position.0 (sites_at s.now rows.now found.now) }
 {
-    let longest = longest_ref(s, rows, found, position);
-    let LongestAt::Site(site) = longest else {
+    let Some(site) = longest_ref(s, rows, found, position) else {
         return ref_letter(s, rows, found, referenced, reference, contig, position);
     };
     let from = tables::reference_allele_from(rows, site);
     let to = tables::reference_allele_to(rows, site);
     let bytes = tables::part(s, from, to);
     if refs_agree(s, rows, found, position, bytes) {
-        return RefAt::Allele(from, to);
+        return Ok(RefAt::Allele(from, to));
     }
-    RefAt::Refused(12)
+    Err(Refusal::RefConflict)
 }
 
 // The one byte at an offset of a text; none past its end.
@@ -387,13 +359,12 @@ fn part_or<'a>(part: &'a [u8], other: &'a [u8]) -> &'a [u8]
     part
 }
 
-// REF, as the part of the text that holds it; `unknown`, which callers lend as `N`, for a letter that stands nowhere; none if it is refused.
+// REF, as the part of the text that holds it; `unknown`, which callers lend as `N`, for a letter that stands nowhere.
 pub fn ref_bytes<'a>(s: &'a [u8], reference: &'a [u8], unknown: &'a [u8], at: RefAt) -> &'a [u8]
     ensures { result.now ≡ ref_or unknown.now s.now reference.now at }
 {
     match at {
         RefAt::Allele(from, to) => tables::part(s, from, to),
         RefAt::Letter(place) => part_or(letter(reference, s, place), unknown),
-        RefAt::Refused(_) => &s[..0],
     }
 }
