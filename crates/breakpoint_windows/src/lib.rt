@@ -16,7 +16,7 @@ ghost use Rattle.breakpoint_windows.specs.Breakpoints.{NextBreakpoints, RowInRan
 ghost use Rattle.breakpoint_windows.specs.Fillings.{Added, AddedRun, FromNone, Joinable, Ready, RoomMade, RunTaken, Settled, span_gives};
 
 use bio_ids::GenomeLoc;
-use clip_and_reference::SpanAt;
+use kv_text::Part;
 
 // ---- sorting and joining
 
@@ -32,6 +32,7 @@ fn join_places(places: &mut [u64]) -> usize
     }
     let mut last = places[0];
     let mut at = 0;
+    // By index: places in front of the one that is read are written.
     for k in 1..len {
         let x = places[k];
         let low = x % 4294967296;
@@ -124,10 +125,7 @@ fn later_of(past: u64, first: u64) -> u64
     requires { past < 18446744073709551615 }
     ensures { result ≡ cond (ltb past first) first (suc past) }
 {
-    if past < first {
-        return first;
-    }
-    past + 1
+    first.max(past + 1)
 }
 
 // A place with no change of depth for each position from `first` to before `behind`. Those before the window and behind it are not gone through.
@@ -169,10 +167,7 @@ struct Adding {
 fn follows(run: Run, first: u64) -> bool
     ensures { result ≡ leb run.first first && leb first run.behind }
 {
-    if first < run.first {
-        return false;
-    }
-    first <= run.behind
+    run.first <= first && first <= run.behind
 }
 
 // The same as add_positions, but positions of the run are passed over: blocks that meet and deletions that overlap give many again.
@@ -234,9 +229,8 @@ fn add_sites(rows: &[usize], sites: &[usize], past: u64, places: &mut [u64]) -> 
         taken: none,
         run: empty,
     };
-    for i in 0..sites.len() {
-        let site = sites[i];
-        adding = add_site(rows, site, past, places, adding);
+    for site in sites {
+        adding = add_site(rows, *site, past, places, adding);
     }
     adding.taken
 }
@@ -244,10 +238,10 @@ fn add_sites(rows: &[usize], sites: &[usize], past: u64, places: &mut [u64]) -> 
 // ---- the breakpoints of clip spans
 
 // Whether a part of the clip text is the contig's name.
-fn is_on(clip: &[u8], at: usize, end: usize, contig: &[u8]) -> bool
-    ensures { result ≡ same_bytes contig.now (between clip.now at end) }
+fn is_on(clip: &[u8], place: Part, contig: &[u8]) -> bool
+    ensures { result ≡ same_bytes contig.now (between clip.now place.at place.end) }
 {
-    let name = tables::part(clip, at, end);
+    let name = tables::part(clip, place.at, place.end);
     kv_text::same_bytes(contig, name)
 }
 
@@ -276,19 +270,12 @@ fn add_spans(clip: &[u8], contig: &[u8], past: u64, places: &mut [u64], taken: T
     let mut now = taken;
     let mut at = 0;
     while at < clip.len() {
-        let group = clip_and_reference::span_at(clip, at);
-        let SpanAt::Span {
-            contig_at,
-            contig_end,
-            loc,
-            next,
-        } = group
-        else {
+        let Some(group) = clip_and_reference::span_at(clip, at) else {
             return now;
         };
-        let on = is_on(clip, contig_at, contig_end, contig);
-        now = add_span(places, now, past, on, loc);
-        at = next;
+        let on = is_on(clip, group.contig, contig);
+        now = add_span(places, now, past, on, group.loc);
+        at = group.next;
     }
     now
 }
@@ -332,11 +319,5 @@ pub fn next_breakpoints(
 pub fn has_interval(clipped: bool, past: u64, depth: u64) -> bool
     ensures { result ≡ ltb 0 past && (not clipped || ltb 0 depth) }
 {
-    if past == 0 {
-        return false;
-    }
-    if !clipped {
-        return true;
-    }
-    0 < depth
+    0 < past && (!clipped || 0 < depth)
 }

@@ -10,8 +10,8 @@ ghost use Rattle.combined_list.specs.Contigs.{AllReady, ContigRoom, OneReady, al
 ghost use Rattle.combined_list.specs.WrittenList.{CallLoaded, ListReady, ListsFit, Measurement, list_to, list_within};
 ghost use Rattle.contig_walk.specs.Walk.{RecordsWalked};
 
-use answers::Outcome;
-use contig_walk::Walked;
+use answers::Refusal;
+use contig_walk::ListEnd;
 
 // The clip text, or an empty part of it if there is no clip.
 pub fn given_clip<'a>(clipped: bool, clip: &'a [u8]) -> &'a [u8]
@@ -43,7 +43,7 @@ fn walk_one<'a>(
     out: &mut [u8],
     at: usize,
     count: usize,
-) -> Walked
+) -> Result<ListEnd, Refusal>
     requires { OneReady s.now rows.now samples clipped clip.now referenced reference.now first order.now runs.now out.old at count × ContigRoom order.now chosen.old scratch.old held.old fresh.old alts.old }
     ensures { (ready : OneReady s.now rows.now samples clipped clip.now referenced reference.now first order.now runs.now out.old at count)
         → RecordsWalked (records_on ready.tables first) ready.d₀ ready.bytes ready.records out.new result }
@@ -77,30 +77,19 @@ pub fn walk_contigs<'a>(
     alts: &mut [u8],
     out: &mut [u8],
     at: usize,
-) -> Walked
+) -> Result<ListEnd, Refusal>
     requires { AllReady s.now rows.now samples clipped clip.now referenced reference.now contigs.now order.now runs.now out.old at × ContigRoom order.now chosen.old scratch.old held.old fresh.old alts.old }
     ensures { (ready : AllReady s.now rows.now samples clipped clip.now referenced reference.now contigs.now order.now runs.now out.old at)
         → RecordsWalked (all_records ready.tables) ready.d₀ ready.bytes 0 out.new result }
 {
-    let mut next = at;
-    let mut count = 0;
-    for c in 0..contigs.len() {
-        let first = contigs[c];
-        let walked = walk_one(
-            s, rows, samples, clipped, clip, referenced, reference, first, order, runs, chosen,
-            scratch, held, fresh, alts, out, next, count,
-        );
-        match walked {
-            Walked::Refused(row) => {
-                return Walked::Refused(row);
-            }
-            Walked::To(after, more) => {
-                next = after;
-                count = more;
-            }
-        }
+    let mut end = ListEnd { at, count: 0 };
+    for first in contigs {
+        end = walk_one(
+            s, rows, samples, clipped, clip, referenced, reference, *first, order, runs, chosen,
+            scratch, held, fresh, alts, out, end.at, end.count,
+        )?;
     }
-    Walked::To(next, count)
+    Ok(end)
 }
 
 // Lays the list that was measured, of so many bytes and records, from the beginning of a buffer on, as far as it fits.
@@ -157,7 +146,7 @@ fn write_measured<'a>(
     out: &mut [u8],
     len: usize,
     count: usize,
-) -> Outcome
+) -> Result<usize, Refusal>
     requires { Measurement s.now names.now rows.now samples clipped clip.now referenced reference.now contigs.now order.now runs.now len count × ContigRoom order.now chosen.old scratch.old held.old fresh.old alts.old }
     ensures { (m : Measurement s.now names.now rows.now samples clipped clip.now referenced reference.now contigs.now order.now runs.now len count)
         → Answered (within (length out.old) (list_to m)) out.old out.new result }
@@ -165,7 +154,7 @@ fn write_measured<'a>(
     let header = list_header::put_header(s, names, samples, count as u32, &mut out[..0]);
     let end = header + len;
     if out.len() < end {
-        return Outcome::Refused(14);
+        return Err(Refusal::Output);
     }
     write_list(
         s,
@@ -188,7 +177,7 @@ fn write_measured<'a>(
         len,
         count,
     );
-    Outcome::Written(end)
+    Ok(end)
 }
 
 // Writes the list of an input in order, from its contigs and its grouped sites: rows 11 to 14. The records are measured before
@@ -208,7 +197,7 @@ fn combine_contigs<'a>(
     chosen: &mut [usize],
     scratch: &mut [u64],
     out: &mut [u8],
-) -> Outcome
+) -> Result<usize, Refusal>
     requires { ListReady s.now names.now rows.now samples clipped clip.now referenced reference.now contigs.now order.now runs.now × (length order.now ≤ length chosen.old) × (2 ≤ length scratch.old) }
     ensures { (ready : ListReady s.now names.now rows.now samples clipped clip.now referenced reference.now contigs.now order.now runs.now)
         → Answered (list_within ready.tables.loaded 1 (length out.old)) out.old out.new result }
@@ -234,14 +223,28 @@ fn combine_contigs<'a>(
         &mut alts,
         &mut out[..0],
         0,
-    );
-    match measured {
-        Walked::Refused(row) => Outcome::Refused(row),
-        Walked::To(len, count) => write_measured(
-            s, names, rows, samples, clipped, clip, referenced, reference, contigs, order, runs,
-            chosen, scratch, &mut held, &mut fresh, &mut alts, out, len, count,
-        ),
-    }
+    )?;
+    write_measured(
+        s,
+        names,
+        rows,
+        samples,
+        clipped,
+        clip,
+        referenced,
+        reference,
+        contigs,
+        order,
+        runs,
+        chosen,
+        scratch,
+        &mut held,
+        &mut fresh,
+        &mut alts,
+        out,
+        measured.at,
+        measured.count,
+    )
 }
 
 // Writes the list of an input in order, from its tables, with places for a window of breakpoints: rows 11 to 14.
@@ -260,7 +263,7 @@ fn combine_in_windows<'a>(
     chosen: &mut [usize],
     scratch: &mut [u64],
     out: &mut [u8],
-) -> Outcome
+) -> Result<usize, Refusal>
     requires { CallLoaded s.now names.now rows.now samples sites clipped clip.now referenced reference.now × ListsFit sites order.old firsts.old chosen.old × (2 ≤ length scratch.old) }
     ensures { (call : CallLoaded s.now names.now rows.now samples sites clipped clip.now referenced reference.now)
         → Answered (list_within call.loaded 1 (length out.old)) out.old out.new result }
@@ -290,10 +293,7 @@ fn combine_in_windows<'a>(
 pub fn lacks_place(scratch: &[u64], sites: usize) -> bool
     ensures { result ≡ eqb (length scratch.now) 0 && ltb 0 sites }
 {
-    if scratch.len() != 0 {
-        return false;
-    }
-    0 < sites
+    scratch.is_empty() && 0 < sites
 }
 
 // Writes the list of an input in order, from its tables: rows 10 to 14. Reading has made sure of what it requires. `order`, `firsts`,
@@ -315,13 +315,13 @@ pub fn combine_loaded_gvcfs<'a>(
     chosen: &mut [usize],
     scratch: &mut [u64],
     out: &mut [u8],
-) -> Outcome
+) -> Result<usize, Refusal>
     requires { CallLoaded s.now names.now rows.now samples sites clipped clip.now referenced reference.now × ListsFit sites order.old firsts.old chosen.old }
     ensures { (call : CallLoaded s.now names.now rows.now samples sites clipped clip.now referenced reference.now)
         → Answered (list_within call.loaded (length scratch.old) (length out.old)) out.old out.new result }
 {
     if lacks_place(scratch, sites) {
-        return Outcome::Refused(10);
+        return Err(Refusal::Scratch);
     }
     if 1024 <= scratch.len() {
         return combine_in_windows(

@@ -23,18 +23,14 @@ fn count_place(clipped: bool, place: u64, along: Along) -> Along
 {
     let past = place / 4294967296;
     let depth = along.depth + place % 4294967296 - 2147483648;
-    let intervals = along.intervals;
-    if !breakpoint_windows::has_interval(clipped, along.past, along.depth) {
-        return Along {
-            past,
-            depth,
-            intervals,
-        };
+    let mut intervals = along.intervals;
+    if breakpoint_windows::has_interval(clipped, along.past, along.depth) {
+        intervals += 1;
     }
     Along {
         past,
         depth,
-        intervals: intervals + 1,
+        intervals,
     }
 }
 
@@ -45,9 +41,8 @@ fn count_window(clipped: bool, places: &[u64], start: Along) -> Along
         → CountedTo ready.input ready.contig (contig_window_end ready.input ready.contig start.past ready.window.limit) result }
 {
     let mut along = start;
-    for k in 0..places.len() {
-        let place = places[k];
-        along = count_place(clipped, place, along);
+    for place in places {
+        along = count_place(clipped, *place, along);
     }
     along
 }
@@ -70,16 +65,16 @@ fn count_intervals(
         depth: 0,
         intervals: 0,
     };
-    let mut more = true;
-    while more {
+    loop {
         let window = breakpoint_windows::next_breakpoints(
             rows, sites, clip, contig, along.past, scratch,
         );
         let stored = window.count;
         along = count_window(clipped, &scratch[..stored], along);
-        more = window.more;
+        if !window.more {
+            return along.intervals;
+        }
     }
-    along.intervals
 }
 
 // The looks of a contig. `sites` are the numbers of its sites, and an empty clip text is no clip. `scratch` holds a window of the

@@ -5,7 +5,9 @@ use mathlib.Core.List.{List, ◌++◌, flat_map, map}
 use Rattle.std.proofs.Math.Option.{Option}
 use Rattle.coalescing.specs.Held.{Holds, PendingFits}
 use Rattle.coalescing.specs.Steps.{Progress}
-use Rattle.coalescing.specs.declared.Pending.{Pending}
+use Rattle.answers.specs.Answered.{row_of}
+use Rattle.answers.specs.declared.Refusal.{Refusal}
+use Rattle.coalescing.specs.declared.PendingBlock.{PendingBlock}
 use Rattle.coalescing.specs.declared.Stepped.{Stepped}
 use Rattle.covering_sites.specs.Ended.{Ended}
 use Rattle.definitions.specs.Alleles.{capital}
@@ -27,8 +29,7 @@ use Rattle.record_laws.proofs.Walking.{with_interval}
 use Rattle.record_laws.specs.Pending.{finish}
 use Rattle.tables.specs.Tables.{column}
 use Rattle.contig_walk.specs.Walk.{Begun}
-use Rattle.contig_walk.specs.declared.Turned.{Turned}
-use Rattle.contig_walk.specs.declared.Turned.TheVariants as turned
+use Rattle.std.specs.Prelude as std
 
 -- the row of each sample's own site among those found; a number past the table for none
 abbrev pub own_of : List ℕ → List ℕ → List ℕ
@@ -36,7 +37,7 @@ own_of rows found = own_rows (found_list found (map (column 0 rows) found)) 0 (r
 
 -- the record was found, with REF as a text spells it, its interval is sound, and what is held back can be laid
 pub record LayReady (s rows : List ℕ) (samples : ℕ) (contig : List ℕ) (first last : ℕ) (allele : List ℕ) (number : ℕ) (own alts : List ℕ)
-    (pending : Pending) (held fresh : List ℕ) (at : ℕ) : Type 0 where
+    (pending : std.Option PendingBlock) (held fresh : List ℕ) (at : ℕ) : Type 0 where
   pub referenced : Bool
   pub reference : List ℕ
   pub on : OnContig s rows samples referenced reference contig
@@ -53,7 +54,7 @@ pub record LayReady (s rows : List ℕ) (samples : ℕ) (contig : List ℕ) (fir
   pub fresh_room : 8192 ≤ length fresh
 
 module _ {s rows : List ℕ} {samples : ℕ} {contig : List ℕ} {first last : ℕ} {allele : List ℕ} {number : ℕ} {own alts : List ℕ}
-    {pending : Pending} {held fresh : List ℕ} {at : ℕ} where
+    {pending : std.Option PendingBlock} {held fresh : List ℕ} {at : ℕ} where
   -- the record
   abbrev pub laid_record : LayReady s rows samples contig first last allele number own alts pending held fresh at → Record
   laid_record r = record {
@@ -65,7 +66,7 @@ module _ {s rows : List ℕ} {samples : ℕ} {contig : List ℕ} {first last : �
   }
 
 -- what is laid and what waits: a list was begun, and this record is held back
-pub record Underway (samples : ℕ) (contig held : List ℕ) (pending : Pending) (out : List ℕ) (at count : ℕ) : Type 0 where
+pub record Underway (samples : ℕ) (contig held : List ℕ) (pending : std.Option PendingBlock) (out : List ℕ) (at count : ℕ) : Type 0 where
   pub begun : Begun out at count
   pub waiting : Option Record
   pub holds : Holds samples contig held pending waiting
@@ -78,7 +79,7 @@ pub record TurnRoom (samples : ℕ) (held fresh found owners alts : List ℕ) : 
 
 -- what a turn of the walk is lent: the contig, an interval in the clip that is sound if it has a record, where the searches begin, and what is held back
 pub record TurnReady (s rows : List ℕ) (samples : ℕ) (referenced : Bool) (reference contig chosen from bounds : List ℕ)
-    (first last : ℕ) (pending : Pending) (held fresh found owners alts : List ℕ) (at : ℕ) : Type 0 where
+    (first last : ℕ) (pending : std.Option PendingBlock) (held fresh found owners alts : List ℕ) (at : ℕ) : Type 0 where
   pub runs : ContigRuns s rows samples referenced reference contig chosen bounds
   pub inside : in_clip contig runs.on.loaded.input.clip (record { first = first; last = last }) ≡ true
   pub sound : 0 < length (covering_sites runs.on.loaded.input.cohort contig first) → SoundInterval (record { first = first; last = last })
@@ -103,8 +104,8 @@ pub record TurnRefused (x : Input) (contig out : List ℕ) (first last : ℕ) (w
   pub refuses : (done : List Record) (later : Checked (List Record))
       → finish done waiting (with_interval x contig (record { first = first; last = last }) later) ≡ refused row
 
-unfoldable pub Turns : Input → ℕ → List ℕ → List ℕ → List ℕ → ℕ → ℕ → Option Record → List ℕ → List ℕ → ℕ → Turned → Type 0
-Turns x samples contig held out first last waiting d₀ bytes records (turned.To step) =
+unfoldable pub Turns : Input → ℕ → List ℕ → List ℕ → List ℕ → ℕ → ℕ → Option Record → List ℕ → List ℕ → ℕ → std.Result Stepped Refusal → Type 0
+Turns x samples contig held out first last waiting d₀ bytes records (std.Ok step) =
     TurnTo x samples contig held out first last waiting d₀ bytes records step
-Turns x samples contig held out first last waiting d₀ bytes records (turned.Refused row) =
-    TurnRefused x contig out first last waiting d₀ bytes row
+Turns x samples contig held out first last waiting d₀ bytes records (std.Err refusal) =
+    TurnRefused x contig out first last waiting d₀ bytes (row_of refusal)

@@ -1,5 +1,5 @@
 -- What walking over the intervals of a contig finds and lays.
-use Rattle.std.specs.Prelude.{◌+◌, ◌≤◌, ℕ, length, Bool, true, ◌≡◌}
+use Rattle.std.specs.Prelude.{◌+◌, ◌≤◌, ℕ, length, Bool, true, Result, Ok, Err, ◌≡◌}
 use Rattle.std.proofs.lemmas.List.Edits.{sets}
 use mathlib.Core.List.{List, ◌++◌, flat_map}
 use Rattle.clip_and_reference.specs.Groups.{SpansFrom}
@@ -11,8 +11,9 @@ use Rattle.definitions.specs.Lists.{only_if}
 use Rattle.definitions.specs.Printed.{printed_record}
 use Rattle.definitions.specs.Records.{Record}
 use Rattle.coalescing.specs.Steps.{Progress}
-use Rattle.contig_walk.specs.declared.Walked.{Walked}
-use Rattle.contig_walk.specs.declared.Walked.TheVariants as walked
+use Rattle.answers.specs.Answered.{row_of}
+use Rattle.answers.specs.declared.Refusal.{Refusal}
+use Rattle.contig_walk.specs.declared.ListEnd.{ListEnd}
 
 -- the clip text, if it is there, is not too long and holds the input's clip
 pub record ClipGiven (clipped : Bool) (clip : List ℕ) (x : Input) : Type 0 where
@@ -46,6 +47,6 @@ pub record RecordsRefused (records : Checked (List Record)) (d₀ bytes out : Li
   pub list : List Record
   pub laid : out ≡ sets d₀ 0 (bytes ++ flat_map printed_record list)
 
-unfoldable pub RecordsWalked : Checked (List Record) → List ℕ → List ℕ → ℕ → List ℕ → Walked → Type 0
-RecordsWalked records d₀ bytes before out (walked.To at count) = RecordsLaid records d₀ bytes before out at count
-RecordsWalked records d₀ bytes before out (walked.Refused row) = RecordsRefused records d₀ bytes out row
+unfoldable pub RecordsWalked : Checked (List Record) → List ℕ → List ℕ → ℕ → List ℕ → Result ListEnd Refusal → Type 0
+RecordsWalked records d₀ bytes before out (Ok end) = RecordsLaid records d₀ bytes before out end.at end.count
+RecordsWalked records d₀ bytes before out (Err refusal) = RecordsRefused records d₀ bytes out (row_of refusal)

@@ -8,15 +8,15 @@ ghost use Rattle.definitions.specs.Alleles.{capital, is_block};
 ghost use Rattle.record_lines.specs.Records.{RecordFits, record_bytes};
 ghost use Rattle.contig_walk.specs.Laying.{LayReady, TurnReady, Turns, Underway, laid_record};
 
+use answers::Refusal;
 use bio_ids::{GenomeLoc, GenomePosition};
-use coalescing::{Pending, Stepped};
-use merged_records::RecordAt;
+use coalescing::{PendingBlock, Stepped};
 
-// Where the list goes on and how many records it has so far; or the row that refuses it.
+// Where the list goes on and how many records it has so far.
 #[derive(Clone, Copy)]
-pub enum Walked {
-    To(usize, usize),
-    Refused(usize),
+pub struct ListEnd {
+    pub at: usize,
+    pub count: usize,
 }
 
 // The next record is a block: its samples' lines are laid aside, and it joins the one that is held back or is held itself.
@@ -30,7 +30,7 @@ fn lay_block(
     number: usize,
     own: &[usize],
     alts: &[u8],
-    pending: Pending,
+    pending: Option<PendingBlock>,
     held: &mut [u8],
     fresh: &mut [u8],
     out: &mut [u8],
@@ -49,11 +49,11 @@ fn lay_block(
         s, rows, samples, own, loc.start, allele, alts, fresh, 0,
     );
     let letter = allele[0];
-    let base = kv_text::capital(letter);
+    let capital = kv_text::capital(letter);
     coalescing::coalesce_homref_blocks(
         contig,
         loc,
-        base,
+        capital,
         &fresh[..len],
         pending,
         held,
@@ -67,10 +67,7 @@ fn lay_block(
 fn is_homref_nonref_only(allele: &[u8], number: usize) -> bool
     ensures { result ≡ (eqb number 1 && eqb (length allele.now) 1) }
 {
-    if number != 1 {
-        return false;
-    }
-    allele.len() == 1
+    number == 1 && allele.len() == 1
 }
 
 // Lays a record that is no block behind those that are laid.
@@ -97,7 +94,7 @@ fn lay_behind(
         s, rows, samples, contig, position, allele, own, alts, out, at,
     );
     Stepped {
-        pending: Pending::Nothing,
+        pending: None,
         at: list_header::cap(end),
         count: list_header::count_more(count),
     }
@@ -114,7 +111,7 @@ fn lay_record(
     number: usize,
     own: &[usize],
     alts: &[u8],
-    pending: Pending,
+    pending: Option<PendingBlock>,
     held: &mut [u8],
     fresh: &mut [u8],
     out: &mut [u8],
@@ -150,14 +147,7 @@ fn lay_record(
     )
 }
 
-// What a turn of the walk leaves; or the row that refuses the interval's record.
-#[derive(Clone, Copy)]
-pub enum Turned {
-    To(Stepped),
-    Refused(usize),
-}
-
-// Lays the record of an interval that lies in the clip, if sites cover it.
+// Lays the record of an interval that lies in the clip, if sites cover it: rows 11 to 13.
 pub fn walk_interval<'a>(
     s: &'a [u8],
     rows: &[usize],
@@ -169,7 +159,7 @@ pub fn walk_interval<'a>(
     from: &[usize],
     bounds: &[usize],
     loc: GenomeLoc,
-    pending: Pending,
+    pending: Option<PendingBlock>,
     held: &mut [u8],
     fresh: &mut [u8],
     found: &mut [usize],
@@ -178,7 +168,7 @@ pub fn walk_interval<'a>(
     out: &mut [u8],
     at: usize,
     count: usize,
-) -> Turned
+) -> Result<Stepped, Refusal>
     requires { TurnReady s.now rows.now samples referenced reference.now contig.now chosen.now from.now bounds.now loc.start.0 loc.end.0 pending held.old fresh.old found.old owners.old alts.old at
         × Underway samples contig.now held.old pending out.old at count }
     ensures { (ready : TurnReady s.now rows.now samples referenced reference.now contig.now chosen.now from.now bounds.now loc.start.0 loc.end.0 pending held.old fresh.old found.old owners.old alts.old at)
@@ -186,24 +176,34 @@ pub fn walk_interval<'a>(
         → Turns ready.runs.on.loaded.input samples contig.now held.new out.new loc.start.0 loc.end.0
         way.waiting way.begun.d₀ way.begun.bytes way.begun.records result }
 {
-    let same = Stepped { pending, at, count };
     let here = merged_records::merge_reference_confidence(
         s, rows, samples, referenced, reference, contig, chosen, from, bounds, loc.start, found,
         owners, alts,
+    )?;
+    let Some(record) = here else {
+        return Ok(Stepped { pending, at, count });
+    };
+    let n = record.sites;
+    let mut own = [rows.len(); 64];
+    found_sites::own_sites(&found[..n], &owners[..n], &mut own);
+    let text = tables::part(alts, 0, record.alts.len);
+    let allele = merged_ref::ref_bytes(s, reference, b"N", record.reference);
+    let step = lay_record(
+        s,
+        rows,
+        samples,
+        contig,
+        loc,
+        allele,
+        record.alts.count,
+        &own,
+        text,
+        pending,
+        held,
+        fresh,
+        out,
+        at,
+        count,
     );
-    match here {
-        RecordAt::NoSites => Turned::To(same),
-        RecordAt::Refused(row) => Turned::Refused(row),
-        RecordAt::Record(n, place, len, number) => {
-            let mut own = [rows.len(); 64];
-            found_sites::own_sites(&found[..n], &owners[..n], &mut own);
-            let text = tables::part(alts, 0, len);
-            let allele = merged_ref::ref_bytes(s, reference, b"N", place);
-            let step = lay_record(
-                s, rows, samples, contig, loc, allele, number, &own, text, pending, held, fresh,
-                out, at, count,
-            );
-            Turned::To(step)
-        }
-    }
+    Ok(step)
 }

@@ -16,10 +16,8 @@ pub fn put_header(s: &[u8], names: &[usize], samples: usize, records: u32, out: 
         out.new result }
 {
     let mut next = kv_write::put_number_line(out, 0, b"samples=", samples as u32);
-    for i in 0..samples {
-        let from = names[2 * i];
-        let to = names[2 * i + 1];
-        let name = tables::part(s, from, to);
+    for pair in names[..2 * samples].chunks_exact(2) {
+        let name = tables::part(s, pair[0], pair[1]);
         next = kv_write::put_line(out, next, b"sample=", name);
     }
     kv_write::put_number_line(out, next, b"records=", records)
@@ -29,18 +27,12 @@ pub fn put_header(s: &[u8], names: &[usize], samples: usize, records: u32, out: 
 pub fn cap(at: usize) -> usize
     ensures { result ≡ min limit at }
 {
-    if at < 9223372036854775808 {
-        return at;
-    }
-    9223372036854775808
+    at.min(9223372036854775808)
 }
 
 // One more record, held at the greatest u32.
 pub fn count_more(count: usize) -> usize
     ensures { result ≡ min most_count (count + 1) }
 {
-    if count < 4294967295 {
-        return count + 1;
-    }
-    4294967295
+    count.saturating_add(1).min(4294967295)
 }

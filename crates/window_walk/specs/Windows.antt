@@ -1,5 +1,5 @@
 -- What walking over a contig's breakpoints, a window at a time, is lent and leaves.
-use Rattle.std.specs.Prelude.{◌+◌, ℕ, get_or, length, take, Bool, ◌≡◌}
+use Rattle.std.specs.Prelude.{◌+◌, ℕ, get_or, length, take, Bool, Result, Ok, Err, ◌≡◌}
 use mathlib.Core.List.{List, ◌++◌, flat_map}
 use Rattle.std.proofs.Math.Option.{Option}
 use Rattle.breakpoint_windows.specs.Contig.{ContigBreakpoints, ContigWindow}
@@ -17,8 +17,8 @@ use Rattle.merged_records.specs.Loaded.{ContigRuns}
 use Rattle.record_laws.proofs.Walking.{records_past}
 use Rattle.record_laws.specs.Pending.{finish, merged_contig}
 use Rattle.window_walk.specs.declared.Along.{Along}
-use Rattle.window_walk.specs.declared.Reached.{Reached}
-use Rattle.window_walk.specs.declared.Reached.TheVariants as reached
+use Rattle.answers.specs.Answered.{row_of}
+use Rattle.answers.specs.declared.Refusal.{Refusal}
 
 -- The walk has come to a breakpoint: these records are laid behind the bytes, this one is held back, and what is left from there on gives
 -- the rest of the contig's records. The depth is how many clip spans cover it.
@@ -45,11 +45,12 @@ pub record CarriedTo (x : Input) (rows : List ℕ) (samples : ℕ) (contig chose
   pub ended : Ended rows chosen bounds from samples along.past
 
 -- so it has; or a row refuses the contig's records
-unfoldable pub WalkedTo : Input → List ℕ → ℕ → List ℕ → List ℕ → List ℕ → List ℕ → List ℕ → List ℕ → ℕ → List ℕ → List ℕ → ℕ → Reached → Type 0
-WalkedTo x rows samples contig chosen bounds from d₀ bytes records held out to (reached.To along) =
+unfoldable pub WalkedTo : Input → List ℕ → ℕ → List ℕ → List ℕ → List ℕ → List ℕ → List ℕ → List ℕ → ℕ → List ℕ → List ℕ → ℕ
+    → Result Along Refusal → Type 0
+WalkedTo x rows samples contig chosen bounds from d₀ bytes records held out to (Ok along) =
     CarriedTo x rows samples contig chosen bounds from d₀ bytes records held out to along
-WalkedTo x rows samples contig chosen bounds from d₀ bytes records held out to (reached.Refused row) =
-    RecordsRefused (merged_contig x contig) d₀ bytes out row
+WalkedTo x rows samples contig chosen bounds from d₀ bytes records held out to (Err refusal) =
+    RecordsRefused (merged_contig x contig) d₀ bytes out (row_of refusal)
 
 -- what going through a window past a position is lent: its places, where the searches begin, and room
 pub record WindowReady (s rows : List ℕ) (samples : ℕ) (clipped referenced : Bool) (reference contig chosen from bounds places : List ℕ) (past : ℕ)

@@ -7,9 +7,10 @@ ghost use Rattle.contig_walk.specs.Walk.{Begun, RecordsWalked, WalkRoom};
 ghost use Rattle.record_laws.specs.Pending.{merged_contig};
 ghost use Rattle.window_walk.specs.Windows.{Carrying, WalkedTo, WindowReady, WindowsReady};
 
+use answers::Refusal;
 use bio_ids::{GenomeLoc, GenomePosition};
-use coalescing::{Pending, Stepped};
-use contig_walk::{Turned, Walked};
+use coalescing::Stepped;
+use contig_walk::ListEnd;
 
 // How far the walk has come: the last breakpoint, 0 before the first; how many clip spans cover it; what is laid and what is held back.
 #[derive(Clone, Copy)]
@@ -19,14 +20,7 @@ struct Along {
     state: Stepped,
 }
 
-// How far it has come; or the row that refuses an interval's record.
-#[derive(Clone, Copy)]
-enum Reached {
-    To(Along),
-    Refused(usize),
-}
-
-// Goes on to the next breakpoint: lays the record of the interval before it, if that lies in the clip and sites cover it.
+// Goes on to the next breakpoint: lays the record of the interval before it, if that lies in the clip and sites cover it. A row may refuse it.
 fn walk_place<'a>(
     s: &'a [u8],
     rows: &[usize],
@@ -46,7 +40,7 @@ fn walk_place<'a>(
     owners: &mut [usize],
     alts: &mut [u8],
     out: &mut [u8],
-) -> Reached
+) -> Result<Along, Refusal>
     requires { (rest : List ℕ) × (ready : WindowReady s.now rows.now samples clipped referenced reference.now contig.now chosen.now from.old bounds.now (place ∷ rest) along.past held.old fresh.old found.old owners.old alts.old)
         × Carrying ready.runs.on.loaded.input samples contig.now held.old out.old along }
     ensures { (rest : List ℕ) (ready : WindowReady s.now rows.now samples clipped referenced reference.now contig.now chosen.now from.old bounds.now (place ∷ rest) along.past held.old fresh.old found.old owners.old alts.old)
@@ -58,7 +52,7 @@ fn walk_place<'a>(
     let state = along.state;
     let depth = along.depth + place % 4294967296 - 2147483648;
     if !breakpoint_windows::has_interval(clipped, past, along.depth) {
-        return Reached::To(Along {
+        return Ok(Along {
             past: position,
             depth,
             state,
@@ -68,8 +62,7 @@ fn walk_place<'a>(
     let last = GenomePosition::new_1based(position - 1);
     let loc = GenomeLoc::new(first, last);
     covering_sites::skip_ended(rows, chosen, bounds, samples, loc.start, from);
-    let pending = state.pending;
-    let turn = contig_walk::walk_interval(
+    let step = contig_walk::walk_interval(
         s,
         rows,
         samples,
@@ -80,7 +73,7 @@ fn walk_place<'a>(
         from,
         bounds,
         loc,
-        pending,
+        state.pending,
         held,
         fresh,
         found,
@@ -89,15 +82,12 @@ fn walk_place<'a>(
         out,
         state.at,
         state.count,
-    );
-    match turn {
-        Turned::Refused(row) => Reached::Refused(row),
-        Turned::To(step) => Reached::To(Along {
-            past: position,
-            depth,
-            state: step,
-        }),
-    }
+    )?;
+    Ok(Along {
+        past: position,
+        depth,
+        state: step,
+    })
 }
 
 // Goes through the breakpoints of a window.
@@ -120,7 +110,7 @@ fn walk_window<'a>(
     owners: &mut [usize],
     alts: &mut [u8],
     out: &mut [u8],
-) -> Reached
+) -> Result<Along, Refusal>
     requires { (ready : WindowReady s.now rows.now samples clipped referenced reference.now contig.now chosen.now from.old bounds.now places.now start.past held.old fresh.old found.old owners.old alts.old)
         × Carrying ready.runs.on.loaded.input samples contig.now held.old out.old start }
     ensures { (ready : WindowReady s.now rows.now samples clipped referenced reference.now contig.now chosen.now from.old bounds.now places.now start.past held.old fresh.old found.old owners.old alts.old)
@@ -129,22 +119,13 @@ fn walk_window<'a>(
         (contig_window_end ready.runs.on.loaded.input contig.now start.past ready.window.limit) result }
 {
     let mut along = start;
-    for k in 0..places.len() {
-        let place = places[k];
-        let turn = walk_place(
-            s, rows, samples, clipped, referenced, reference, contig, chosen, from, bounds, place,
+    for place in places {
+        along = walk_place(
+            s, rows, samples, clipped, referenced, reference, contig, chosen, from, bounds, *place,
             along, held, fresh, found, owners, alts, out,
-        );
-        match turn {
-            Reached::Refused(row) => {
-                return Reached::Refused(row);
-            }
-            Reached::To(next) => {
-                along = next;
-            }
-        }
+        )?;
     }
-    Reached::To(along)
+    Ok(along)
 }
 
 // Lays the records of a contig behind those before it, as far as they fit: rows 11 to 13. `chosen` has its sites in runs, and an empty
@@ -168,7 +149,7 @@ pub fn walk_windows<'a>(
     out: &mut [u8],
     at: usize,
     count: usize,
-) -> Walked
+) -> Result<ListEnd, Refusal>
     requires { WindowsReady s.now rows.now samples clipped clip.now referenced reference.now contig.now chosen.now bounds.now × Begun out.old at count × WalkRoom held.old fresh.old alts.old × (2 ≤ length scratch.old) }
     ensures { (ready : WindowsReady s.now rows.now samples clipped clip.now referenced reference.now contig.now chosen.now bounds.now)
         (begun : Begun out.old at count)
@@ -180,7 +161,7 @@ pub fn walk_windows<'a>(
     covering_sites::start_search(bounds, samples, &mut from);
     let end = bounds[samples];
     let state = Stepped {
-        pending: Pending::Nothing,
+        pending: None,
         at,
         count,
     };
@@ -189,8 +170,7 @@ pub fn walk_windows<'a>(
         depth: 0,
         state,
     };
-    let mut more = true;
-    while more {
+    loop {
         let window = breakpoint_windows::next_breakpoints(
             rows,
             &chosen[..end],
@@ -200,7 +180,7 @@ pub fn walk_windows<'a>(
             scratch,
         );
         let stored = window.count;
-        let turn = walk_window(
+        along = walk_window(
             s,
             rows,
             samples,
@@ -219,20 +199,15 @@ pub fn walk_windows<'a>(
             &mut owners,
             alts,
             out,
-        );
-        match turn {
-            Reached::Refused(row) => {
-                return Walked::Refused(row);
-            }
-            Reached::To(next) => {
-                along = next;
-                more = window.more;
-            }
+        )?;
+        if !window.more {
+            break;
         }
     }
     let last = along.state;
-    let pending = last.pending;
-    let next = coalescing::put_pending(contig, held, pending, out, last.at);
-    let total = coalescing::count_pending(last.count, pending);
-    Walked::To(list_header::cap(next), total)
+    let next = coalescing::put_pending(contig, held, last.pending, out, last.at);
+    Ok(ListEnd {
+        at: list_header::cap(next),
+        count: coalescing::count_pending(last.count, last.pending),
+    })
 }
