@@ -9,8 +9,6 @@ ghost use Rattle.definitions.specs.Lists.{all_distinct, all_of, any_of, is_there
 ghost use Rattle.laws.proofs.Capitals.{same_letters};
 ghost use Rattle.alleles.specs.Alleles.{AllelesFound};
 
-use kv_text::AlleleRead;
-
 // Whether an allele is `<NON_REF>`.
 pub fn is_non_ref(allele: &[u8]) -> bool
     ensures { result ≡ same_bytes allele.now (text "<NON_REF>") }
@@ -79,13 +77,7 @@ pub fn distinct_fields(list: &[u8]) -> bool
 fn is_allele(field: &[u8], most: usize) -> bool
     ensures { result ≡ is_there (allele_of most field.now) }
 {
-    let allele = kv_text::read_allele(field, most);
-    match allele {
-        AlleleRead::Letters => true,
-        AlleleRead::SpanDel => true,
-        AlleleRead::NonRef => true,
-        AlleleRead::Fault => false,
-    }
+    kv_text::read_allele(field, most).is_some()
 }
 
 // Whether every field of a list does.
@@ -105,32 +97,40 @@ fn are_alleles(list: &[u8], most: usize) -> bool
     }
 }
 
-// How many alleles a REF and its ALTs are, and whether `<NON_REF>` is there; or a fault in them.
+// How many alleles a REF and its ALTs are, and whether `<NON_REF>` is there.
 #[derive(Clone, Copy)]
-pub enum AllelesRead {
-    Alleles(usize, bool),
-    Fault,
+pub struct CheckedAlleles {
+    pub count: usize,
+    pub has_non_ref: bool,
 }
 
 // Row 5 for alleles of at most `most` letters, at most `count` of them. They are counted before they are compared.
-pub fn check_alleles(reference: &[u8], alts: &[u8], most: usize, count: usize) -> AllelesRead
+pub fn check_alleles(
+    reference: &[u8],
+    alts: &[u8],
+    most: usize,
+    count: usize,
+) -> Option<CheckedAlleles>
     ensures { AllelesFound most count reference.now alts.now result }
 {
     let n = kv_text::count_fields(alts, b',');
     if count <= n {
-        return AllelesRead::Fault;
+        return None;
     }
     if !kv_text::is_letters(reference, most) {
-        return AllelesRead::Fault;
+        return None;
     }
     if !are_alleles(alts, most) {
-        return AllelesRead::Fault;
+        return None;
     }
     if among_alleles(reference, alts) {
-        return AllelesRead::Fault;
+        return None;
     }
     if !distinct_fields(alts) {
-        return AllelesRead::Fault;
+        return None;
     }
-    AllelesRead::Alleles(n + 1, among_fields(b"<NON_REF>", alts))
+    Some(CheckedAlleles {
+        count: n + 1,
+        has_non_ref: among_fields(b"<NON_REF>", alts),
+    })
 }

@@ -1,5 +1,7 @@
 -- What reading the pairs of a text finds.
 use Rattle.std.specs.Prelude.{◌<◌, ◌≤◌, ℕ, ltb, drop, length, take, ◌&&◌, List, ◌≡◌}
+use Rattle.answers.specs.Answered.{row_of}
+use Rattle.answers.specs.declared.Refusal.{Refusal}
 use Rattle.bio_ids.specs.declared.GenomePosition.{GenomePosition}
 use Rattle.definitions.specs.Checked.{Checked, ◌>>◌, accepted, refused, require}
 use Rattle.definitions.specs.Lines.{Line, lines_of}
@@ -7,10 +9,7 @@ use Rattle.definitions.specs.LookUp.{Place, follows, max_places, place_of, place
 use Rattle.kv_text.specs.Fields.{between}
 use Rattle.kv_text.specs.Lines.{Behind}
 use Rattle.asked_places.specs.declared.Pair.{Pair}
-use Rattle.asked_places.specs.declared.PairAt.{PairAt}
-use Rattle.asked_places.specs.declared.PairAt.TheVariants as pair
-use Rattle.asked_places.specs.declared.PairsCounted.{PairsCounted}
-use Rattle.asked_places.specs.declared.PairsCounted.TheVariants as counted
+use Rattle.std.specs.Prelude as std
 
 -- the place of a contig and a position
 abbrev pub place_with : List ℕ → GenomePosition → Place
@@ -18,7 +17,7 @@ place_with contig position = record { contig = contig; position = position.0 }
 
 -- the place that a pair of a text asks for
 abbrev pub place_in : List ℕ → Pair → Place
-place_in s p = place_with (between s p.at p.end) p.position
+place_in s p = place_with (between s p.contig.at p.contig.end) p.position
 
 -- the lines of the pair at an offset
 abbrev pub pair_lines : List ℕ → ℕ → List Line
@@ -35,9 +34,9 @@ pub record PairTo (s : List ℕ) (at : ℕ) (p : Pair) : Type 0 where
   pub forward : at < p.next
   pub within : p.next ≤ length s
 
-unfoldable pub PairRead : List ℕ → ℕ → PairAt → Type 0
-PairRead s at (pair.Pair p) = PairTo s at p
-PairRead s at pair.Wrong = (before : List Place) → place_of before (pair_lines s at) ≡ refused 1
+unfoldable pub PairRead : List ℕ → ℕ → std.Option Pair → Type 0
+PairRead s at (std.Some p) = PairTo s at p
+PairRead s at std.None = (before : List Place) → place_of before (pair_lines s at) ≡ refused 1
 
 -- the text asks for so many places
 pub record PlacesTo (s : List ℕ) (count : ℕ) : Type 0 where
@@ -45,6 +44,6 @@ pub record PlacesTo (s : List ℕ) (count : ℕ) : Type 0 where
   pub value : places_of s ≡ accepted places
   pub counted : count ≡ length places
 
-unfoldable pub PlacesRead : List ℕ → PairsCounted → Type 0
-PlacesRead s (counted.Pairs n) = PlacesTo s n
-PlacesRead s (counted.Refused row) = places_of s ≡ refused row
+unfoldable pub PlacesRead : List ℕ → std.Result ℕ Refusal → Type 0
+PlacesRead s (std.Ok n) = PlacesTo s n
+PlacesRead s (std.Err r) = places_of s ≡ refused (row_of r)

@@ -5,43 +5,30 @@ ghost use Rattle.std.specs.Prelude.{◌≡◌};
 ghost use Rattle.definitions.specs.LookUp.{not_after};
 ghost use Rattle.asked_places.specs.Asked.{PairRead, PlacesRead, place_with};
 
+use answers::Refusal;
 use bio_ids::GenomePosition;
-use kv_text::{NumberAt, Order, ValueAt};
+use kv_text::Part;
+use std::cmp::Ordering;
 
 // A pair: where its contig stands, its position, and where the next pair begins.
 #[derive(Clone, Copy)]
 pub struct Pair {
-    pub at: usize,
-    pub end: usize,
+    pub contig: Part,
     pub position: GenomePosition,
     pub next: usize,
 }
 
-#[derive(Clone, Copy)]
-pub enum PairAt {
-    Pair(Pair),
-    Wrong,
-}
-
 // The pair at an offset.
-pub fn pair_at(s: &[u8], at: usize) -> PairAt
+pub fn pair_at(s: &[u8], at: usize) -> Option<Pair>
     ensures { PairRead s.now at result }
 {
-    let name = kv_text::name_line(s, at, b"contig=");
-    let ValueAt::At(begin, end) = name else {
-        return PairAt::Wrong;
-    };
-    let number = kv_text::number_line(s, end + 1, b"pos=");
-    let NumberAt::Found(pos, last) = number else {
-        return PairAt::Wrong;
-    };
-    let next = last + 1;
-    let position = GenomePosition::new_1based(pos as u64);
-    PairAt::Pair(Pair {
-        at: begin,
-        end,
+    let contig = kv_text::name_line(s, at, b"contig=")?;
+    let (number, end) = kv_text::number_line(s, contig.end + 1, b"pos=")?;
+    let position = GenomePosition::new_1based(number as u64);
+    Some(Pair {
+        contig,
         position,
-        next,
+        next: end + 1,
     })
 }
 
@@ -54,49 +41,39 @@ pub fn not_after(
 ) -> bool
     ensures { result ≡ not_after (place_with contig.now position) (place_with other.now last) }
 {
-    let order = kv_text::compare_bytes(contig, other);
-    match order {
-        Order::Less => true,
-        Order::Same => position.get() <= last.get(),
-        Order::Greater => false,
+    match kv_text::compare_bytes(contig, other) {
+        Ordering::Less => true,
+        Ordering::Equal => position.get() <= last.get(),
+        Ordering::Greater => false,
     }
 }
 
-// How many pairs a text has; or the row that refuses it, 1 or 18.
-#[derive(Clone, Copy)]
-pub enum PairsCounted {
-    Pairs(usize),
-    Refused(usize),
-}
-
-// The first pair is compared with the empty name at 0, after which every pair stands.
-pub fn count_pairs(s: &[u8]) -> PairsCounted
+// How many pairs a text has; or why it is refused: row 1 or 18. The first pair is compared with the empty name at 0, after which every pair
+// stands.
+pub fn count_pairs(s: &[u8]) -> Result<usize, Refusal>
     ensures { PlacesRead s.now result }
 {
     let mut at = 0;
     let mut count = 0;
-    let mut begin = 0;
-    let mut end = 0;
+    let mut last = Part { at: 0, end: 0 };
     let mut position = GenomePosition::new_1based(0);
     while at < s.len() {
-        let found = pair_at(s, at);
-        let PairAt::Pair(pair) = found else {
-            return PairsCounted::Refused(1);
+        let Some(pair) = pair_at(s, at) else {
+            return Err(Refusal::Spelling);
         };
         if 1024 <= count {
-            return PairsCounted::Refused(18);
+            return Err(Refusal::AskedPlaces);
         }
-        let before = tables::part(s, begin, end);
-        let contig = tables::part(s, pair.at, pair.end);
+        let before = tables::part(s, last.at, last.end);
+        let contig = tables::part(s, pair.contig.at, pair.contig.end);
         let here = pair.position;
         if !not_after(before, position, contig, here) {
-            return PairsCounted::Refused(18);
+            return Err(Refusal::AskedPlaces);
         }
-        begin = pair.at;
-        end = pair.end;
+        last = pair.contig;
         position = here;
         at = pair.next;
         count += 1;
     }
-    PairsCounted::Pairs(count)
+    Ok(count)
 }

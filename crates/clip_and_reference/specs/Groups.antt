@@ -7,12 +7,10 @@ use Rattle.definitions.specs.Lines.{Line, key_of, lines_of}
 use Rattle.definitions.specs.Lists.{groups_of}
 use Rattle.kv_text.specs.Fields.{between}
 use Rattle.kv_text.specs.Lines.{LineFound, line_end, line_start, read_to, unread}
-use Rattle.kv_text.specs.declared.ValueAt.{ValueAt}
-use Rattle.kv_text.specs.declared.ValueAt.TheVariants as value
-use Rattle.clip_and_reference.specs.declared.SegmentAt.{SegmentAt}
-use Rattle.clip_and_reference.specs.declared.SegmentAt.TheVariants as segment
-use Rattle.clip_and_reference.specs.declared.SpanAt.{SpanAt}
-use Rattle.clip_and_reference.specs.declared.SpanAt.TheVariants as span
+use Rattle.kv_text.specs.declared.Part.{Part}
+use Rattle.clip_and_reference.specs.declared.ClipGroup.{ClipGroup}
+use Rattle.clip_and_reference.specs.declared.ReferenceGroup.{ReferenceGroup}
+use Rattle.std.specs.Prelude as std
 
 -- the three lines at an offset are refused as a group
 abbrev pub GroupFaulty : {A : Type 0} → List ℕ → ℕ → (List Line → Checked A) → Type 0
@@ -92,21 +90,28 @@ pub record ValuePart (s : List ℕ) (at : ℕ) (key : List ℕ) (a e : ℕ) : Ty
   pub within : e ≤ length s
 
 -- letters in either case, read as capitals
-abbrev pub letters_found : List ℕ → ValueAt → LineFound (List ℕ)
-letters_found s (value.At a e) = read_to (map capital (between s a e)) e
-letters_found s value.Absent = unread
+abbrev pub letters_found : List ℕ → std.Option Part → LineFound (List ℕ)
+letters_found s (std.Some part) = read_to (map capital (between s part.at part.end)) part.end
+letters_found s std.None = unread
 
 -- the answers
-unfoldable pub SpanRead : List ℕ → ℕ → SpanAt → Type 0
-SpanRead s at span.Faulty = GroupFaulty s at span_of
-SpanRead s at (span.Span contig_at contig_end loc next) =
-    GroupTo s at span_of (record { contig = between s contig_at contig_end; start = loc.start.0; end = loc.end.0 }) next
-    × ValuePart s at (key_of "contig") contig_at contig_end
+unfoldable pub SpanRead : List ℕ → ℕ → std.Option ClipGroup → Type 0
+SpanRead s at std.None = GroupFaulty s at span_of
+SpanRead s at (std.Some group) =
+    GroupTo s at span_of
+    (record { contig = between s group.contig.at group.contig.end; start = group.loc.start.0; end = group.loc.end.0 })
+    group.next
+    × ValuePart s at (key_of "contig") group.contig.at group.contig.end
 
-unfoldable pub SegmentRead : List ℕ → ℕ → SegmentAt → Type 0
-SegmentRead s at segment.Faulty = GroupFaulty s at segment_of
-SegmentRead s at (segment.Segment contig_at contig_end first bases_at bases_end next) =
+unfoldable pub SegmentRead : List ℕ → ℕ → std.Option ReferenceGroup → Type 0
+SegmentRead s at std.None = GroupFaulty s at segment_of
+SegmentRead s at (std.Some group) =
     GroupTo s at segment_of
-    (record { contig = between s contig_at contig_end; first = first.0; bases = map capital (between s bases_at bases_end) })
-    next
-    × ValuePart s at (key_of "contig") contig_at contig_end × ValuePart s (line_start s at 2) (key_of "bases") bases_at bases_end
+    (record {
+      contig = between s group.contig.at group.contig.end;
+      first = group.first.0;
+      bases = map capital (between s group.bases.at group.bases.end);
+    })
+    group.next
+    × ValuePart s at (key_of "contig") group.contig.at group.contig.end
+    × ValuePart s (line_start s at 2) (key_of "bases") group.bases.at group.bases.end

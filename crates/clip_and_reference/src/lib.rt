@@ -11,54 +11,36 @@ ghost use Rattle.kv_text.specs.Lines.{LineReads, Placed};
 ghost use Rattle.clip_and_reference.specs.Groups.{SegmentRead, SpanRead, letters_found};
 
 use bio_ids::{GenomeLoc, GenomePosition};
-use kv_text::{NumberAt, ValueAt};
+use kv_text::Part;
 
 // ---- clip.kv
 
 // A clip group: where its contig stands, its positions, and where the next group begins.
 #[derive(Clone, Copy)]
-pub enum SpanAt {
-    Span {
-        contig_at: usize,
-        contig_end: usize,
-        loc: GenomeLoc,
-        next: usize,
-    },
-    Faulty,
+pub struct ClipGroup {
+    pub contig: Part,
+    pub loc: GenomeLoc,
+    pub next: usize,
 }
 
 // The clip group at an offset.
-pub fn span_at(s: &[u8], at: usize) -> SpanAt
+pub fn span_at(s: &[u8], at: usize) -> Option<ClipGroup>
     ensures { SpanRead s.now at result }
 {
-    let name = kv_text::name_line(s, at, b"contig=");
-    let ValueAt::At(contig_at, contig_end) = name else {
-        return SpanAt::Faulty;
-    };
-    let from = kv_text::number_line(s, contig_end + 1, b"start=");
-    let NumberAt::Found(start, start_end) = from else {
-        return SpanAt::Faulty;
-    };
-    let to = kv_text::number_line(s, start_end + 1, b"end=");
-    let NumberAt::Found(end, end_end) = to else {
-        return SpanAt::Faulty;
-    };
+    let contig = kv_text::name_line(s, at, b"contig=")?;
+    let (start, start_end) = kv_text::number_line(s, contig.end + 1, b"start=")?;
+    let (end, end_end) = kv_text::number_line(s, start_end + 1, b"end=")?;
     if start < 1 {
-        return SpanAt::Faulty;
+        return None;
     }
     if end < start {
-        return SpanAt::Faulty;
+        return None;
     }
     let next = end_end + 1;
     let first = GenomePosition::new_1based(start as u64);
     let last = GenomePosition::new_1based(end as u64);
     let loc = GenomeLoc::new(first, last);
-    SpanAt::Span {
-        contig_at,
-        contig_end,
-        loc,
-        next,
-    }
+    Some(ClipGroup { contig, loc, next })
 }
 
 // Whether every group of clip.kv is in order.
@@ -67,11 +49,10 @@ pub fn check_clip(s: &[u8]) -> bool
 {
     let mut at = 0;
     while at < s.len() {
-        let group = span_at(s, at);
-        let SpanAt::Span { next, .. } = group else {
+        let Some(group) = span_at(s, at) else {
             return false;
         };
-        at = next;
+        at = group.next;
     }
     true
 }
@@ -79,65 +60,46 @@ pub fn check_clip(s: &[u8]) -> bool
 // ---- reference.kv
 
 // The letters, in either case, in the line at an offset.
-fn letters_line(s: &[u8], at: usize, key: &[u8]) -> ValueAt
+fn letters_line(s: &[u8], at: usize, key: &[u8]) -> Option<Part>
     ensures { LineReads s.now at key.now (letters_of max_number) (letters_found s.now result) × Placed at key.now result }
 {
-    let v = kv_text::value_line(s, at, key);
-    let ValueAt::At(a, e) = v else {
-        return ValueAt::Absent;
-    };
-    if kv_text::is_letters(&s[a..e], 2147483647) {
-        return ValueAt::At(a, e);
+    let value = kv_text::value_line(s, at, key)?;
+    if kv_text::is_letters(&s[value.at..value.end], 2147483647) {
+        return Some(value);
     }
-    ValueAt::Absent
+    None
 }
 
 // A reference group: where its contig stands, the position of its first letter, where its letters stand, and where the next group begins.
 #[derive(Clone, Copy)]
-pub enum SegmentAt {
-    Segment {
-        contig_at: usize,
-        contig_end: usize,
-        first: GenomePosition,
-        bases_at: usize,
-        bases_end: usize,
-        next: usize,
-    },
-    Faulty,
+pub struct ReferenceGroup {
+    pub contig: Part,
+    pub first: GenomePosition,
+    pub bases: Part,
+    pub next: usize,
 }
 
 // The reference group at an offset.
-pub fn segment_at(s: &[u8], at: usize) -> SegmentAt
+pub fn segment_at(s: &[u8], at: usize) -> Option<ReferenceGroup>
     ensures { SegmentRead s.now at result }
 {
-    let name = kv_text::name_line(s, at, b"contig=");
-    let ValueAt::At(contig_at, contig_end) = name else {
-        return SegmentAt::Faulty;
-    };
-    let from = kv_text::number_line(s, contig_end + 1, b"first=");
-    let NumberAt::Found(number, first_end) = from else {
-        return SegmentAt::Faulty;
-    };
-    let letters = letters_line(s, first_end + 1, b"bases=");
-    let ValueAt::At(bases_at, bases_end) = letters else {
-        return SegmentAt::Faulty;
-    };
+    let contig = kv_text::name_line(s, at, b"contig=")?;
+    let (number, first_end) = kv_text::number_line(s, contig.end + 1, b"first=")?;
+    let bases = letters_line(s, first_end + 1, b"bases=")?;
     if number < 1 {
-        return SegmentAt::Faulty;
+        return None;
     }
-    if 2147483648 < (number as usize) + (bases_end - bases_at) {
-        return SegmentAt::Faulty;
+    if 2147483648 < (number as usize) + (bases.end - bases.at) {
+        return None;
     }
-    let next = bases_end + 1;
+    let next = bases.end + 1;
     let first = GenomePosition::new_1based(number as u64);
-    SegmentAt::Segment {
-        contig_at,
-        contig_end,
+    Some(ReferenceGroup {
+        contig,
         first,
-        bases_at,
-        bases_end,
+        bases,
         next,
-    }
+    })
 }
 
 // Whether every group of reference.kv is in order.
@@ -146,11 +108,10 @@ pub fn check_reference(s: &[u8]) -> bool
 {
     let mut at = 0;
     while at < s.len() {
-        let group = segment_at(s, at);
-        let SegmentAt::Segment { next, .. } = group else {
+        let Some(group) = segment_at(s, at) else {
             return false;
         };
-        at = next;
+        at = group.next;
     }
     true
 }

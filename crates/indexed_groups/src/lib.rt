@@ -6,8 +6,6 @@ ghost use Rattle.clip_and_reference.specs.Groups.{segments_read};
 ghost use Rattle.tables.specs.Tables.{table_length};
 ghost use Rattle.indexed_groups.specs.Indexed.{SegmentsGiven, SegmentsStored, rows_for};
 
-use clip_and_reference::SegmentAt;
-
 // How many segments have rows, and where the others begin in the text.
 #[derive(Clone, Copy)]
 pub struct Stored {
@@ -22,27 +20,25 @@ fn store_segments(reference: &[u8], rows: &mut [usize]) -> Stored
     ensures counted { result.count ≡ rows_for (segments_read reference.now 0) }
 {
     let mut at = 0;
-    let mut count = 0;
-    while count < 1024 {
-        let group = clip_and_reference::segment_at(reference, at);
-        let SegmentAt::Segment {
-            contig_at,
-            contig_end,
-            first,
-            bases_at,
-            bases_end,
-            next,
-        } = group
-        else {
+    for count in 0..1024 {
+        let Some(group) = clip_and_reference::segment_at(reference, at) else {
             return Stored { count, next: at };
         };
-        let position = first.get() as usize;
-        let row = [contig_at, contig_end, position, bases_at, bases_end];
+        let first = group.first.get() as usize;
+        let row = [
+            group.contig.at,
+            group.contig.end,
+            first,
+            group.bases.at,
+            group.bases.end,
+        ];
         tables::store_row(rows, 90112 + count * 5, &row);
-        count += 1;
-        at = next;
+        at = group.next;
     }
-    Stored { count, next: at }
+    Stored {
+        count: 1024,
+        next: at,
+    }
 }
 
 // Gives the first 1,024 segments of the reference their rows, in a table that has room for all rows; any other table stays as it was.

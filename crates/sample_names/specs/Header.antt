@@ -11,14 +11,13 @@ use Rattle.definitions.specs.Numbers.{number}
 use Rattle.kv_text.specs.Fields.{between}
 use Rattle.kv_text.specs.Lines.{Behind}
 use Rattle.tables.specs.Tables.{names_in}
-use Rattle.sample_names.specs.declared.CountAt.{CountAt}
-use Rattle.sample_names.specs.declared.CountAt.TheVariants as count
-use Rattle.sample_names.specs.declared.HeaderRead.{HeaderRead}
-use Rattle.sample_names.specs.declared.HeaderRead.TheVariants as header
-use Rattle.sample_names.specs.declared.NamesAt.{NamesAt}
-use Rattle.sample_names.specs.declared.NamesAt.TheVariants as names
-use Rattle.sample_names.specs.declared.SampleAt.{SampleAt}
-use Rattle.sample_names.specs.declared.SampleAt.TheVariants as sample
+use Rattle.answers.specs.Answered.{row_of}
+use Rattle.answers.specs.declared.LoadError.{LoadError}
+use Rattle.answers.specs.declared.LoadError.TheVariants.{NoRoom, Refused}
+use Rattle.answers.specs.declared.Refusal.{Refusal}
+use Rattle.kv_text.specs.declared.Part.{Part}
+use Rattle.sample_names.specs.declared.SampleLines.{SampleLines}
+use Rattle.std.specs.Prelude as std
 
 -- ---- a `sample` line
 
@@ -32,9 +31,9 @@ pub record SampleTo (s : List ℕ) (at : ℕ) (before : List (List ℕ)) (a e : 
   pub behind : Behind s at 1 (e + 1)
   pub within : e < length s
 
-unfoldable pub SampleRead : List ℕ → ℕ → List (List ℕ) → SampleAt → Type 0
-SampleRead s at before (sample.Name a e) = SampleTo s at before a e
-SampleRead s at before (sample.Refused row) = sample_name before (first_line s at) ≡ refused row
+unfoldable pub SampleRead : List ℕ → ℕ → List (List ℕ) → std.Result Part Refusal → Type 0
+SampleRead s at before (std.Ok name) = SampleTo s at before name.at name.end
+SampleRead s at before (std.Err r) = sample_name before (first_line s at) ≡ refused (row_of r)
 
 -- ---- all `sample` lines
 
@@ -49,9 +48,9 @@ pub record NamesTo (s : List ℕ) (at count : ℕ) (table₀ table : List ℕ) (
   pub within : next ≤ length s
   pub rest : drop (2 * count) table ≡ drop (2 * count) table₀
 
-unfoldable pub NamesRead : List ℕ → ℕ → ℕ → List ℕ → List ℕ → NamesAt → Type 0
-NamesRead s at count table₀ table (names.Next next) = NamesTo s at count table₀ table next
-NamesRead s at count table₀ table (names.Refused row) = read_each sample_name [] (lines_at s at 0 count) ≡ refused row
+unfoldable pub NamesRead : List ℕ → ℕ → ℕ → List ℕ → List ℕ → std.Result ℕ Refusal → Type 0
+NamesRead s at count table₀ table (std.Ok next) = NamesTo s at count table₀ table next
+NamesRead s at count table₀ table (std.Err r) = read_each sample_name [] (lines_at s at 0 count) ≡ refused (row_of r)
 
 -- ---- the header
 
@@ -63,9 +62,9 @@ pub record CountTo (s : List ℕ) (count at : ℕ) : Type 0 where
   pub behind : Behind s 0 1 at
   pub within : at ≤ length s
 
-unfoldable pub CountRead : List ℕ → CountAt → Type 0
-CountRead s (count.Count count at) = CountTo s count at
-CountRead s (count.Refused row) = samples_of (lines_of s) ≡ refused row
+unfoldable pub CountRead : List ℕ → std.Result SampleLines Refusal → Type 0
+CountRead s (std.Ok lines) = CountTo s lines.count lines.next
+CountRead s (std.Err r) = samples_of (lines_of s) ≡ refused (row_of r)
 
 -- there is room, the header gives the names that the table has now, the text goes on at `next`, and behind the names the table is as it was
 pub record HeaderTo (s table₀ table : List ℕ) (count next : ℕ) : Type 0 where
@@ -88,7 +87,12 @@ pub record HeaderUnread (table₀ table : List ℕ) : Type 0 where
   pub no_room : length table₀ < 2 * max_samples
   pub same : table ≡ table₀
 
-unfoldable pub Header : List ℕ → List ℕ → List ℕ → HeaderRead → Type 0
-Header s table₀ table (header.Samples count next) = HeaderTo s table₀ table count next
-Header s table₀ table (header.Refused row) = HeaderRefused s table₀ table row
-Header s table₀ table header.NoRoom = HeaderUnread table₀ table
+-- what a table with room is told: the names that it has now, or why the header is refused
+unfoldable pub LinesRead : List ℕ → List ℕ → List ℕ → std.Result SampleLines Refusal → Type 0
+LinesRead s table₀ table (std.Ok lines) = HeaderTo s table₀ table lines.count lines.next
+LinesRead s table₀ table (std.Err r) = samples_of (lines_of s) ≡ refused (row_of r)
+
+unfoldable pub Header : List ℕ → List ℕ → List ℕ → std.Result SampleLines LoadError → Type 0
+Header s table₀ table (std.Ok lines) = HeaderTo s table₀ table lines.count lines.next
+Header s table₀ table (std.Err (Refused r)) = HeaderRefused s table₀ table (row_of r)
+Header s table₀ table (std.Err NoRoom) = HeaderUnread table₀ table

@@ -5,9 +5,10 @@ ghost use Rattle.std.specs.Prelude.{reverse, ◌≡◌, ◌*◌, ◌≤◌, leng
 ghost use Rattle.definitions.specs.Bytes.{same_bytes};
 ghost use Rattle.definitions.specs.Lists.{any_of};
 ghost use Rattle.tables.specs.Tables.{names_in};
-ghost use Rattle.sample_names.specs.Header.{CountRead, Header, NamesRead, SampleRead};
+ghost use Rattle.sample_names.specs.Header.{CountRead, Header, LinesRead, NamesRead, SampleRead};
 
-use kv_text::{NumberAt, ValueAt};
+use answers::{LoadError, Refusal};
+use kv_text::Part;
 
 // Whether a text is one of the first `count` names.
 fn name_known(s: &[u8], names: &[usize], count: usize, name: &[u8]) -> bool
@@ -25,115 +26,87 @@ fn name_known(s: &[u8], names: &[usize], count: usize, name: &[u8]) -> bool
     false
 }
 
-// Where the name in a `sample` line stands, to its LF; or the row that refuses the line.
-#[derive(Clone, Copy)]
-enum SampleAt {
-    Name(usize, usize),
-    Refused(usize),
-}
-
-// The `sample` line at an offset, behind the first `count` names.
-fn sample_at(s: &[u8], at: usize, names: &[usize], count: usize) -> SampleAt
+// Where the name in the `sample` line at an offset stands, up to the line's LF; the first `count` names stand before it.
+fn sample_at(s: &[u8], at: usize, names: &[usize], count: usize) -> Result<Part, Refusal>
     requires { 2 * count ≤ length names.now }
     ensures { SampleRead s.now at (reverse (names_in s.now names.now count)) result }
 {
-    let line = kv_text::name_line(s, at, b"sample=");
-    let ValueAt::At(a, e) = line else {
-        return SampleAt::Refused(1);
+    let Some(name) = kv_text::name_line(s, at, b"sample=") else {
+        return Err(Refusal::Spelling);
     };
-    if name_known(s, names, count, &s[a..e]) {
-        return SampleAt::Refused(3);
+    if name_known(s, names, count, &s[name.at..name.end]) {
+        return Err(Refusal::Sample);
     }
-    SampleAt::Name(a, e)
+    Ok(name)
 }
 
-// Where the text goes on behind the `sample` lines; or the row that refuses the first faulty one.
-#[derive(Clone, Copy)]
-enum NamesAt {
-    Next(usize),
-    Refused(usize),
-}
-
-// So many `sample` lines from an offset on: where their names stand goes into the table.
-fn sample_lines(s: &[u8], at: usize, count: usize, names: &mut [usize]) -> NamesAt
+// So many `sample` lines from an offset on: where their names stand goes into the table. Answers where the text goes on behind them.
+fn sample_lines(s: &[u8], at: usize, count: usize, names: &mut [usize]) -> Result<usize, Refusal>
     requires { (at ≤ length s.now) × (2 * count ≤ length names.old) }
     ensures { NamesRead s.now at count names.old names.new result }
 {
     let mut next = at;
-    let mut i = 0;
-    while i < count {
-        let line = sample_at(s, next, names, i);
-        match line {
-            SampleAt::Refused(row) => {
-                return NamesAt::Refused(row);
-            }
-            SampleAt::Name(a, e) => {
-                names[2 * i] = a;
-                names[2 * i + 1] = e;
-                next = e + 1;
-                i += 1;
-            }
-        }
+    for i in 0..count {
+        let name = sample_at(s, next, names, i)?;
+        names[2 * i] = name.at;
+        names[2 * i + 1] = name.end;
+        next = name.end + 1;
     }
-    NamesAt::Next(next)
+    Ok(next)
 }
 
-// How many samples there are, and where their lines begin; or the row that refuses the first line.
+// How many samples there are, and where the text goes on: behind the first line, or behind the `sample` lines.
 #[derive(Clone, Copy)]
-enum CountAt {
-    Count(usize, usize),
-    Refused(usize),
+pub struct SampleLines {
+    pub count: usize,
+    pub next: usize,
 }
 
 // The first line: `samples`, 1 to 64.
-fn samples_line(s: &[u8]) -> CountAt
+fn samples_line(s: &[u8]) -> Result<SampleLines, Refusal>
     ensures { CountRead s.now result }
 {
-    let line = kv_text::number_line(s, 0, b"samples=");
-    let NumberAt::Found(n, e) = line else {
-        return CountAt::Refused(1);
+    let Some((count, end)) = kv_text::number_line(s, 0, b"samples=") else {
+        return Err(Refusal::Spelling);
     };
-    if n < 1 {
-        return CountAt::Refused(2);
+    if count < 1 {
+        return Err(Refusal::Size);
     }
-    if 64 < n {
-        return CountAt::Refused(2);
+    if 64 < count {
+        return Err(Refusal::Size);
     }
-    CountAt::Count(n as usize, e + 1)
+    Ok(SampleLines {
+        count: count as usize,
+        next: end + 1,
+    })
 }
 
-// What the header of a cohort gives: so many samples, and where the first site group begins; or the row that refuses it, 1, 2 or 3.
-#[derive(Clone, Copy)]
-pub enum HeaderRead {
-    Samples(usize, usize),
-    Refused(usize),
-    NoRoom,
+// The first line and the `sample` lines behind it.
+fn header_lines(s: &[u8], names: &mut [usize]) -> Result<SampleLines, Refusal>
+    requires { 128 ≤ length names.old }
+    ensures { LinesRead s.now names.old names.new result }
+{
+    let samples = samples_line(s)?;
+    let next = sample_lines(s, samples.next, samples.count, names)?;
+    Ok(SampleLines {
+        count: samples.count,
+        next,
+    })
 }
 
-// Where the names stand goes into `names`, two numbers each: where a name begins, and where it ends. There is no room in less than 128 numbers.
-pub fn read_samples(s: &[u8], names: &mut [usize]) -> HeaderRead
+// The header of a cohort: how many samples, and where the first site group begins; or why it is refused: row 1, 2 or 3. Where the names stand
+// goes into `names`, two numbers each: where a name begins, and where it ends. There is no room in less than 128 numbers.
+pub fn read_samples(s: &[u8], names: &mut [usize]) -> Result<SampleLines, LoadError>
     ensures { Header s.now names.old names.new result }
 {
     if names.len() < 128 {
-        return HeaderRead::NoRoom;
+        return Err(LoadError::NoRoom);
     }
-    let line = samples_line(s);
-    match line {
-        CountAt::Refused(row) => {
-            tables::clear(names);
-            return HeaderRead::Refused(row);
-        }
-        CountAt::Count(count, at) => {
-            let read = sample_lines(s, at, count, names);
-            match read {
-                NamesAt::Refused(row) => {
-                    tables::clear(names);
-                    return HeaderRead::Refused(row);
-                }
-                NamesAt::Next(next) => {
-                    return HeaderRead::Samples(count, next);
-                }
-            }
+    match header_lines(s, names) {
+        Ok(lines) => Ok(lines),
+        Err(refusal) => {
+            slices::clear(names, 0);
+            Err(LoadError::Refused(refusal))
         }
     }
 }
