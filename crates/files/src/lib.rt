@@ -11,21 +11,22 @@ ghost use Rattle.files.specs.Printing.{Printed, written_values};
 ghost use Rattle.kv_write.specs.Keyed.{keyed};
 ghost use Rattle.kv_write.specs.Laid.{Laid};
 
-use answers::Outcome;
+use answers::Refusal;
 use std::io::{ErrorKind, Read};
 use std::rt::Files;
 use std::{fs, io};
 
 // ---- a file
 
-// What came of reading a file: how many bytes it has, or why there is no text of it.
+// Why there is no text of a file that was to be read.
 #[derive(Clone, Copy)]
-pub enum FileRead {
-    Text(usize),
-    Absent,
+pub enum ReadError {
     TooLong,
     Failed,
 }
+
+// What came of reading a file: how many bytes it has, `None` if there is no such file, or why there is no text of it.
+pub type FileRead = Result<Option<usize>, ReadError>;
 
 // A line on standard error: what failed, and why. One that can't be written is let be.
 fn fail(rt: &impl Eprint, what: &str, error: io::Error) {
@@ -33,16 +34,21 @@ fn fail(rt: &impl Eprint, what: &str, error: io::Error) {
 }
 
 // One read behind the bytes that are there.
-fn read_behind(file: &mut impl Read, buffer: &mut [u8], count: usize) -> io::Result<usize>
+pub fn read_behind(reader: &mut impl Read, buffer: &mut [u8], count: usize) -> io::Result<usize>
     requires { count ≤ length buffer.old }
     ensures { IfOk result (λ n. count + n ≤ length buffer.old) }
 {
-    file.read(&mut buffer[count..])
+    reader.read(&mut buffer[count..])
 }
 
 // Reads an open file to its end. It must end before the buffer does.
-fn read_to_end(rt: &impl Eprint, file: &mut impl Read, name: &str, buffer: &mut [u8]) -> FileRead
-    ensures { Below (length buffer.old) result }
+fn read_to_end(
+    rt: &impl Eprint,
+    file: &mut impl Read,
+    name: &str,
+    buffer: &mut [u8],
+) -> Result<usize, ReadError>
+    ensures { IfOk result (λ n. n < length buffer.old) }
 {
     let mut count = 0;
     while count < buffer.len() {
@@ -50,15 +56,15 @@ fn read_to_end(rt: &impl Eprint, file: &mut impl Read, name: &str, buffer: &mut 
             Ok(more) => more,
             Err(error) => {
                 fail(rt, name, error);
-                return FileRead::Failed;
+                return Err(ReadError::Failed);
             }
         };
         if more == 0 {
-            return FileRead::Text(count);
+            return Ok(count);
         }
         count += more;
     }
-    FileRead::TooLong
+    Err(ReadError::TooLong)
 }
 
 // Reads the file with this name, which must have fewer bytes than the buffer. One that is there and can't be read gets a line on
@@ -72,16 +78,19 @@ pub fn read_file<R: Files + Eprint>(rt: &R, name: &[u8], buffer: &mut [u8]) -> F
             "a file's name",
             io::Error::from(ErrorKind::InvalidFilename),
         );
-        return FileRead::Failed;
+        return Err(ReadError::Failed);
     };
     match fs::open(rt, name) {
-        Ok(mut file) => read_to_end(rt, &mut file, name, buffer),
+        Ok(mut file) => {
+            let count = read_to_end(rt, &mut file, name, buffer)?;
+            Ok(Some(count))
+        }
         Err(error) => {
             if error.kind() == ErrorKind::NotFound {
-                return FileRead::Absent;
+                return Ok(None);
             }
             fail(rt, name, error);
-            FileRead::Failed
+            Err(ReadError::Failed)
         }
     }
 }
@@ -89,35 +98,20 @@ pub fn read_file<R: Files + Eprint>(rt: &R, name: &[u8], buffer: &mut [u8]) -> F
 pub fn is_failed(read: FileRead) -> bool
     ensures { result ≡ has_failed read }
 {
-    match read {
-        FileRead::Text(_) => false,
-        FileRead::Absent => false,
-        FileRead::TooLong => false,
-        FileRead::Failed => true,
-    }
+    matches!(read, Err(ReadError::Failed))
 }
 
 pub fn is_too_long(read: FileRead) -> bool
     ensures { result ≡ too_long read }
 {
-    match read {
-        FileRead::Text(_) => false,
-        FileRead::Absent => false,
-        FileRead::TooLong => true,
-        FileRead::Failed => false,
-    }
+    matches!(read, Err(ReadError::TooLong))
 }
 
 // Whether there is a text.
 pub fn is_text(read: FileRead) -> bool
     ensures { result ≡ has_text read }
 {
-    match read {
-        FileRead::Text(_) => true,
-        FileRead::Absent => false,
-        FileRead::TooLong => false,
-        FileRead::Failed => false,
-    }
+    matches!(read, Ok(Some(_)))
 }
 
 // How many bytes the text has, 0 without one.
@@ -125,10 +119,8 @@ fn text_length(read: FileRead) -> usize
     ensures { result ≡ text_length read }
 {
     match read {
-        FileRead::Text(count) => count,
-        FileRead::Absent => 0,
-        FileRead::TooLong => 0,
-        FileRead::Failed => 0,
+        Ok(Some(count)) => count,
+        _ => 0,
     }
 }
 
@@ -182,20 +174,17 @@ pub fn put_figure(out: &mut [u8], figure: usize) -> usize
 fn count_within(buffer: &[u8], count: usize) -> usize
     ensures { result ≡ length (take count buffer.now) }
 {
-    if buffer.len() < count {
-        return buffer.len();
-    }
-    count
+    count.min(buffer.len())
 }
 
 // Makes what a program prints, in the buffer that a call wrote its list to: the list, or the refusal over its start. The answer is how many
 // bytes that is.
-pub fn put_answer(outcome: Outcome, list: &mut [u8; 65536]) -> usize
+pub fn put_answer(outcome: Result<usize, Refusal>, list: &mut [u8; 65536]) -> usize
     ensures { Printed (printed_answer (written_values outcome list.old)) list.old list.new result }
 {
     match outcome {
-        Outcome::Written(count) => count_within(list, count),
-        Outcome::Refused(number) => put_refusal(list, number),
+        Ok(count) => count_within(list, count),
+        Err(refusal) => put_refusal(list, refusal.row()),
     }
 }
 

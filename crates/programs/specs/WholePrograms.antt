@@ -3,15 +3,14 @@
 use Rattle.std.specs.Prelude.{ℕ, take, List, ◌≡◌}
 use Rattle.std.proofs.Math.Option.{Option}
 use Rattle.definitions.specs.Answers.{call_program, called_file, combine_program, looks_program, printed_answer}
-use Rattle.files.specs.FileTexts.{ReadWhole, read_text}
+use Rattle.files.specs.FileTexts.{ReadAnswer, ReadWhole, read_text}
 use Rattle.files.specs.Printing.{Printed}
-use Rattle.files.specs.declared.FileRead.{FileRead}
 use Rattle.programs.specs.Programs.{CombinePrinted, LooksPrinted}
 
 -- from the contract of `combine_program`
 abbrev pub CombineWhole : Type 0
 CombineWhole =
-    (cohort clip reference : Option (List ℕ)) (first second third : FileRead) (r s t scratch scratch' list list' : List ℕ) (n : ℕ)
+    (cohort clip reference : Option (List ℕ)) (first second third : ReadAnswer) (r s t scratch scratch' list list' : List ℕ) (n : ℕ)
     → ReadWhole cohort first r → ReadWhole clip second s → ReadWhole reference third t
     → CombinePrinted (read_text first r) (read_text second s) (read_text third t) scratch scratch' list list' n
     → take n list' ≡ combine_program cohort clip reference
@@ -19,7 +18,7 @@ CombineWhole =
 -- from the contract of `looks_program`
 abbrev pub LooksWhole : Type 0
 LooksWhole =
-    (cohort clip reference contig : Option (List ℕ)) (first second third fourth : FileRead) (r s t u scratch scratch' line line' : List ℕ) (n : ℕ)
+    (cohort clip reference contig : Option (List ℕ)) (first second third fourth : ReadAnswer) (r s t u scratch scratch' line line' : List ℕ) (n : ℕ)
     → ReadWhole cohort first r → ReadWhole clip second s → ReadWhole reference third t → ReadWhole contig fourth u
     → LooksPrinted (read_text first r) (read_text second s) (read_text third t) (read_text fourth u) scratch scratch' line line' n
     → take n line' ≡ looks_program cohort clip reference contig
@@ -27,5 +26,5 @@ LooksWhole =
 -- from the contract of `call_program`
 abbrev pub CallWhole : Type 0
 CallWhole =
-    (combined : Option (List ℕ)) (read : FileRead) (s list list' : List ℕ) (n : ℕ) → ReadWhole combined read s
+    (combined : Option (List ℕ)) (read : ReadAnswer) (s list list' : List ℕ) (n : ℕ) → ReadWhole combined read s
     → Printed (printed_answer (called_file (read_text read s))) list list' n → take n list' ≡ call_program combined

@@ -7,17 +7,15 @@
 #![tactic(auto)]
 
 ghost use Rattle.std.specs.Prelude.{◌≡◌, false};
-ghost use Rattle.answers.specs.Answered.{Answered};
+ghost use Rattle.answers.specs.Answered.{Answered, checked_of};
 ghost use Rattle.definitions.specs.Answers.{called_file, printed_answer, printed_looks};
 ghost use Rattle.files.specs.FileTexts.{read_text};
 ghost use Rattle.files.specs.Printing.{Printed};
 ghost use Rattle.programs.specs.Programs.{CombinePrinted, ContigAsked, FilesCombined, FilesLooked, LooksPrinted, TextsLooked, any_too_long};
-ghost use Rattle.search_looks.specs.Looked.{looked_answer};
 
-use answers::Outcome;
+use answers::Refusal;
 use files::{FileRead, is_failed, is_text, is_too_long, read_file, text};
-use kv_text::ValueAt;
-use search_looks::Looked;
+use kv_text::Part;
 use std::rt::Files;
 
 // ---- combine
@@ -26,13 +24,7 @@ use std::rt::Files;
 fn any_too_long(first: FileRead, second: FileRead, third: FileRead) -> bool
     ensures { result ≡ any_too_long first second third }
 {
-    if is_too_long(first) {
-        return true;
-    }
-    if is_too_long(second) {
-        return true;
-    }
-    is_too_long(third)
+    is_too_long(first) || is_too_long(second) || is_too_long(third)
 }
 
 // The answer for the files that were read: the length of each comes before all else.
@@ -45,14 +37,14 @@ fn combine_files<'a>(
     reference: &'a [u8],
     scratch: &mut [u64; 8192],
     list: &mut [u8; 65536],
-) -> Outcome
+) -> Result<usize, Refusal>
     ensures { FilesCombined
         (read_text of_cohort cohort.now) (read_text of_clip clip.now) (read_text of_reference reference.now)
         scratch.old scratch.new list.old list.new result }
 {
     if any_too_long(of_cohort, of_clip, of_reference) {
-        tables::clear_places(scratch);
-        return Outcome::Refused(2);
+        slices::clear(scratch, 0);
+        return Err(Refusal::Size);
     }
     combine_gvcfs::combine(
         text(of_cohort, cohort),
@@ -132,17 +124,14 @@ pub fn run_combine<R: Files + Print + Eprint>(rt: &R) {
 // ---- looks
 
 // The contig that contig.kv asks for, in its one line: where its name stands.
-fn asked_contig(s: &[u8]) -> ValueAt
+fn asked_contig(s: &[u8]) -> Option<Part>
     ensures { ContigAsked s.now result }
 {
-    let line = kv_text::name_line(s, 0, b"contig=");
-    let ValueAt::At(a, e) = line else {
-        return ValueAt::Absent;
-    };
-    if e + 1 < s.len() {
-        return ValueAt::Absent;
+    let name = kv_text::name_line(s, 0, b"contig=")?;
+    if name.end + 1 < s.len() {
+        return None;
     }
-    ValueAt::At(a, e)
+    Some(name)
 }
 
 // The answer for the three texts' files, of which none is too long, and for contig.kv.
@@ -155,16 +144,15 @@ fn looks_asked<'a>(
     reference: &'a [u8],
     asked: &[u8],
     scratch: &mut [u64; 8192],
-) -> Looked
+) -> Result<usize, Refusal>
     requires { any_too_long of_cohort of_clip of_reference ≡ false }
     ensures { TextsLooked
         (read_text of_cohort cohort.now) (read_text of_clip clip.now) (read_text of_reference reference.now)
         asked.now scratch.old scratch.new result }
 {
-    let name = asked_contig(asked);
-    let ValueAt::At(a, e) = name else {
-        tables::clear_places(scratch);
-        return Looked::Refused(1);
+    let Some(name) = asked_contig(asked) else {
+        slices::clear(scratch, 0);
+        return Err(Refusal::Spelling);
     };
     let clipped = is_text(of_clip);
     let referenced = is_text(of_reference);
@@ -174,7 +162,7 @@ fn looks_asked<'a>(
         text(of_clip, clip),
         referenced,
         text(of_reference, reference),
-        tables::part(asked, a, e),
+        tables::part(asked, name.at, name.end),
         scratch,
     )
 }
@@ -190,18 +178,18 @@ fn looks_files<'a>(
     of_contig: FileRead,
     contig: &[u8],
     scratch: &mut [u64; 8192],
-) -> Looked
+) -> Result<usize, Refusal>
     ensures { FilesLooked
         (read_text of_cohort cohort.now) (read_text of_clip clip.now) (read_text of_reference reference.now)
         (read_text of_contig contig.now) scratch.old scratch.new result }
 {
     if any_too_long(of_cohort, of_clip, of_reference) {
-        tables::clear_places(scratch);
-        return Looked::Refused(2);
+        slices::clear(scratch, 0);
+        return Err(Refusal::Size);
     }
     if is_too_long(of_contig) {
-        tables::clear_places(scratch);
-        return Looked::Refused(2);
+        slices::clear(scratch, 0);
+        return Err(Refusal::Size);
     }
     looks_asked(
         of_cohort,
@@ -216,12 +204,12 @@ fn looks_files<'a>(
 }
 
 // Makes what `looks` prints: `looks=` and the figure, or `refused=` and the number. The answer is how many bytes it has.
-fn put_looked(looked: Looked, line: &mut [u8; 32]) -> usize
-    ensures { Printed (printed_looks (looked_answer looked)) line.old line.new result }
+fn put_looked(looked: Result<usize, Refusal>, line: &mut [u8; 32]) -> usize
+    ensures { Printed (printed_looks (checked_of looked)) line.old line.new result }
 {
     match looked {
-        Looked::Figure(figure) => files::put_figure(line, figure),
-        Looked::Refused(number) => files::put_refusal(line, number),
+        Ok(figure) => files::put_figure(line, figure),
+        Err(refusal) => files::put_refusal(line, refusal.row()),
     }
 }
 
@@ -304,11 +292,15 @@ pub fn run_looks<R: Files + Print + Eprint>(rt: &R) {
 // ---- call
 
 // The answer for the file that was read: its length comes before all else.
-fn call_file(of_combined: FileRead, combined: &[u8], list: &mut [u8; 65536]) -> Outcome
+fn call_file(
+    of_combined: FileRead,
+    combined: &[u8],
+    list: &mut [u8; 65536],
+) -> Result<usize, Refusal>
     ensures { Answered (called_file (read_text of_combined combined.now)) list.old list.new result }
 {
     if is_too_long(of_combined) {
-        return Outcome::Refused(2);
+        return Err(Refusal::Size);
     }
     genotype_gvcfs::call(text(of_combined, combined), list)
 }

@@ -9,7 +9,8 @@
 
 ghost use Rattle.std.specs.Prelude.{◌<◌, length};
 
-use cohort::CohortRead;
+use answers::LoadError;
+use cohort::CohortSize;
 use test_cases::{
     Case, case_at, field, line_at, number_field, print, print_number, print_refused, read_input,
 };
@@ -19,15 +20,12 @@ use test_cases::{
 // Puts a part behind the bytes of a text, as far as there is room. The answer is how many bytes the text has then.
 fn append(text: &mut [u8], count: usize, part: &[u8]) -> usize {
     let mut next = count;
-    let mut i = 0;
-    while i < part.len() {
+    for b in part {
         if text.len() <= next {
             return next;
         }
-        let b = part[i];
-        text[next] = b;
+        text[next] = *b;
         next += 1;
-        i += 1;
     }
     next
 }
@@ -35,10 +33,8 @@ fn append(text: &mut [u8], count: usize, part: &[u8]) -> usize {
 // The same for a part so many times.
 fn append_times(text: &mut [u8], count: usize, part: &[u8], times: usize) -> usize {
     let mut next = count;
-    let mut left = times;
-    while 0 < left {
+    for _ in 0..times {
         next = append(text, next, part);
-        left -= 1;
     }
     next
 }
@@ -66,41 +62,29 @@ fn print_separator(rt: &impl Print, place: usize) {
 
 // Prints the first so many numbers of the rows, 22 to a line.
 fn print_rows(rt: &impl Print, rows: &[usize], count: usize) {
-    let mut i = 0;
-    while i < count {
-        if rows.len() <= i {
-            return;
-        }
-        print_number(rt, rows[i]);
-        print_separator(rt, i);
-        i += 1;
+    for (place, number) in rows.iter().take(count).enumerate() {
+        print_number(rt, *number);
+        print_separator(rt, place);
     }
 }
 
-fn print_cohort(rt: &impl Print, samples: usize, sites: usize, rows: &[usize]) {
+fn print_cohort(rt: &impl Print, size: CohortSize, rows: &[usize]) {
     print(rt, b" samples=");
-    print_number(rt, samples);
+    print_number(rt, size.samples);
     print(rt, b" sites=");
-    print_number(rt, sites);
+    print_number(rt, size.sites);
     print(rt, b"\n");
-    if sites <= 3 {
-        print_rows(rt, rows, sites * 22);
+    if size.sites <= 3 {
+        print_rows(rt, rows, size.sites * 22);
     }
 }
 
 // Reads a text, and prints what it gave behind the case's name.
 fn print_read(rt: &impl Print, text: &[u8], names: &mut [usize], rows: &mut [usize]) {
-    let read = cohort::read_cohort(text, names, rows);
-    match read {
-        CohortRead::Cohort(samples, sites) => {
-            print_cohort(rt, samples, sites, rows);
-        }
-        CohortRead::Refused(row) => {
-            print_refused(rt, row);
-        }
-        CohortRead::NoRoom => {
-            print(rt, b" no room\n");
-        }
+    match cohort::read_cohort(text, names, rows) {
+        Ok(size) => print_cohort(rt, size, rows),
+        Err(LoadError::Refused(refusal)) => print_refused(rt, refusal),
+        Err(LoadError::NoRoom) => print(rt, b" no room\n"),
     }
 }
 

@@ -14,8 +14,8 @@
 // tools/make_allele_cases.py writes the input, and what is to be printed, from recorded/ and document 01's rules.
 #![tactic(auto)]
 
-use allele_subsetting_pl::UnusedAltOutcome;
-use answers::Outcome;
+use allele_subsetting_pl::UnusedAlts;
+use answers::Refusal;
 use bio_ids::AlleleIndex;
 use kv_text::same_bytes;
 use test_cases::{
@@ -23,8 +23,7 @@ use test_cases::{
     print_refused, read_input,
 };
 use values::{
-    first_alleles, first_numbers, first_values, print_if_numbers_changed, print_if_values_changed,
-    print_numbers, print_text, print_values, read_alleles, read_numbers, read_values,
+    first, print_numbers, print_text, print_values, read_alleles, read_numbers, read_values,
 };
 
 mod values;
@@ -32,6 +31,13 @@ mod values;
 // ---- the arguments and the answer
 //
 // Of a function of the library `run_` has the outputs, set; `call_` makes the call on them and prints its answer.
+
+// To what each byte, number and value of an output is set before a call.
+const SET_BYTE: u8 = 255;
+
+const SET_NUMBER: u32 = 4294967295;
+
+const SET_VALUE: f64 = 0.5;
 
 // A text of a case's line: `.` is the empty one.
 fn text_field<'a>(line: &'a [u8], number: usize) -> &'a [u8] {
@@ -50,16 +56,16 @@ fn print_written(rt: &impl Print, count: usize) {
 // ---- alleles
 
 // Prints the answer, and returns how many bytes were written.
-fn print_alleles(rt: &impl Print, outcome: Outcome, out: &[u8]) -> usize {
+fn print_alleles(rt: &impl Print, outcome: Result<usize, Refusal>, out: &[u8]) -> usize {
     match outcome {
-        Outcome::Written(count) => {
+        Ok(count) => {
             print_written(rt, count);
             print_text(rt, tables::part(out, 0, count));
             print(rt, b"\n");
             count
         }
-        Outcome::Refused(row) => {
-            print_refused(rt, row);
+        Err(refusal) => {
+            print_refused(rt, refusal);
             0
         }
     }
@@ -69,11 +75,11 @@ fn call_trim(rt: &impl Print, line: &[u8], out: &mut [u8]) {
     let room = count_field(line, 2, out.len());
     let outcome = reverse_trim::reverse_trim_alleles(text_field(line, 3), &mut out[..room]);
     let count = print_alleles(rt, outcome, out);
-    print_if_changed(rt, out, count);
+    print_if_changed(rt, out, count, SET_BYTE);
 }
 
 fn run_trim(rt: &impl Print, line: &[u8]) {
-    let mut out = [255u8; 4096];
+    let mut out = [SET_BYTE; 4096];
     call_trim(rt, line, &mut out);
 }
 
@@ -89,16 +95,16 @@ fn print_gq(rt: &impl Print, pl: &[u32]) {
 fn run_gq(rt: &impl Print, line: &[u8]) {
     let mut pl = [0u32; 136];
     let count = read_numbers(field(line, 2), &mut pl);
-    print_gq(rt, first_numbers(&pl, count));
+    print_gq(rt, first(&pl, count));
 }
 
 // Prints so many PLs of the output, and their GQ.
 fn print_pl(rt: &impl Print, out: &[u32], count: usize) {
     print_written(rt, count);
-    let pl = first_numbers(out, count);
+    let pl = first(out, count);
     print_numbers(rt, pl);
     print_gq(rt, pl);
-    print_if_numbers_changed(rt, out, count);
+    print_if_changed(rt, out, count, SET_NUMBER);
 }
 
 fn call_drop(rt: &impl Print, line: &[u8], out: &mut [u32]) {
@@ -106,61 +112,56 @@ fn call_drop(rt: &impl Print, line: &[u8], out: &mut [u32]) {
     let count = read_numbers(field(line, 4), &mut pl);
     let alleles = number_field(line, 2);
     let dropped = AlleleIndex::new(count_field(line, 3, 255) as u8);
-    let written = called_genotypes::remap_pl_drop_alleles(
-        alleles,
-        dropped,
-        first_numbers(&pl, count),
-        out,
-    );
+    let written = called_genotypes::remap_pl_drop_alleles(alleles, dropped, first(&pl, count), out);
     print_pl(rt, out, written);
 }
 
 fn run_drop(rt: &impl Print, line: &[u8]) {
-    let mut out = [4294967295u32; 136];
+    let mut out = [SET_NUMBER; 136];
     call_drop(rt, line, &mut out);
 }
 
 // ---- likelihoods
 
 // Prints the answer, and if the output behind what was written has changed.
-fn print_likelihoods(rt: &impl Print, outcome: Outcome, out: &[f64]) {
+fn print_likelihoods(rt: &impl Print, outcome: Result<usize, Refusal>, out: &[f64]) {
     match outcome {
-        Outcome::Written(count) => {
+        Ok(count) => {
             print_written(rt, count);
-            print_values(rt, first_values(out, count));
+            print_values(rt, first(out, count));
             print(rt, b"\n");
-            print_if_values_changed(rt, out, count);
+            print_if_changed(rt, out, count, SET_VALUE);
         }
-        Outcome::Refused(row) => {
-            print_refused(rt, row);
-            print_if_values_changed(rt, out, 0);
+        Err(refusal) => {
+            print_refused(rt, refusal);
+            print_if_changed(rt, out, 0, SET_VALUE);
         }
     }
 }
 
 // The call of a case.
-fn log10(line: &[u8], out: &mut [f64]) -> Outcome {
+fn log10(line: &[u8], out: &mut [f64]) -> Result<usize, Refusal> {
     let mut pl = [0u32; 136];
     let count = read_numbers(field(line, 3), &mut pl);
-    likelihoods::log10_likelihoods_from_pl(first_numbers(&pl, count), out)
+    likelihoods::log10_likelihoods_from_pl(first(&pl, count), out)
 }
 
-fn subset(line: &[u8], out: &mut [f64]) -> Outcome {
+fn subset(line: &[u8], out: &mut [f64]) -> Result<usize, Refusal> {
     let mut keep = [0usize; 32];
     let keep_count = read_alleles(field(line, 4), &mut keep);
     let mut gl = [0.0f64; 256];
     let gl_count = read_values(text_field(line, 5), &mut gl);
     let alleles = number_field(line, 3);
     allele_subsetting_pl::subset_log10_genotype_likelihoods(
-        first_values(&gl, gl_count),
+        first(&gl, gl_count),
         alleles,
-        first_alleles(&keep, keep_count),
+        first(&keep, keep_count),
         out,
     )
 }
 
 // The call that a case names.
-fn log10_or_subset(line: &[u8], out: &mut [f64]) -> Outcome {
+fn log10_or_subset(line: &[u8], out: &mut [f64]) -> Result<usize, Refusal> {
     if same_bytes(field(line, 1), b"log10") {
         return log10(line, out);
     }
@@ -174,63 +175,52 @@ fn call_likelihoods(rt: &impl Print, line: &[u8], out: &mut [f64]) {
 }
 
 fn run_likelihoods(rt: &impl Print, line: &[u8]) {
-    let mut out = [0.5f64; 256];
+    let mut out = [SET_VALUE; 256];
     call_likelihoods(rt, line, &mut out);
 }
 
 // ---- unused ALTs
 
-// Prints if an output has changed behind so many bytes, values and numbers.
-fn print_faults(
-    rt: &impl Print,
-    alts: &[u8],
-    alts_count: usize,
-    gl: &[f64],
-    gl_count: usize,
-    ad: &[u32],
-    ad_count: usize,
-) {
-    print_if_changed(rt, alts, alts_count);
-    print_if_values_changed(rt, gl, gl_count);
-    print_if_numbers_changed(rt, ad, ad_count);
+// Prints if an output has changed behind what was written.
+fn print_faults(rt: &impl Print, written: UnusedAlts, alts: &[u8], gl: &[f64], ad: &[u32]) {
+    print_if_changed(rt, alts, written.alts, SET_BYTE);
+    print_if_changed(rt, gl, written.likelihoods, SET_VALUE);
+    print_if_changed(rt, ad, written.ad, SET_NUMBER);
 }
 
 // Prints how much was written of each, and the lists.
-fn print_record(
-    rt: &impl Print,
-    alts: &[u8],
-    alts_count: usize,
-    gl: &[f64],
-    gl_count: usize,
-    ad: &[u32],
-    ad_count: usize,
-) {
-    print_written(rt, alts_count);
+fn print_record(rt: &impl Print, written: UnusedAlts, alts: &[u8], gl: &[f64], ad: &[u32]) {
+    print_written(rt, written.alts);
     print(rt, b",");
-    print_number(rt, gl_count);
+    print_number(rt, written.likelihoods);
     print(rt, b",");
-    print_number(rt, ad_count);
-    print_text(rt, tables::part(alts, 0, alts_count));
-    print_values(rt, first_values(gl, gl_count));
-    print_numbers(rt, first_numbers(ad, ad_count));
+    print_number(rt, written.ad);
+    print_text(rt, tables::part(alts, 0, written.alts));
+    print_values(rt, first(gl, written.likelihoods));
+    print_numbers(rt, first(ad, written.ad));
     print(rt, b"\n");
 }
 
 fn print_unused_outcome(
     rt: &impl Print,
-    outcome: UnusedAltOutcome,
+    outcome: Result<UnusedAlts, Refusal>,
     alts: &[u8],
     gl: &[f64],
     ad: &[u32],
 ) {
     match outcome {
-        UnusedAltOutcome::Written(alts_count, gl_count, ad_count) => {
-            print_record(rt, alts, alts_count, gl, gl_count, ad, ad_count);
-            print_faults(rt, alts, alts_count, gl, gl_count, ad, ad_count);
+        Ok(written) => {
+            print_record(rt, written, alts, gl, ad);
+            print_faults(rt, written, alts, gl, ad);
         }
-        UnusedAltOutcome::Refused(row) => {
-            print_refused(rt, row);
-            print_faults(rt, alts, 0, gl, 0, ad, 0);
+        Err(refusal) => {
+            let nothing = UnusedAlts {
+                alts: 0,
+                likelihoods: 0,
+                ad: 0,
+            };
+            print_refused(rt, refusal);
+            print_faults(rt, nothing, alts, gl, ad);
         }
     }
 }
@@ -241,7 +231,7 @@ fn unused(
     alts_out: &mut [u8],
     gl_out: &mut [f64],
     ad_out: &mut [u32],
-) -> UnusedAltOutcome {
+) -> Result<UnusedAlts, Refusal> {
     let mut gt = [0usize; 32];
     let gt_count = read_alleles(field(line, 6), &mut gt);
     let mut gl = [0.0f64; 256];
@@ -251,9 +241,9 @@ fn unused(
     let alts = text_field(line, 5);
     allele_subsetting_pl::subset_unused_alts_after_merged_genotyping(
         alts,
-        first_alleles(&gt, gt_count),
-        first_values(&gl, gl_count),
-        first_numbers(&ad, ad_count),
+        first(&gt, gt_count),
+        first(&gl, gl_count),
+        first(&ad, ad_count),
         alts_out,
         gl_out,
         ad_out,
@@ -280,9 +270,9 @@ fn call_unused(
 }
 
 fn run_unused(rt: &impl Print, line: &[u8]) {
-    let mut alts_out = [255u8; 256];
-    let mut gl_out = [0.5f64; 256];
-    let mut ad_out = [4294967295u32; 32];
+    let mut alts_out = [SET_BYTE; 256];
+    let mut gl_out = [SET_VALUE; 256];
+    let mut ad_out = [SET_NUMBER; 32];
     call_unused(rt, line, &mut alts_out, &mut gl_out, &mut ad_out);
 }
 

@@ -1,8 +1,7 @@
 // Lists as a case spells them, with commas: numbers, and f64 values by the 16 hexadecimal digits of their bits. `.` is the empty list.
 ghost use Rattle.std.specs.Prelude.{◌≤◌, length};
 
-use kv_text::NumbersRead;
-use test_cases::{after_field, at_most, print, print_number};
+use test_cases::{after_field, print, print_number};
 
 // ---- reading
 
@@ -11,11 +10,7 @@ pub fn read_numbers(s: &[u8], out: &mut [u32]) -> usize
     ensures { result ≤ length out.old }
 {
     let room = out.len();
-    let read = kv_text::read_numbers(s, out);
-    match read {
-        NumbersRead::Count(count) => at_most(count, room),
-        NumbersRead::Fault => 0,
-    }
+    kv_text::read_numbers(s, out).map_or(0, |count| count.min(room))
 }
 
 fn wide(n: u32) -> usize {
@@ -27,10 +22,9 @@ pub fn read_alleles(s: &[u8], out: &mut [usize]) -> usize
     ensures { result ≤ length out.old }
 {
     let mut numbers = [0u32; 32];
-    let count = at_most(read_numbers(s, &mut numbers), out.len());
-    for i in 0..count {
-        let n = numbers[i];
-        out[i] = wide(n);
+    let count = read_numbers(s, &mut numbers).min(out.len());
+    for (place, n) in out.iter_mut().zip(&numbers[..count]) {
+        *place = wide(*n);
     }
     count
 }
@@ -46,9 +40,8 @@ fn digit_value(b: u8) -> u64 {
 // The bits that hexadecimal digits spell.
 fn bits_spelled(s: &[u8]) -> u64 {
     let mut bits = 0u64;
-    for i in 0..s.len() {
-        let digit = digit_value(s[i]);
-        bits = (bits << 4) | digit;
+    for b in s {
+        bits = (bits << 4) | digit_value(*b);
     }
     bits
 }
@@ -67,41 +60,21 @@ pub fn read_values(s: &[u8], out: &mut [f64]) -> usize
     ensures { result ≤ length out.old }
 {
     let mut at = 0;
-    let mut count = 0;
-    while count < out.len() {
+    let room = out.len();
+    for (count, value) in out.iter_mut().enumerate() {
         if s.len() <= at {
             return count;
         }
         let end = kv_text::field_end(s, at, b',');
-        let bits = bits_spelled(tables::part(s, at, end));
-        out[count] = value_of(bits);
-        count += 1;
+        *value = value_of(bits_spelled(tables::part(s, at, end)));
         at = after_field(s, at, b',');
     }
-    count
+    room
 }
 
-// ---- the first of some values, as far as there are so many
-
-pub fn first_numbers<'a>(numbers: &'a [u32], count: usize) -> &'a [u32] {
-    if numbers.len() < count {
-        return numbers;
-    }
-    &numbers[..count]
-}
-
-pub fn first_alleles<'a>(alleles: &'a [usize], count: usize) -> &'a [usize] {
-    if alleles.len() < count {
-        return alleles;
-    }
-    &alleles[..count]
-}
-
-pub fn first_values<'a>(values: &'a [f64], count: usize) -> &'a [f64] {
-    if values.len() < count {
-        return values;
-    }
-    &values[..count]
+// The first of some values, as far as there are so many.
+pub fn first<'a, T>(values: &'a [T], count: usize) -> &'a [T] {
+    &values[..count.min(values.len())]
 }
 
 // ---- printing
@@ -134,10 +107,9 @@ pub fn print_text(rt: &impl Print, s: &[u8]) {
 // Prints a list of numbers behind a space.
 pub fn print_numbers(rt: &impl Print, numbers: &[u32]) {
     print_empty(rt, numbers.len());
-    for i in 0..numbers.len() {
-        print_separator(rt, i);
-        let n = numbers[i];
-        print_number(rt, wide(n));
+    for (place, n) in numbers.iter().enumerate() {
+        print_separator(rt, place);
+        print_number(rt, wide(*n));
     }
 }
 
@@ -155,45 +127,8 @@ fn bits_of(x: f64) -> u64 {
 // Prints a list of f64 values behind a space.
 pub fn print_values(rt: &impl Print, values: &[f64]) {
     print_empty(rt, values.len());
-    for i in 0..values.len() {
-        print_separator(rt, i);
-        let x = values[i];
-        let _ = print!(rt; "{:016x}", bits_of(x));
-    }
-}
-
-// ---- the output of a call
-
-// Whether every number from a place on is 4,294,967,295, to which it is set before a call.
-fn are_numbers_set(numbers: &[u32], from: usize) -> bool {
-    for i in from..numbers.len() {
-        if numbers[i] != 4294967295 {
-            return false;
-        }
-    }
-    true
-}
-
-// Whether every value from a place on is 0.5, to which it is set before a call.
-fn are_values_set(values: &[f64], from: usize) -> bool {
-    for i in from..values.len() {
-        if values[i] != 0.5 {
-            return false;
-        }
-    }
-    true
-}
-
-// Prints a line if the output behind a list of so many numbers is not as it was set.
-pub fn print_if_numbers_changed(rt: &impl Print, out: &[u32], count: usize) {
-    if !are_numbers_set(out, count) {
-        print(rt, b"the output has changed behind the list\n");
-    }
-}
-
-// Prints a line if the output behind a list of so many values is not as it was set.
-pub fn print_if_values_changed(rt: &impl Print, out: &[f64], count: usize) {
-    if !are_values_set(out, count) {
-        print(rt, b"the output has changed behind the list\n");
+    for (place, x) in values.iter().enumerate() {
+        print_separator(rt, place);
+        let _ = print!(rt; "{:016x}", bits_of(*x));
     }
 }

@@ -17,7 +17,7 @@ fn run(rt: &impl Print, combined: &[u8], out: &mut [u8]) {
     test_cases::set_bytes(out);
     let outcome = genotype_gvcfs::call(combined, out);
     let count = test_cases::print_outcome(rt, outcome, out);
-    test_cases::print_if_changed(rt, out, count);
+    test_cases::print_if_changed(rt, out, count, 255);
 }
 
 // The case at an offset; the answer is where the next one begins.

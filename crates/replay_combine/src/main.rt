@@ -42,7 +42,7 @@ fn run<'a>(
     );
     let count = print_outcome(rt, outcome, out);
     print_if_not_zero(rt, scratch);
-    print_if_changed(rt, out, count);
+    print_if_changed(rt, out, count, 255);
 }
 
 // The case at an offset; the answer is where the next one begins.

@@ -10,21 +10,21 @@
 
 ghost use Rattle.std.specs.Prelude.{◌<◌, length};
 
-use search_looks::Looked;
+use answers::Refusal;
 use test_cases::{
     case_at, count_field, field, line_at, number_field, print, print_if_not_zero, print_number,
     print_refused, read_input, set_places,
 };
 
 // Prints the answer behind the case's name.
-fn print_looked(rt: &impl Print, looked: Looked) {
+fn print_looked(rt: &impl Print, looked: Result<usize, Refusal>) {
     match looked {
-        Looked::Figure(figure) => {
+        Ok(figure) => {
             print(rt, b" looks=");
             print_number(rt, figure);
             print(rt, b"\n");
         }
-        Looked::Refused(row) => print_refused(rt, row),
+        Err(refusal) => print_refused(rt, refusal),
     }
 }
 

@@ -6,22 +6,9 @@
 
 ghost use Rattle.std.specs.Prelude.{◌≡◌, ◌+◌, ◌≤◌, min, length};
 
-use answers::Outcome;
-use kv_text::{FieldAt, NumberRead};
-use std::io::Read;
+use answers::Refusal;
 
 // ---- the cases
-
-// One read behind the bytes that are there; no byte if it fails.
-fn read_behind(reader: &mut impl Read, buffer: &mut [u8], count: usize) -> usize
-    requires { count ≤ length buffer.old }
-    ensures { count + result ≤ length buffer.old }
-{
-    match reader.read(&mut buffer[count..]) {
-        Ok(more) => more,
-        Err(_) => 0,
-    }
-}
 
 // Reads standard input until the buffer is full, the input ends or a read fails. The answer is how many bytes it has put at the start.
 pub fn read_input(rt: &impl Input, buffer: &mut [u8]) -> usize
@@ -30,11 +17,10 @@ pub fn read_input(rt: &impl Input, buffer: &mut [u8]) -> usize
     let mut reader = rt.reader();
     let mut count = 0;
     while count < buffer.len() {
-        let more = read_behind(&mut reader, buffer, count);
-        if more == 0 {
-            return count;
+        match files::read_behind(&mut reader, buffer, count) {
+            Ok(0) | Err(_) => return count,
+            Ok(more) => count += more,
         }
-        count += more;
     }
     count
 }
@@ -48,37 +34,22 @@ pub fn line_at<'a>(s: &'a [u8], at: usize) -> &'a [u8] {
 
 // The field with this number of a case's line; nothing past the last.
 pub fn field<'a>(line: &'a [u8], number: usize) -> &'a [u8] {
-    let found = kv_text::field_at(line, b' ', number);
-    match found {
-        FieldAt::At(from, to) => tables::part(line, from, to),
-        FieldAt::Absent => tables::part(line, 0, 0),
+    match kv_text::field_at(line, b' ', number) {
+        Some(found) => tables::part(line, found.at, found.end),
+        None => tables::part(line, 0, 0),
     }
 }
 
 // The number that a field of a case's line spells, or 0.
 pub fn number_field(line: &[u8], number: usize) -> usize {
-    let read = kv_text::read_number(field(line, number));
-    match read {
-        NumberRead::Value(n) => n as usize,
-        NumberRead::Fault => 0,
-    }
-}
-
-// A count, or the most that there is.
-pub fn at_most(count: usize, most: usize) -> usize
-    ensures { result ≡ min count most }
-{
-    if most < count {
-        return most;
-    }
-    count
+    kv_text::read_number(field(line, number)).map_or(0, |n| n as usize)
 }
 
 // The number that a field of a case's line spells, or the most that there is.
 pub fn count_field(line: &[u8], number: usize, most: usize) -> usize
     ensures { result ≤ most }
 {
-    at_most(number_field(line, number), most)
+    number_field(line, number).min(most)
 }
 
 // The offset behind the field at an offset and its separator, or the end of the input.
@@ -103,13 +74,7 @@ pub fn after_line(s: &[u8], at: usize) -> usize
 fn after_bytes(s: &[u8], at: usize, count: usize) -> usize
     ensures { result ≡ min (at + count) (length s.now) }
 {
-    if s.len() <= at {
-        return s.len();
-    }
-    if s.len() - at < count {
-        return s.len();
-    }
-    at + count
+    at.saturating_add(count).min(s.len())
 }
 
 // Where the texts of a case stand, each up to the next one.
@@ -150,24 +115,24 @@ pub fn print_number(rt: &impl Print, n: usize) {
 }
 
 // The end of a line that tells of a refusal.
-pub fn print_refused(rt: &impl Print, row: usize) {
+pub fn print_refused(rt: &impl Print, refusal: Refusal) {
     print(rt, b" refused=");
-    print_number(rt, row);
+    print_number(rt, refusal.row());
     print(rt, b"\n");
 }
 
 // Prints the answer behind the case's name. The answer is how many bytes the list has.
-pub fn print_outcome(rt: &impl Print, outcome: Outcome, out: &[u8]) -> usize {
+pub fn print_outcome(rt: &impl Print, outcome: Result<usize, Refusal>, out: &[u8]) -> usize {
     match outcome {
-        Outcome::Written(count) => {
+        Ok(count) => {
             print(rt, b" written=");
             print_number(rt, count);
             print(rt, b"\n");
             print(rt, tables::part(out, 0, count));
             count
         }
-        Outcome::Refused(row) => {
-            print_refused(rt, row);
+        Err(refusal) => {
+            print_refused(rt, refusal);
             0
         }
     }
@@ -177,24 +142,12 @@ pub fn print_outcome(rt: &impl Print, outcome: Outcome, out: &[u8]) -> usize {
 
 // Sets every byte to one that no list has.
 pub fn set_bytes(out: &mut [u8]) {
-    for i in 0..out.len() {
-        out[i] = 255;
-    }
+    out.fill(255);
 }
 
-// Whether every byte is as it was set.
-fn is_set(bytes: &[u8]) -> bool {
-    for i in 0..bytes.len() {
-        if bytes[i] != 255 {
-            return false;
-        }
-    }
-    true
-}
-
-// Prints a line if the output behind a list of so many bytes is not as it was set.
-pub fn print_if_changed(rt: &impl Print, out: &[u8], count: usize) {
-    if !is_set(tables::part(out, count, out.len())) {
+// Prints a line if the output behind so many values is not all as it was set.
+pub fn print_if_changed<T: PartialEq>(rt: &impl Print, out: &[T], count: usize, set: T) {
+    if out.iter().skip(count).any(|value| *value != set) {
         print(rt, b"the output has changed behind the list\n");
     }
 }
@@ -203,23 +156,12 @@ pub fn print_if_changed(rt: &impl Print, out: &[u8], count: usize) {
 
 // Sets every place to a number that no call leaves there.
 pub fn set_places(scratch: &mut [u64]) {
-    for i in 0..scratch.len() {
-        scratch[i] = 18446744073709551615;
-    }
-}
-
-fn is_zero(scratch: &[u64]) -> bool {
-    for i in 0..scratch.len() {
-        if scratch[i] != 0 {
-            return false;
-        }
-    }
-    true
+    scratch.fill(18446744073709551615);
 }
 
 // Prints a line if scratch is not zero.
 pub fn print_if_not_zero(rt: &impl Print, scratch: &[u64]) {
-    if !is_zero(scratch) {
+    if scratch.iter().any(|place| *place != 0) {
         print(rt, b"scratch is not zero\n");
     }
 }

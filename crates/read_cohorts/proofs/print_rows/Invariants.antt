@@ -1,6 +1,0 @@
--- Each turn leaves a number less.
-use Rattle.std.proofs.Common.{◌-◌}
-use Rattle.read_cohorts.proofs.print_rows.Given as goal
-
-abbrev pub decreases-loop-i : goal.decreases-loop-i
-decreases-loop-i g l = l.count - l.i
