@@ -5,6 +5,7 @@
 
 ghost use Rattle.std.specs.Prelude.{◌||◌, not, List, map, ◌≡◌, ℕ, ◌+◌, ◌<◌, ◌≤◌, ◌^◌, length, take};
 ghost use Rattle.std.proofs.Math.Option.{get_or};
+ghost use Rattle.answers.specs.Options.{option_of};
 ghost use Rattle.definitions.specs.Alleles.{alleles_of, capital, non_ref, same_allele};
 ghost use Rattle.definitions.specs.Bytes.{comma, fields_of};
 ghost use Rattle.definitions.specs.CalledGenotypes.{pl_without_allele};
@@ -14,12 +15,10 @@ ghost use Rattle.definitions.specs.Printed.{printed_values};
 ghost use Rattle.genotype_values.specs.Remapped.{Filled, of_present};
 ghost use Rattle.kv_write.specs.Laid.{Laid};
 ghost use Rattle.laws.proofs.AllelesAsRead.{ref_alts_as_read};
-ghost use Rattle.kv_write.specs.Optional.{option_of};
 ghost use Rattle.called_lines.specs.SampleValues.{CalledPrintable, called_values, own_values};
 ghost use Rattle.called_lines.specs.Rows.{CalledHeadFits, CalledRecordFits, SamplePrintable, SamplesPrintable, alt_behind, alt_line, called_alts, called_head, called_sample, called_samples, row_record};
 
 use bio_ids::{AlleleIndex, GenomePosition, SampleIndex};
-use kv_write::OptionalNumber;
 
 // ---- the lines of a sample
 
@@ -30,14 +29,14 @@ fn remap_present_pl(alleles: usize, dropped: AlleleIndex, pl: &[u32], out: &mut 
         (of_present (pl_without_allele alleles dropped.0) pl.now)
         out.old out.new result }
 {
-    if pl.len() == 0 {
+    if pl.is_empty() {
         return 0;
     }
     called_genotypes::remap_pl_drop_alleles(alleles, dropped, pl, out)
 }
 
 // Lays the lines of a sample whose AD and PL are without the dropped allele; an empty one is missing.
-fn put_called_values(out: &mut [u8], at: usize, dp: OptionalNumber, ad: &[u32], pl: &[u32]) -> usize
+fn put_called_values(out: &mut [u8], at: usize, dp: Option<u32>, ad: &[u32], pl: &[u32]) -> usize
     requires { at + length (printed_values (called_values (option_of dp) ad.now pl.now)) < 2 ^ 64 }
     ensures { Laid out.old at
         (printed_values (called_values (option_of dp) ad.now pl.now))
@@ -57,7 +56,7 @@ pub fn put_called_data(
     at: usize,
     alleles: usize,
     dropped: AlleleIndex,
-    dp: OptionalNumber,
+    dp: Option<u32>,
     ad: &[u32],
     pl: &[u32],
 ) -> usize

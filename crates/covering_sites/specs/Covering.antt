@@ -62,6 +62,10 @@ pub record StartsAscend (rows chosen bounds : List ℕ) (samples : ℕ) : Type 0
   pub ascend : (x : ℕ) → x < samples → (j k : ℕ) → get_or bounds x 0 ≤ j → j ≤ k → k < get_or bounds (x + 1) 0
       → column 2 rows (get_or chosen j 0) ≤ column 2 rows (get_or chosen k 0)
 
+-- so they do in one run by itself
+pub record RunAscends (rows run : List ℕ) : Type 0 where
+  pub ascend : (j k : ℕ) → j ≤ k → k < length run → column 2 rows (get_or run j 0) ≤ column 2 rows (get_or run k 0)
+
 -- ---- sites that cover a position
 
 -- the position lies from the site's start to its end

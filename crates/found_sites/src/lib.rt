@@ -1,7 +1,7 @@
 // The sites found over a position in a list, each with its sample; and from it the row of each sample's own site.
 #![tactic(auto)]
 
-ghost use Rattle.std.specs.Prelude.{◌≡◌, ◌<◌, ◌≤◌, get_or, length, take};
+ghost use Rattle.std.specs.Prelude.{◌≡◌, ◌<◌, ◌≤◌, get_or, length};
 ghost use Rattle.std.proofs.lemmas.List.Edits.{sets};
 ghost use Rattle.found_sites.specs.Own.{found_at, found_list, own_rows, put_all, put_own};
 
@@ -29,10 +29,8 @@ fn gather(list: &mut [Found], sites: &[usize], owners: &[usize])
     requires { (length owners.now ≤ length list.old) × (length sites.now ≡ length owners.now) }
     ensures { list.new ≡ sets list.old 0 (found_list sites.now owners.now) }
 {
-    let mut i = 0;
-    while i < owners.len() {
+    for i in 0..owners.len() {
         list[i] = found_at(sites, owners, i);
-        i += 1;
     }
 }
 
@@ -40,22 +38,15 @@ fn gather(list: &mut [Found], sites: &[usize], owners: &[usize])
 fn put_own(own: &mut [usize], found: Found)
     ensures { own.new ≡ put_own found own.old }
 {
-    let sample = found.sample.get();
-    let row = found.row;
-    if sample < own.len() {
-        own[sample] = row;
-    }
+    slices::store(own, found.sample.get(), found.row);
 }
 
-// The same for so many of the list, from the last to the first, so that a sample's first one is left.
-fn spread(list: &[Found], count: usize, own: &mut [usize])
-    requires { count ≤ length list.now }
-    ensures { own.new ≡ put_all (take count list.now) own.old }
+// The same for each of a list, from the last to the first, so that a sample's first one is left.
+fn spread(list: &[Found], own: &mut [usize])
+    ensures { own.new ≡ put_all list.now own.old }
 {
-    let mut i = count;
-    while 0 < i {
-        i -= 1;
-        put_own(own, list[i]);
+    for found in list.iter().rev() {
+        put_own(own, *found);
     }
 }
 
@@ -66,7 +57,7 @@ fn list_sites(sites: &[usize], owners: &[usize], blank: Found, own: &mut [usize]
 {
     let mut list = [blank; 64];
     gather(&mut list, sites, owners);
-    spread(&list, owners.len(), own);
+    spread(&list[..owners.len()], own);
 }
 
 // The row of each sample's own site: of at most 64 sites the first that is the sample's. The entry of a sample that has none is left

@@ -5,12 +5,12 @@
 #![tactic(auto)]
 
 ghost use Rattle.std.specs.Prelude.{map, ◌≡◌, ◌+◌, ◌<◌, ◌≤◌, ◌^◌, length};
+ghost use Rattle.answers.specs.Options.{option_of};
 ghost use Rattle.definitions.specs.Alleles.{capital};
 ghost use Rattle.definitions.specs.Lines.{line};
 ghost use Rattle.definitions.specs.Numbers.{max_number};
 ghost use Rattle.definitions.specs.Printed.{printed_sample_data};
 ghost use Rattle.kv_write.specs.Laid.{Laid};
-ghost use Rattle.kv_write.specs.Optional.{option_of};
 ghost use Rattle.sample_alleles.specs.Fields.{AltsAt};
 ghost use Rattle.record_lines.specs.Head.{HeadFits, PlaceFits, end_from, head_of, place_of};
 ghost use Rattle.record_lines.specs.Records.{RecordFits, record_bytes};
@@ -18,18 +18,17 @@ ghost use Rattle.record_lines.specs.Samples.{OwnPrintable, SamplePrintable, Samp
 
 use bio_ids::{GenomeLoc, GenomePosition};
 use genotype_values::Depths;
-use kv_write::OptionalNumber;
 
 // END of a record: its last position, if that is past its first.
-fn end_from(loc: GenomeLoc) -> OptionalNumber
+fn end_from(loc: GenomeLoc) -> Option<u32>
     requires { loc.end.0 ≤ max_number }
     ensures { option_of result ≡ end_from loc.start.0 loc.end.0 }
 {
     let end = loc.end.get();
     if loc.start.get() < end {
-        return OptionalNumber::Present(end as u32);
+        return Some(end as u32);
     }
-    OptionalNumber::Missing
+    None
 }
 
 // Lays contig, POS and END. A record that is no block is passed with its position as start and as end, and has no END.
@@ -162,10 +161,9 @@ fn put_own_samples(
         out.new result }
 {
     let mut next = at;
-    for i in 0..own.len() {
-        let site = own[i];
+    for site in own {
         next = put_sample(
-            s, rows, site, position, reference, alts, fields, alt_count, out, next,
+            s, rows, *site, position, reference, alts, fields, alt_count, out, next,
         );
     }
     next

@@ -74,22 +74,12 @@ fn is_extended(allele: &[u8], bases: &[u8], tail: &[u8]) -> bool
 
 // ---- numbers for them
 
-// Stores an allele's number, if there is room at the place.
-fn put_index(map: &mut [u8], place: usize, index: AlleleIndex)
-    ensures { map.new ≡ set map.old place index.0 }
-{
-    let byte = index.get() as u8;
-    if place < map.len() {
-        map[place] = byte;
-    }
-}
-
-// The same if it is wanted.
+// Stores an allele's number, if it is wanted and there is room at the place.
 fn put_index_if(wanted: bool, map: &mut [u8], place: usize, index: AlleleIndex)
     ensures { map.new ≡ cond wanted (set map.old place index.0) map.old }
 {
     if wanted {
-        put_index(map, place, index);
+        slices::store(map, place, index.get() as u8);
     }
 }
 
@@ -98,7 +88,7 @@ fn put_absent(index: AlleleIndex, count: usize, map: &mut [u8])
     ensures { map.new ≡ sets map.old 1 (each_of (λ _. index.0) count) }
 {
     for i in 0..count {
-        put_index(map, i + 1, index);
+        slices::store(map, i + 1, index.get() as u8);
     }
 }
 
@@ -298,7 +288,7 @@ fn put_indexes(
         (alleles_in alts.now)) }
 {
     let zero = AlleleIndex::reference();
-    put_index(map, 0, zero);
+    slices::store(map, 0, 0);
     let first = AlleleIndex::new(1);
     put_alts(
         own, alternates, 0, first, zero, starts, reference, alts, fields, count, map,
