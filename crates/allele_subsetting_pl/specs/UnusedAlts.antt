@@ -1,24 +1,15 @@
 -- What `subset_unused_alts_after_merged_genotyping` answers, as the definitions have it, and what its three outputs hold at the end.
-use Rattle.std.specs.Prelude.{◌≤◌, suc, ℕ, eqb, leb, Float, length, Bool, ◌&&◌, ◌||◌, List, ◌≡◌}
+use Rattle.std.specs.Prelude.{◌≤◌, suc, ℕ, eqb, leb, Float, length, Bool, ◌&&◌, ◌||◌, List, ◌≡◌, Result, Ok, Err}
+use Rattle.answers.specs.Answered.{checked_of}
+use Rattle.answers.specs.declared.Refusal.{Refusal}
 use Rattle.definitions.specs.AlleleSubset.{UnusedAltSubset, alt_fields, assigned_alleles}
 use Rattle.definitions.specs.Answers.{output_after}
 use Rattle.definitions.specs.Checked.{Checked, ◌>>=◌, ◌>>◌, accepted, refused, require}
 use Rattle.likelihoods.specs.Written.{none_above}
-use Rattle.allele_subsetting_pl.specs.declared.UnusedAltOutcome.{UnusedAltOutcome}
-use Rattle.allele_subsetting_pl.specs.declared.UnusedAltOutcome.TheVariants as outcome
+use Rattle.allele_subsetting_pl.specs.declared.UnusedAlts.{UnusedAlts}
 
 -- how many values are written to each output
-pub record UnusedAltLengths : Type 0 where
-  pub alts : ℕ
-  pub likelihoods : ℕ
-  pub ad : ℕ
-
--- so many values, or the row that refuses the call
-abbrev pub outcome_answer : UnusedAltOutcome → Checked UnusedAltLengths
-outcome_answer (outcome.Written alts likelihoods ad) = accepted (record { alts = alts; likelihoods = likelihoods; ad = ad })
-outcome_answer (outcome.Refused row) = refused row
-
-unfoldable pub written_of : Checked UnusedAltSubset → Checked UnusedAltLengths
+unfoldable pub written_of : Checked UnusedAltSubset → Checked UnusedAlts
 written_of (refused row) = refused row
 written_of (accepted s) = accepted (record { alts = length s.alts; likelihoods = length s.likelihoods; ad = length s.ad })
 
@@ -38,8 +29,8 @@ abbrev pub outputs : List ℕ → List Float → List ℕ → Outputs
 outputs alts likelihoods ad = record { alts = alts; likelihoods = likelihoods; ad = ad }
 
 -- the answer is that of this subset, or of the row that refuses it, and so is what each output holds at the end
-pub record UnusedAltsAnswered (subset : Checked UnusedAltSubset) (before after : Outputs) (r : UnusedAltOutcome) : Type 0 where
-  pub answer : outcome_answer r ≡ written_of subset
+pub record UnusedAltsAnswered (subset : Checked UnusedAltSubset) (before after : Outputs) (r : Result UnusedAlts Refusal) : Type 0 where
+  pub answer : checked_of r ≡ written_of subset
   pub alts : after.alts ≡ output_after (list_of (λ s. s.alts) subset) before.alts
   pub likelihoods : after.likelihoods ≡ output_after (list_of (λ s. s.likelihoods) subset) before.likelihoods
   pub ad : after.ad ≡ output_after (list_of (λ s. s.ad) subset) before.ad
@@ -49,9 +40,9 @@ abbrev pub every_alt_assigned : List ℕ → List ℕ → Bool
 every_alt_assigned alts gt = let n = suc (length (alt_fields alts)) in eqb (length (assigned_alleles n gt)) n
 
 -- how many likelihoods a call wrote: none if it is refused
-abbrev pub likelihood_count_of : UnusedAltOutcome → ℕ
-likelihood_count_of (outcome.Written alts likelihoods ad) = likelihoods
-likelihood_count_of (outcome.Refused row) = 0
+abbrev pub likelihood_count_of : Result UnusedAlts Refusal → ℕ
+likelihood_count_of (Ok written) = written.likelihoods
+likelihood_count_of (Err r) = 0
 
 -- document 01, none above 0: of the likelihoods that a call wrote, where a subset is made
 abbrev pub subset_none_above : List ℕ → List ℕ → ℕ → List Float → Bool

@@ -17,10 +17,8 @@ ghost use Rattle.likelihoods.specs.Written.{count_of, none_above};
 ghost use Rattle.allele_subsetting_pl.specs.KeepLists.{AltNumbers, KeepList, absent_likelihood, alt_with, alts_with, is_assigned, only_assigned};
 ghost use Rattle.allele_subsetting_pl.specs.UnusedAlts.{AssignedKeep, UnusedAltsAnswered, likelihood_count_of, outputs, subset_none_above, subset_within, whole_record};
 
-use answers::Outcome;
+use answers::Refusal;
 use bio_ids::AlleleIndex;
-use genotype_values::MappedAt;
-use kv_text::FieldAt;
 
 // How many genotypes at most 16 alleles have.
 fn num_genotype_likelihoods(alleles: usize) -> usize
@@ -36,23 +34,14 @@ fn num_genotype_likelihoods(alleles: usize) -> usize
 fn allele_count_fits(alleles: usize) -> bool
     ensures { result ≡ allele_count_fits alleles }
 {
-    if alleles < 1 {
-        return false;
-    }
-    alleles <= 16
+    1 <= alleles && alleles <= 16
 }
 
 // Whether every number is below a bound.
 fn all_below(numbers: &[usize], bound: usize) -> bool
     ensures { result ≡ all_of (λ a. ltb a bound) numbers.now }
 {
-    for i in 0..numbers.len() {
-        let n = numbers[i];
-        if bound <= n {
-            return false;
-        }
-    }
-    true
+    numbers.iter().all(|n| *n < bound)
 }
 
 // Whether the likelihoods of at most 16 alleles and a keep list can be used.
@@ -60,54 +49,22 @@ fn subset_fits(gl: &[f64], alleles: usize, keep: &[usize]) -> bool
     requires { alleles ≤ 16 }
     ensures { result ≡ subset_fits gl.now alleles keep.now }
 {
-    if gl.len() != num_genotype_likelihoods(alleles) {
-        return false;
-    }
-    if 16 < keep.len() {
-        return false;
-    }
-    if !likelihoods::all_in_range(gl) {
-        return false;
-    }
-    all_below(keep, alleles)
+    gl.len() == num_genotype_likelihoods(alleles)
+        && keep.len() <= 16
+        && likelihoods::all_in_range(gl)
+        && all_below(keep, alleles)
 }
 
 // ---- likelihoods
-
-// The allele at a place of a list of numbers below 16.
-fn allele_at(numbers: &[usize], place: usize) -> AlleleIndex
-    requires { (place < length numbers.now) × (all_of (λ a. ltb a 16) numbers.now ≡ true) }
-    ensures { result.0 ≡ get_or numbers.now place 0 }
-{
-    AlleleIndex::new(numbers[place] as u8)
-}
-
-// Stores an allele's number, if there is room at the place.
-fn put_allele(map: &mut [u8], place: usize, allele: AlleleIndex)
-    ensures { map.new ≡ set map.old place allele.0 }
-{
-    let number = allele.get() as u8;
-    if place < map.len() {
-        map[place] = number;
-    }
-}
 
 // A keep list as a map of the alleles that are left, as far as it fits.
 fn allele_map(keep: &[usize], map: &mut [u8])
     requires { KeepList keep.now }
     ensures { map.new ≡ sets map.old 0 keep.now }
 {
-    for i in 0..keep.len() {
-        let allele = allele_at(keep, i);
-        put_allele(map, i, allele);
+    for (i, number) in keep.iter().enumerate() {
+        slices::store(map, i, *number as u8);
     }
-}
-
-// The value at a place; 0 if there is none.
-fn likelihood_at(gl: &[f64], place: usize) -> f64
-    ensures { result ≡ get_or gl.now place absent_likelihood }
-{
-    if place < gl.len() { gl[place] } else { 0.0 }
 }
 
 // The value for a place of the genotypes that are left.
@@ -117,8 +74,8 @@ fn mapped_likelihood(map: &[u8], gl: &[f64], place: usize) -> f64
         absent_likelihood }
 {
     match genotype_values::genotype_index_map_diploid(map, place) {
-        MappedAt::At(old) => likelihood_at(gl, old),
-        MappedAt::NoPair => 0.0,
+        Some(old) => slices::value_or(gl, old, 0.0),
+        None => 0.0,
     }
 }
 
@@ -130,7 +87,7 @@ fn pick_likelihoods(map: &[u8], gl: &[f64], picked: &mut [f64])
     let count = num_genotype_likelihoods(map.len());
     for place in 0..count {
         let x = mapped_likelihood(map, gl, place);
-        likelihoods::put_value(picked, place, x);
+        slices::store(picked, place, x);
     }
 }
 
@@ -155,24 +112,24 @@ pub fn subset_log10_genotype_likelihoods(
     alleles: usize,
     keep: &[usize],
     out: &mut [f64],
-) -> Outcome
+) -> Result<usize, Refusal>
     ensures answered { Answered
         (likelihood_subset gl.now alleles keep.now (length out.old))
         out.old out.new result }
     ensures none_above { none_above (count_of result) out.new ≡ true }
 {
     if !allele_count_fits(alleles) {
-        return Outcome::Refused(15);
+        return Err(Refusal::Subset);
     }
     if !subset_fits(gl, alleles, keep) {
-        return Outcome::Refused(15);
+        return Err(Refusal::Subset);
     }
     let count = num_genotype_likelihoods(keep.len());
     if out.len() < count {
-        return Outcome::Refused(14);
+        return Err(Refusal::Output);
     }
     subset_likelihoods(gl, keep, out);
-    Outcome::Written(count)
+    Ok(count)
 }
 
 // ---- unused ALTs
@@ -181,7 +138,7 @@ pub fn subset_log10_genotype_likelihoods(
 fn alt_count(alts: &[u8]) -> usize
     ensures { result ≡ length (alt_fields alts.now) }
 {
-    if alts.len() == 0 {
+    if alts.is_empty() {
         return 0;
     }
     kv_text::count_fields(alts, b',')
@@ -192,16 +149,7 @@ fn is_assigned(gt: &[usize], allele: AlleleIndex) -> bool
     ensures { result ≡ is_assigned gt.now allele.0 }
 {
     let number = allele.get();
-    if number == 0 {
-        return true;
-    }
-    for i in 0..gt.len() {
-        let g = gt[i];
-        if g == number {
-            return true;
-        }
-    }
-    false
+    number == 0 || gt.contains(&number)
 }
 
 // Puts an allele into a keep list if it is assigned, and returns how many the list then has.
@@ -209,15 +157,11 @@ fn keep_assigned(keep: &mut [usize], count: usize, allele: AlleleIndex, assigned
     requires { count + length (only_assigned assigned allele.0) < 2 ^ 64 }
     ensures { Laid keep.old count (only_assigned assigned allele.0) keep.new result }
 {
-    let number = allele.get();
     if !assigned {
         return count;
     }
-    let next = count + 1;
-    if count < keep.len() {
-        keep[count] = number;
-    }
-    next
+    slices::store(keep, count, allele.get());
+    count + 1
 }
 
 // The numbers of REF and of the ALTs that the GT names, as far as they fit, and how many they are.
@@ -242,21 +186,16 @@ fn output_allele_keep_indices_from_assigned_gt(
 fn alt_index(allele: AlleleIndex) -> usize
     ensures { result ≡ allele.0 - 1 }
 {
-    let index = allele.get();
-    if index == 0 {
-        return 0;
-    }
-    index - 1
+    allele.get().saturating_sub(1)
 }
 
 // The ALT with an allele number; nothing if there is none.
 fn alt_at<'a>(alts: &'a [u8], allele: AlleleIndex) -> &'a [u8]
     ensures { result.now ≡ alt_with alts.now allele.0 }
 {
-    let found = kv_text::field_at(alts, b',', alt_index(allele));
-    match found {
-        FieldAt::At(from, to) => tables::part(alts, from, to),
-        FieldAt::Absent => tables::part(alts, 0, 0),
+    match kv_text::field_at(alts, b',', alt_index(allele)) {
+        Some(field) => tables::part(alts, field.at, field.end),
+        None => &alts[..0],
     }
 }
 
@@ -274,15 +213,13 @@ fn put_alts(out: &mut [u8], alts: &[u8], numbers: &[usize]) -> usize
     requires { AltNumbers alts.now numbers.now }
     ensures { Laid out.old 0 (alts_with alts.now numbers.now) out.new result }
 {
-    if numbers.len() == 0 {
+    let Some((first, rest)) = numbers.split_first() else {
         return 0;
-    }
-    let first = allele_at(numbers, 0);
-    let mut next = put_alt(out, 0, alts, first);
-    for i in 1..numbers.len() {
+    };
+    let mut next = put_alt(out, 0, alts, AlleleIndex::new(*first as u8));
+    for number in rest {
         next = kv_write::put_byte(out, next, b',');
-        let allele = allele_at(numbers, i);
-        next = put_alt(out, next, alts, allele);
+        next = put_alt(out, next, alts, AlleleIndex::new(*number as u8));
     }
     next
 }
@@ -307,27 +244,6 @@ fn subset_ad(ad: &[u32], keep: &[usize], out: &mut [u32])
     genotype_values::remap_ad(&map[..left], ad, out);
 }
 
-// Copies likelihoods as they are.
-fn copy_likelihoods(gl: &[f64], out: &mut [f64])
-    ensures { out.new ≡ sets out.old 0 gl.now }
-{
-    for i in 0..gl.len() {
-        let x = gl[i];
-        likelihoods::put_value(out, i, x);
-    }
-}
-
-// Copies AD to an output that has room for it.
-fn copy_ad(ad: &[u32], out: &mut [u32])
-    requires { length ad.now ≤ length out.old }
-    ensures { out.new ≡ sets out.old 0 ad.now }
-{
-    for i in 0..ad.len() {
-        let x = ad[i];
-        out[i] = x;
-    }
-}
-
 // Whether each of three lengths fits its output.
 fn has_room(
     alts: usize,
@@ -339,22 +255,15 @@ fn has_room(
 ) -> bool
     ensures { result ≡ leb alts alts_out && leb gl gl_out && leb ad ad_out }
 {
-    if alts_out < alts {
-        return false;
-    }
-    if gl_out < gl {
-        return false;
-    }
-    ad <= ad_out
+    alts <= alts_out && gl <= gl_out && ad <= ad_out
 }
 
-// What `subset_unused_alts_after_merged_genotyping` answers.
+// How much is written of the ALTs, the likelihoods and AD.
 #[derive(Clone, Copy)]
-pub enum UnusedAltOutcome {
-    // How much is written of the ALTs, the likelihoods and AD.
-    Written(usize, usize, usize),
-    // The row that refuses the call.
-    Refused(usize),
+pub struct UnusedAlts {
+    pub alts: usize,
+    pub likelihoods: usize,
+    pub ad: usize,
 }
 
 // A record whose ALTs are all assigned, as it is. Row 14 if an output is too short.
@@ -365,7 +274,7 @@ fn copy_record(
     alts_out: &mut [u8],
     gl_out: &mut [f64],
     ad_out: &mut [u32],
-) -> UnusedAltOutcome
+) -> Result<UnusedAlts, Refusal>
     ensures { UnusedAltsAnswered
         (subset_within (accepted (whole_record alts.now gl.now ad.now))
         (outputs alts_out.old gl_out.old ad_out.old))
@@ -384,12 +293,16 @@ fn copy_record(
         ad_len,
         ad_out.len(),
     ) {
-        return UnusedAltOutcome::Refused(14);
+        return Err(Refusal::Output);
     }
-    kv_write::put_bytes(alts_out, 0, alts);
-    copy_likelihoods(gl, gl_out);
-    copy_ad(ad, ad_out);
-    UnusedAltOutcome::Written(alts_len, gl_len, ad_len)
+    alts_out[..alts_len].copy_from_slice(alts);
+    gl_out[..gl_len].copy_from_slice(gl);
+    ad_out[..ad_len].copy_from_slice(ad);
+    Ok(UnusedAlts {
+        alts: alts_len,
+        likelihoods: gl_len,
+        ad: ad_len,
+    })
 }
 
 // A record without the ALTs that are not in a keep list. Row 15, and 14 if an output is too short.
@@ -402,7 +315,7 @@ fn subset_record(
     alts_out: &mut [u8],
     gl_out: &mut [f64],
     ad_out: &mut [u32],
-) -> UnusedAltOutcome
+) -> Result<UnusedAlts, Refusal>
     requires { AssignedKeep alts.now alleles keep.now }
     ensures { UnusedAltsAnswered
         (subset_within (subset_to keep.now (alt_fields alts.now) gl.now ad.now)
@@ -412,10 +325,10 @@ fn subset_record(
         result }
 {
     if !subset_fits(gl, alleles, keep) {
-        return UnusedAltOutcome::Refused(15);
+        return Err(Refusal::Subset);
     }
     if !all_below(keep, ad.len()) {
-        return UnusedAltOutcome::Refused(15);
+        return Err(Refusal::Subset);
     }
     let left = keep.len();
     let numbers = &keep[1..];
@@ -429,12 +342,16 @@ fn subset_record(
         left,
         ad_out.len(),
     ) {
-        return UnusedAltOutcome::Refused(14);
+        return Err(Refusal::Output);
     }
     put_alts(alts_out, alts, numbers);
     subset_likelihoods(gl, keep, gl_out);
     subset_ad(ad, keep, ad_out);
-    UnusedAltOutcome::Written(alts_len, gl_len, left)
+    Ok(UnusedAlts {
+        alts: alts_len,
+        likelihoods: gl_len,
+        ad: left,
+    })
 }
 
 // A record without the ALTs that the GT does not name; REF is always left. If the GT names all ALTs everything is copied as
@@ -447,7 +364,7 @@ pub fn subset_unused_alts_after_merged_genotyping(
     alts_out: &mut [u8],
     gl_out: &mut [f64],
     ad_out: &mut [u32],
-) -> UnusedAltOutcome
+) -> Result<UnusedAlts, Refusal>
     ensures answered { UnusedAltsAnswered
         (unused_alt_subset_within alts.now gt.now gl.now ad.now
         (length alts_out.old) (length gl_out.old) (length ad_out.old))
@@ -458,7 +375,7 @@ pub fn subset_unused_alts_after_merged_genotyping(
 {
     let alt_alleles = alt_count(alts);
     if 15 < alt_alleles {
-        return UnusedAltOutcome::Refused(15);
+        return Err(Refusal::Subset);
     }
     let alleles = alt_alleles + 1;
     let mut keep = [0usize; 16];

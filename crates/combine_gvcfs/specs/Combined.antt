@@ -1,9 +1,12 @@
 -- What a call answers, and what its buffers hold at the end.
-use Rattle.std.specs.Prelude.{◌*◌, ◌<◌, ◌≤◌, ℕ, leb, length, Bool, ◌&&◌, false, true, List, ◌⊎◌, ◌≡◌}
+use Rattle.std.specs.Prelude.{◌*◌, ◌<◌, ◌≤◌, ℕ, leb, length, Bool, ◌&&◌, false, true, List, ◌⊎◌, ◌≡◌, Result, Ok, Err}
 use Rattle.std.proofs.Math.Option.{Option}
-use Rattle.answers.specs.Answered.{Answered, outcome_answer}
-use Rattle.answers.specs.declared.Outcome.{Outcome}
+use Rattle.answers.specs.Answered.{Answered, checked_of, row_of}
+use Rattle.answers.specs.declared.LoadError.{LoadError}
+use Rattle.answers.specs.declared.LoadError.TheVariants.{NoRoom, Refused}
+use Rattle.answers.specs.declared.Refusal.{Refusal}
 use Rattle.cohort.specs.Cohort.{sites_in}
+use Rattle.cohort.specs.declared.CohortSize.{CohortSize}
 use Rattle.definitions.specs.Answers.{output_after, scratch_after, written_of}
 use Rattle.definitions.specs.Checked.{accepted, refused}
 use Rattle.definitions.specs.Cohort.{cohort_of}
@@ -12,10 +15,6 @@ use Rattle.definitions.specs.Limits.{max_samples, max_sites}
 use Rattle.definitions.specs.Lists.{missing_or, only_if}
 use Rattle.combined_list.specs.WrittenList.{CallLoaded, ListsFit}
 use Rattle.tables.specs.Tables.{SiteRows, counts_at, names_in, row_length, table_length}
-use Rattle.combine_gvcfs.specs.declared.TextsRead.TheVariants as read
-use Rattle.combine_gvcfs.specs.declared.TextsRead.{TextsRead}
-use Rattle.combine_gvcfs.specs.declared.Tried.TheVariants as tried
-use Rattle.combine_gvcfs.specs.declared.Tried.{Tried}
 
 -- ---- the answer
 
@@ -25,12 +24,12 @@ texts_of cohort clipped clip referenced reference =
     record { cohort = cohort; clip = only_if clipped clip; reference = only_if referenced reference }
 
 -- the answer for these texts
-pub record TextsAnswered (texts : Texts) (scratch : ℕ) (out out' : List ℕ) (r : Outcome) : Type 0 where
+pub record TextsAnswered (texts : Texts) (scratch : ℕ) (out out' : List ℕ) (r : Result ℕ Refusal) : Type 0 where
   pub answered : Answered (combined_list texts scratch (length out)) out out' r
 
 -- what a call promises
-pub record Combined (texts : Texts) (scratch scratch' out out' : List ℕ) (r : Outcome) : Type 0 where
-  pub answer : outcome_answer r ≡ written_of (combined_list texts (length scratch) (length out))
+pub record Combined (texts : Texts) (scratch scratch' out out' : List ℕ) (r : Result ℕ Refusal) : Type 0 where
+  pub answer : checked_of r ≡ written_of (combined_list texts (length scratch) (length out))
   pub output : out' ≡ output_after (combined_list texts (length scratch) (length out)) out
   pub cleared : scratch' ≡ scratch_after scratch
 
@@ -68,9 +67,10 @@ pub record TablesFit (names rows order firsts chosen : List ℕ) : Type 0 where
   pub for_sites : (sites : ℕ) → sites ≤ max_sites → sites * row_length ≤ length rows → ListsFit sites order firsts chosen
 
 -- what tables of so many places gave: the answer, or they have no room for the cohort, and then nothing was written
-unfoldable pub TriedWith : Texts → ℕ → List ℕ → List ℕ → ℕ → Tried → Type 0
-TriedWith texts scratch out out' places (tried.Done outcome) = TextsAnswered texts scratch out out' outcome
-TriedWith texts scratch out out' places tried.NoRoom = (out' ≡ out) × (places < max_sites * row_length)
+unfoldable pub TriedWith : Texts → ℕ → List ℕ → List ℕ → ℕ → Result ℕ LoadError → Type 0
+TriedWith texts scratch out out' places (Ok written) = TextsAnswered texts scratch out out' (Ok written)
+TriedWith texts scratch out out' places (Err (Refused refusal)) = TextsAnswered texts scratch out out' (Err refusal)
+TriedWith texts scratch out out' places (Err NoRoom) = (out' ≡ out) × (places < max_sites * row_length)
 
 -- no text is too long, and the tables hold the cohort
 pub record CohortHeld (s names rows : List ℕ) (samples sites : ℕ) (clipped : Bool) (clip : List ℕ) (referenced : Bool) (reference : List ℕ) : Type 0 where
@@ -94,7 +94,7 @@ module _ (s : List ℕ) (clipped : Bool) (clip : List ℕ) (referenced : Bool) (
     pub for_rows : sites * row_length ≤ places
 
   -- what reading the texts into tables gave, of which the second had so many places
-  unfoldable pub ReadTo : List ℕ → List ℕ → ℕ → TextsRead → Type 0
-  ReadTo names rows places (read.Loaded samples sites) = TextsLoaded names rows places samples sites
-  ReadTo names rows places (read.Refused row) = input_of (texts_of s clipped clip referenced reference) ≡ refused row
-  ReadTo names rows places read.NoRoom = places < max_sites * row_length
+  unfoldable pub ReadTo : List ℕ → List ℕ → ℕ → Result CohortSize LoadError → Type 0
+  ReadTo names rows places (Ok size) = TextsLoaded names rows places size.samples size.sites
+  ReadTo names rows places (Err (Refused refusal)) = input_of (texts_of s clipped clip referenced reference) ≡ refused (row_of refusal)
+  ReadTo names rows places (Err NoRoom) = places < max_sites * row_length

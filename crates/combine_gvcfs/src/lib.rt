@@ -9,17 +9,14 @@ ghost use Rattle.definitions.specs.Lists.{missing_or, only_if};
 ghost use Rattle.indexed_groups.specs.Indexed.{SegmentsGiven};
 ghost use Rattle.combine_gvcfs.specs.Combined.{CohortHeld, Combined, IfGiven, ReadTo, TablesFit, TablesWhole, TextsAnswered, TextsFit, TriedWith, at_most, texts_of, texts_short};
 
-use answers::Outcome;
-use cohort::CohortRead;
+use answers::{LoadError, Refusal};
+use cohort::CohortSize;
 
 // Whether a text, if it is given, has at most so many bytes.
 fn has_at_most(given: bool, text: &[u8], most: usize) -> bool
     ensures { result ≡ at_most most (only_if given text.now) }
 {
-    if given {
-        return text.len() <= most;
-    }
-    true
+    !given || text.len() <= most
 }
 
 // Whether a text, if it is given, is short enough.
@@ -39,33 +36,21 @@ pub fn all_short(
 ) -> bool
     ensures { result ≡ texts_short cohort.now clipped clip.now referenced reference.now }
 {
-    if !is_short(true, cohort) {
-        return false;
-    }
-    if !is_short(clipped, clip) {
-        return false;
-    }
-    is_short(referenced, reference)
+    is_short(true, cohort) && is_short(clipped, clip) && is_short(referenced, reference)
 }
 
 // Whether the clip, if it is lent, is in order.
 fn clip_in_order(clipped: bool, clip: &[u8]) -> bool
     ensures { result ≡ is_accepted (optional_groups span_of (only_if clipped clip.now)) }
 {
-    if clipped {
-        return clip_and_reference::check_clip(clip);
-    }
-    true
+    !clipped || clip_and_reference::check_clip(clip)
 }
 
 // Whether the reference, if it is lent, is in order.
 fn reference_in_order(referenced: bool, reference: &[u8]) -> bool
     ensures { result ≡ is_accepted (optional_groups segment_of (only_if referenced reference.now)) }
 {
-    if referenced {
-        return clip_and_reference::check_reference(reference);
-    }
-    true
+    !referenced || clip_and_reference::check_reference(reference)
 }
 
 // Gives the first segments of the reference, if there is one, their rows in the table.
@@ -78,38 +63,25 @@ fn index_reference(referenced: bool, reference: &[u8], rows: &mut [usize])
     indexed_groups::index_segments(reference, rows);
 }
 
-// What reading the texts into tables gave: how many samples and sites these hold; the row that refuses the texts; or the tables have no
-// room for the cohort.
-#[derive(Clone, Copy)]
-pub enum TextsRead {
-    Loaded(usize, usize),
-    Refused(usize),
-    NoRoom,
-}
-
 // Reads clip and reference, which are short enough, behind a cohort that the tables hold: row 9.
 fn read_clip_and_reference(
     s: &[u8],
     names: &[usize],
     rows: &mut [usize],
-    samples: usize,
-    sites: usize,
+    size: CohortSize,
     clipped: bool,
     clip: &[u8],
     referenced: bool,
     reference: &[u8],
-) -> TextsRead
-    requires { CohortHeld s.now names.now rows.old samples sites clipped clip.now referenced reference.now }
+) -> Result<CohortSize, LoadError>
+    requires { CohortHeld s.now names.now rows.old size.samples size.sites clipped clip.now referenced reference.now }
     ensures { ReadTo s.now clipped clip.now referenced reference.now names.now rows.new (length rows.old) result }
 {
-    if !clip_in_order(clipped, clip) {
-        return TextsRead::Refused(9);
-    }
-    if !reference_in_order(referenced, reference) {
-        return TextsRead::Refused(9);
+    if !clip_in_order(clipped, clip) || !reference_in_order(referenced, reference) {
+        return Err(LoadError::Refused(Refusal::ClipOrReference));
     }
     index_reference(referenced, reference, rows);
-    TextsRead::Loaded(samples, sites)
+    Ok(size)
 }
 
 // Reads texts that are short enough into tables: rows 1 to 9. Where they are refused or have no room, what the tables hold is open.
@@ -121,25 +93,14 @@ pub fn read_texts(
     reference: &[u8],
     names: &mut [usize],
     rows: &mut [usize],
-) -> TextsRead
+) -> Result<CohortSize, LoadError>
     requires { TextsFit cohort.now clipped clip.now referenced reference.now × TablesWhole names.old rows.old }
     ensures { ReadTo cohort.now clipped clip.now referenced reference.now names.new rows.new (length rows.old) result }
 {
-    let read = cohort::read_cohort(cohort, names, rows);
-    match read {
-        CohortRead::NoRoom => TextsRead::NoRoom,
-        CohortRead::Refused(row) => TextsRead::Refused(row),
-        CohortRead::Cohort(samples, sites) => read_clip_and_reference(
-            cohort, names, rows, samples, sites, clipped, clip, referenced, reference,
-        ),
-    }
-}
-
-// What tables gave: the outcome, or they have no room for the cohort.
-#[derive(Clone, Copy)]
-enum Tried {
-    Done(Outcome),
-    NoRoom,
+    let size = cohort::read_cohort(cohort, names, rows)?;
+    read_clip_and_reference(
+        cohort, names, rows, size, clipped, clip, referenced, reference,
+    )
 }
 
 // Writes the list of texts that are short enough, by way of these tables: rows 1 to 14.
@@ -156,19 +117,28 @@ fn combine_with<'a>(
     chosen: &mut [usize],
     scratch: &mut [u64],
     out: &mut [u8],
-) -> Tried
+) -> Result<usize, LoadError>
     requires { TextsFit cohort.now clipped clip.now referenced reference.now × TablesFit names.old rows.old order.old firsts.old chosen.old }
     ensures { TriedWith (texts_of cohort.now clipped clip.now referenced reference.now) (length scratch.old) out.old out.new (length rows.old) result }
 {
-    let read = read_texts(cohort, clipped, clip, referenced, reference, names, rows);
-    match read {
-        TextsRead::NoRoom => Tried::NoRoom,
-        TextsRead::Refused(row) => Tried::Done(Outcome::Refused(row)),
-        TextsRead::Loaded(samples, sites) => Tried::Done(combined_list::combine_loaded_gvcfs(
-            cohort, names, rows, samples, sites, clipped, clip, referenced, reference, order,
-            firsts, chosen, scratch, out,
-        )),
-    }
+    let size = read_texts(cohort, clipped, clip, referenced, reference, names, rows)?;
+    let written = combined_list::combine_loaded_gvcfs(
+        cohort,
+        names,
+        rows,
+        size.samples,
+        size.sites,
+        clipped,
+        clip,
+        referenced,
+        reference,
+        order,
+        firsts,
+        chosen,
+        scratch,
+        out,
+    )?;
+    Ok(written)
 }
 
 // The same with tables for 64 sites, which cost least to clear.
@@ -180,7 +150,7 @@ fn combine_tiny<'a>(
     reference: &'a [u8],
     scratch: &mut [u64],
     out: &mut [u8],
-) -> Tried
+) -> Result<usize, LoadError>
     requires { TextsFit cohort.now clipped clip.now referenced reference.now }
     ensures { TriedWith (texts_of cohort.now clipped clip.now referenced reference.now) (length scratch.old) out.old out.new 1408 result }
 {
@@ -214,7 +184,7 @@ fn combine_short<'a>(
     reference: &'a [u8],
     scratch: &mut [u64],
     out: &mut [u8],
-) -> Tried
+) -> Result<usize, LoadError>
     requires { TextsFit cohort.now clipped clip.now referenced reference.now }
     ensures { TriedWith (texts_of cohort.now clipped clip.now referenced reference.now) (length scratch.old) out.old out.new 5632 result }
 {
@@ -248,7 +218,7 @@ fn combine_long<'a>(
     reference: &'a [u8],
     scratch: &mut [u64],
     out: &mut [u8],
-) -> Outcome
+) -> Result<usize, Refusal>
     requires { TextsFit cohort.now clipped clip.now referenced reference.now }
     ensures { TextsAnswered (texts_of cohort.now clipped clip.now referenced reference.now) (length scratch.old) out.old out.new result }
 {
@@ -272,8 +242,9 @@ fn combine_long<'a>(
         out,
     );
     match tried {
-        Tried::Done(outcome) => outcome,
-        Tried::NoRoom => Outcome::Refused(2),
+        Ok(written) => Ok(written),
+        Err(LoadError::Refused(refusal)) => Err(refusal),
+        Err(LoadError::NoRoom) => Err(Refusal::Size),
     }
 }
 
@@ -281,10 +252,7 @@ fn combine_long<'a>(
 fn is_small(cohort: &[u8], referenced: bool, reference: &[u8]) -> bool
     ensures { result ≡ leb (length cohort.now) 19968 && at_most 1024 (only_if referenced reference.now) }
 {
-    if 19968 < cohort.len() {
-        return false;
-    }
-    has_at_most(referenced, reference, 1024)
+    cohort.len() <= 19968 && has_at_most(referenced, reference, 1024)
 }
 
 // Writes the list of short texts by way of small tables: a site group has at least 78 bytes, so 4,992 bytes hold at most 64, and
@@ -297,12 +265,12 @@ fn combine_small<'a>(
     reference: &'a [u8],
     scratch: &mut [u64],
     out: &mut [u8],
-) -> Tried
+) -> Result<usize, LoadError>
     requires { TextsFit cohort.now clipped clip.now referenced reference.now }
     ensures { TriedWith (texts_of cohort.now clipped clip.now referenced reference.now) (length scratch.old) out.old out.new 5632 result }
 {
     if !is_small(cohort, referenced, reference) {
-        return Tried::NoRoom;
+        return Err(LoadError::NoRoom);
     }
     if cohort.len() <= 4992 {
         return combine_tiny(cohort, clipped, clip, referenced, reference, scratch, out);
@@ -319,14 +287,17 @@ fn combine_fitting<'a>(
     reference: &'a [u8],
     scratch: &mut [u64],
     out: &mut [u8],
-) -> Outcome
+) -> Result<usize, Refusal>
     requires { TextsFit cohort.now clipped clip.now referenced reference.now }
     ensures { TextsAnswered (texts_of cohort.now clipped clip.now referenced reference.now) (length scratch.old) out.old out.new result }
 {
     let tried = combine_small(cohort, clipped, clip, referenced, reference, scratch, out);
     match tried {
-        Tried::Done(outcome) => outcome,
-        Tried::NoRoom => combine_long(cohort, clipped, clip, referenced, reference, scratch, out),
+        Ok(written) => Ok(written),
+        Err(LoadError::Refused(refusal)) => Err(refusal),
+        Err(LoadError::NoRoom) => {
+            combine_long(cohort, clipped, clip, referenced, reference, scratch, out)
+        }
     }
 }
 
@@ -339,11 +310,11 @@ fn combine_texts<'a>(
     reference: &'a [u8],
     scratch: &mut [u64],
     out: &mut [u8],
-) -> Outcome
+) -> Result<usize, Refusal>
     ensures { TextsAnswered (texts_of cohort.now clipped clip.now referenced reference.now) (length scratch.old) out.old out.new result }
 {
     if !all_short(cohort, clipped, clip, referenced, reference) {
-        return Outcome::Refused(2);
+        return Err(Refusal::Size);
     }
     combine_fitting(cohort, clipped, clip, referenced, reference, scratch, out)
 }
@@ -359,10 +330,10 @@ pub fn combine<'a>(
     reference: &'a [u8],
     scratch: &mut [u64],
     out: &mut [u8],
-) -> Outcome
+) -> Result<usize, Refusal>
     ensures { Combined (texts_of cohort.now clipped clip.now referenced reference.now) scratch.old scratch.new out.old out.new result }
 {
     let outcome = combine_texts(cohort, clipped, clip, referenced, reference, scratch, out);
-    tables::clear_places(scratch);
+    slices::clear(scratch, 0);
     outcome
 }

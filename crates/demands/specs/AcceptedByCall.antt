@@ -1,6 +1,5 @@
 -- What the library's entry wrote is accepted where a list is read to be called.
-use Rattle.std.specs.Prelude.{ℕ, leb, length, take, List, ◌≡◌}
-use Rattle.answers.specs.declared.Outcome.TheVariants.{Written}
+use Rattle.std.specs.Prelude.{ℕ, leb, length, take, List, ◌≡◌, Ok}
 use Rattle.combine_gvcfs.specs.Combined.{Combined}
 use Rattle.definitions.specs.CalledList.{called_list, called_records, printed_called_list}
 use Rattle.definitions.specs.Checked.{◌>>◌, accepted, require, within}
@@ -15,7 +14,7 @@ use Rattle.definitions.specs.Records.{Record}
 -- records is longer than that output; no other row refuses them, and what is given is that called list.
 abbrev pub AcceptedByCall : Type 0
 AcceptedByCall =
-    (t : Texts) (scratch scratch' out out' : List ℕ) (n : ℕ) → Combined t scratch scratch' out out' (Written n)
+    (t : Texts) (scratch scratch' out out' : List ℕ) (n : ℕ) → Combined t scratch scratch' out out' (Ok n)
     → (x : Input) × (records : List Record)
     × (input_of t ≡ accepted x)
     × (combined_records x (length scratch) ≡ accepted records)

@@ -1,7 +1,6 @@
 -- Note 13: what a call of `call` wrote can be put on a sheet, by what that call promises alone.
-use Rattle.std.specs.Prelude.{ℕ, length, take, ◌&&◌, List, ◌⊎◌, ◌≡◌}
+use Rattle.std.specs.Prelude.{ℕ, length, take, ◌&&◌, List, ◌⊎◌, ◌≡◌, Ok}
 use Rattle.answers.specs.Answered.{Answered}
-use Rattle.answers.specs.declared.Outcome.TheVariants.{Written}
 use Rattle.definitions.specs.CalledList.{called_list, called_records}
 use Rattle.definitions.specs.Checked.{◌>>=◌, ◌>>◌, accepted, refused, require, within}
 use Rattle.definitions.specs.CombinedList.{fits}
@@ -16,7 +15,7 @@ RowOfSheet row = (row ≡ 2) ⊎ (row ≡ 19) ⊎ (row ≡ 20) ⊎ (row ≡ 14)
 -- the called records, and the sheet of any markers with any output is that of these records; only these four rows refuse it.
 abbrev pub SheetOfCalled : Type 0
 SheetOfCalled =
-    (combined out out' : List ℕ) (n : ℕ) → Answered (called_list combined (length out)) out out' (Written n)
+    (combined out out' : List ℕ) (n : ℕ) → Answered (called_list combined (length out)) out out' (Ok n)
     → (w : WrittenList) × (written_list combined ≡ accepted w)
     × (called_read (take n out') ≡ accepted (record { names = w.names; records = called_records w.records }))
     × ((markers : List ℕ) (sheet_length : ℕ) → selection_sheet markers (take n out') sheet_length ≡ (do

@@ -1,6 +1,5 @@
 -- Demand 3 about two calls of the library's entry, by what it promises (`Combined`).
-use Rattle.std.specs.Prelude.{ℕ, take, List, ◌≡◌}
-use Rattle.answers.specs.declared.Outcome.TheVariants.{Written}
+use Rattle.std.specs.Prelude.{ℕ, take, List, ◌≡◌, Ok}
 use Rattle.combine_gvcfs.specs.Combined.{Combined}
 use Rattle.definitions.specs.Checked.{accepted}
 use Rattle.definitions.specs.Cohort.{Cohort, cohort_of}
@@ -17,5 +16,5 @@ TwoCallsOfCombine =
     (scratch1 scratch1' out1 out1' scratch2 scratch2' out2 out2' : List ℕ) (n1 n2 : ℕ)
     → t1.clip ≡ t2.clip
     → cohort_of t1.cohort ≡ accepted c1 → cohort_of t2.cohort ≡ accepted c2 → Inserted c1 c2
-    → Combined t1 scratch1 scratch1' out1 out1' (Written n1) → Combined t2 scratch2 scratch2' out2 out2' (Written n2)
+    → Combined t1 scratch1 scratch1' out1 out1' (Ok n1) → Combined t2 scratch2 scratch2' out2 out2' (Ok n2)
     → ListPreserved c1 (take n1 out1') c2 (take n2 out2')

@@ -1,7 +1,6 @@
 -- Two orders of one cohort, about two calls of the library's entry, by what it promises (`Combined`).
-use Rattle.std.specs.Prelude.{ℕ, take, List, ◌≡◌}
+use Rattle.std.specs.Prelude.{ℕ, take, List, ◌≡◌, Ok}
 use Rattle.std.proofs.Math.Option.{some}
-use Rattle.answers.specs.declared.Outcome.TheVariants.{Written}
 use Rattle.combine_gvcfs.specs.Combined.{Combined}
 use Rattle.definitions.specs.Checked.{accepted}
 use Rattle.definitions.specs.Cohort.{Cohort, cohort_of}
@@ -19,5 +18,5 @@ TwoOrdersOfCombine =
     → t1.clip ≡ t2.clip
     → t1.reference ≡ some reference → t2.reference ≡ some reference
     → cohort_of t1.cohort ≡ accepted c1 → cohort_of t2.cohort ≡ accepted c2 → Reordered c1 c2
-    → Combined t1 scratch1 scratch1' out1 out1' (Written n1) → Combined t2 scratch2 scratch2' out2 out2' (Written n2)
+    → Combined t1 scratch1 scratch1' out1 out1' (Ok n1) → Combined t2 scratch2 scratch2' out2 out2' (Ok n2)
     → ListsAgree c1 (take n1 out1') c2 (take n2 out2')

@@ -1,6 +1,8 @@
 -- What walking over the records of a combined list reads and lays.
-use Rattle.std.specs.Prelude.{◌*◌, ◌≤◌, suc, ℕ, drop, length, ◌≡◌}
+use Rattle.std.specs.Prelude.{◌*◌, ◌≤◌, suc, ℕ, drop, length, ◌≡◌, Result, Ok, Err}
 use mathlib.Core.List.{List, [], ◌++◌, ◌∷◌, flat_map, map}
+use Rattle.answers.specs.Answered.{row_of}
+use Rattle.answers.specs.declared.Refusal.{Refusal}
 use Rattle.definitions.specs.CalledList.{called_records, printed_called_record}
 use Rattle.definitions.specs.Checked.{Checked, accepted, read_each, refused}
 use Rattle.definitions.specs.Genotypes.{SampleData}
@@ -14,8 +16,7 @@ use Rattle.list_header.specs.Measured.{Counted, Measured}
 use Rattle.list_reader.specs.RecordGroups.{alts_at, group_lines, record_from, sample_at, without_gt}
 use Rattle.list_reader.specs.declared.RecordPlace.{RecordPlace}
 use Rattle.tables.specs.Tables.{row_length}
-use Rattle.genotype_gvcfs.specs.declared.Walked.{Walked}
-use Rattle.genotype_gvcfs.specs.declared.Walked.TheVariants as walked
+use Rattle.genotype_gvcfs.specs.declared.ListEnd.{ListEnd}
 
 -- what the record groups from an offset on read as, in a list with so many samples and `records`
 unfoldable pub records_from : ℕ → ℕ → List ℕ → ℕ → Checked (List Record)
@@ -65,6 +66,6 @@ pub record RecordsLaid (read : Checked (List Record)) (records : ℕ) (d₀ byte
   pub laid : CalledLaid d₀ bytes list out at count
 
 -- or a row refuses them
-unfoldable pub RecordsWalked : Checked (List Record) → ℕ → List ℕ → List ℕ → List ℕ → Walked → Type 0
-RecordsWalked read records d₀ bytes out (walked.To at count) = RecordsLaid read records d₀ bytes out at count
-RecordsWalked read records d₀ bytes out (walked.Refused row) = read ≡ refused row
+unfoldable pub RecordsWalked : Checked (List Record) → ℕ → List ℕ → List ℕ → List ℕ → Result ListEnd Refusal → Type 0
+RecordsWalked read records d₀ bytes out (Ok list) = RecordsLaid read records d₀ bytes out list.at list.count
+RecordsWalked read records d₀ bytes out (Err refusal) = read ≡ refused (row_of refusal)

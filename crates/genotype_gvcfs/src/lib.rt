@@ -4,21 +4,16 @@
 
 ghost use Rattle.std.specs.Prelude.{◌≤◌, eqb, length, ◌&&◌, not, ◌≡◌};
 ghost use Rattle.std.proofs.lemmas.List.Edits.{sets};
-ghost use Rattle.std.proofs.Math.Option.{get_or};
 ghost use Rattle.answers.specs.Answered.{Answered};
 ghost use Rattle.definitions.specs.CalledList.{called_list};
 ghost use Rattle.definitions.specs.Checked.{within};
 ghost use Rattle.list_header.specs.HeaderNames.{HeaderNames};
 ghost use Rattle.list_header.specs.Measured.{limit};
-ghost use Rattle.list_reader.specs.RecordGroups.{end_option};
 ghost use Rattle.genotype_gvcfs.specs.Called.{HeaderHeld, Measurement, called_from, list_to};
 ghost use Rattle.genotype_gvcfs.specs.Walk.{CalledLaid, LayReady, RecordsWalked, WalkReady, read_with, records_from};
 
-use answers::Outcome;
-use bio_ids::GenomePosition;
-use kv_text::NumberAt;
-use list_reader::{OptionalPosition, Previous, RecordAt, RecordPlace};
-use sample_names::HeaderRead;
+use answers::{LoadError, Refusal};
+use list_reader::{PreviousRecord, RecordPlace};
 
 // ---- one record
 
@@ -29,19 +24,9 @@ fn is_called(alleles: usize, pl: bool) -> bool
     alleles != 2 && pl
 }
 
-// The last position of a record: END, or POS if END is missing.
-fn record_end(pos: GenomePosition, end: OptionalPosition) -> GenomePosition
-    ensures { result.0 ≡ get_or (end_option end) pos.0 }
-{
-    match end {
-        OptionalPosition::At(last) => last,
-        OptionalPosition::Missing => pos,
-    }
-}
-
-// Where the called list goes on, and how many records it has so far.
+// Where the called list ends so far, and how many records it has.
 #[derive(Clone, Copy)]
-struct Stepped {
+struct ListEnd {
     at: usize,
     count: usize,
 }
@@ -53,46 +38,37 @@ fn genotype_one_record(
     rows: &[usize],
     samples: usize,
     out: &mut [u8],
-    at: usize,
-    count: usize,
-) -> Stepped
-    requires { LayReady s.now place rows.now samples out.old at count }
-    ensures { (ready : LayReady s.now place rows.now samples out.old at count)
+    list: ListEnd,
+) -> ListEnd
+    requires { LayReady s.now place rows.now samples out.old list.at list.count }
+    ensures { (ready : LayReady s.now place rows.now samples out.old list.at list.count)
         → CalledLaid ready.d₀ ready.bytes (read_with ready) out.new result.at result.count }
 {
     if !is_called(place.count, place.has_pl) {
-        return Stepped { at, count };
+        return list;
     }
     let contig = tables::part(s, place.contig.at, place.contig.end);
     let reference = tables::part(s, place.alleles.refs.at, place.alleles.refs.end);
     let alts = tables::part(s, place.alleles.alts.at, place.alleles.alts.end);
-    let pos = place.pos;
     let end = called_lines::put_called_record(
         s,
         contig,
-        pos,
+        place.pos,
         reference,
         alts,
         place.count,
         rows,
         samples,
         out,
-        at,
+        list.at,
     );
-    Stepped {
+    ListEnd {
         at: list_header::cap(end),
-        count: list_header::count_more(count),
+        count: list_header::count_more(list.count),
     }
 }
 
 // ---- all records
-
-// Where the called list ends and how many records it has; or the row that refuses the combined list.
-#[derive(Clone, Copy)]
-enum Walked {
-    To(usize, usize),
-    Refused(usize),
-}
 
 // Reads so many record groups from an offset on, which must be all that there are, and lays those that are called: rows 1 and 4 to 8.
 fn genotype_gvcf_records(
@@ -103,40 +79,27 @@ fn genotype_gvcf_records(
     rows: &mut [usize],
     out: &mut [u8],
     from: usize,
-) -> Walked
+) -> Result<ListEnd, Refusal>
     requires { WalkReady samples rows.old out.old from }
     ensures { (ready : WalkReady samples rows.old out.old from)
         → RecordsWalked (records_from samples records s.now at) records ready.d₀ ready.bytes out.new result }
 {
     let mut next = at;
-    let mut read: u32 = 0;
-    let mut previous = Previous::None;
-    let mut end = from;
-    let mut count = 0;
-    while read < records {
-        let found = list_reader::record_at(s, next, samples, previous, rows);
-        match found {
-            RecordAt::Refused(row) => {
-                return Walked::Refused(row);
-            }
-            RecordAt::Record(place) => {
-                let laid = genotype_one_record(s, place, rows, samples, out, end, count);
-                let pos = place.pos;
-                let place_end = place.end;
-                let last = record_end(pos, place_end);
-                let contig = place.contig;
-                previous = Previous::Last(contig, last);
-                end = laid.at;
-                count = laid.count;
-                next = place.next;
-                read += 1;
-            }
-        }
+    let mut previous = None;
+    let mut list = ListEnd { at: from, count: 0 };
+    for _ in 0..records {
+        let place = list_reader::record_at(s, next, samples, previous, rows)?;
+        list = genotype_one_record(s, place, rows, samples, out, list);
+        previous = Some(PreviousRecord {
+            contig: place.contig,
+            end: place.end.unwrap_or(place.pos),
+        });
+        next = place.next;
     }
     if next < s.len() {
-        return Walked::Refused(1);
+        return Err(Refusal::Spelling);
     }
-    Walked::To(end, count)
+    Ok(list)
 }
 
 // ---- the two passes
@@ -172,7 +135,7 @@ fn write_measured(
     out: &mut [u8],
     len: usize,
     count: usize,
-) -> Outcome
+) -> Result<usize, Refusal>
     requires { Measurement s.now names.now samples records at rows.old len count }
     ensures { (m : Measurement s.now names.now samples records at rows.old len count)
         → Answered (within (length out.old) (list_to m)) out.old out.new result }
@@ -180,7 +143,7 @@ fn write_measured(
     let header = list_header::put_header(s, names, samples, count as u32, &mut out[..0]);
     let end = header + len;
     if out.len() < end {
-        return Outcome::Refused(14);
+        return Err(Refusal::Output);
     }
     write_list(
         s,
@@ -193,7 +156,7 @@ fn write_measured(
         len,
         count,
     );
-    Outcome::Written(end)
+    Ok(end)
 }
 
 // Writes the called list of the record groups from an offset on: rows 1, 4 to 8 and 14. The records are measured before anything is written.
@@ -204,47 +167,56 @@ fn call_records(
     records: u32,
     at: usize,
     out: &mut [u8],
-) -> Outcome
+) -> Result<usize, Refusal>
     requires { HeaderNames s.now names.now samples }
     ensures { Answered (called_from s.now names.now samples records at (length out.old)) out.old out.new result }
 {
     let mut rows = [0usize; 1408];
-    let measured = genotype_gvcf_records(s, at, samples, records, &mut rows, &mut out[..0], 0);
-    match measured {
-        Walked::Refused(row) => Outcome::Refused(row),
-        Walked::To(len, count) => write_measured(
-            s, names, samples, records, at, &mut rows, out, len, count,
-        ),
-    }
+    let measured = genotype_gvcf_records(s, at, samples, records, &mut rows, &mut out[..0], 0)?;
+    write_measured(
+        s,
+        names,
+        samples,
+        records,
+        at,
+        &mut rows,
+        out,
+        measured.at,
+        measured.count,
+    )
 }
 
 // ---- the list
 
 // Writes the called list of a text whose `samples` and `sample` lines are read, up to an offset: the line `records` (1), and then the records.
-fn call_samples(s: &[u8], names: &[usize], samples: usize, at: usize, out: &mut [u8]) -> Outcome
+fn call_samples(
+    s: &[u8],
+    names: &[usize],
+    samples: usize,
+    at: usize,
+    out: &mut [u8],
+) -> Result<usize, Refusal>
     requires { HeaderHeld s.now names.now samples at }
     ensures { Answered (called_list s.now (length out.old)) out.old out.new result }
 {
-    let line = kv_text::number_line(s, at, b"records=");
-    match line {
-        NumberAt::Wrong => Outcome::Refused(1),
-        NumberAt::Found(records, end) => call_records(s, names, samples, records, end + 1, out),
-    }
+    let Some((records, end)) = kv_text::number_line(s, at, b"records=") else {
+        return Err(Refusal::Spelling);
+    };
+    call_records(s, names, samples, records, end + 1, out)
 }
 
 // The library's entry: writes the called list of a combined list. The answer is its length, or the row that refuses it, and then `out`
 // is as it was.
-pub fn call(list: &[u8], out: &mut [u8]) -> Outcome
+pub fn call(list: &[u8], out: &mut [u8]) -> Result<usize, Refusal>
     ensures { Answered (called_list list.now (length out.old)) out.old out.new result }
 {
     if 16777216 < list.len() {
-        return Outcome::Refused(2);
+        return Err(Refusal::Size);
     }
     let mut names = [0usize; 128];
-    let header = sample_names::read_samples(list, &mut names);
-    match header {
-        HeaderRead::NoRoom => Outcome::Refused(2),
-        HeaderRead::Refused(row) => Outcome::Refused(row),
-        HeaderRead::Samples(samples, at) => call_samples(list, &names, samples, at, out),
+    match sample_names::read_samples(list, &mut names) {
+        Ok(lines) => call_samples(list, &names, lines.count, lines.next, out),
+        Err(LoadError::Refused(refusal)) => Err(refusal),
+        Err(LoadError::NoRoom) => Err(Refusal::Size),
     }
 }

@@ -1,24 +1,19 @@
 -- The figure that a call answers, and what its steps are lent.
-use Rattle.std.specs.Prelude.{ℕ, length, Bool, List, ◌≡◌}
+use Rattle.std.specs.Prelude.{ℕ, length, Bool, List, ◌≡◌, Result}
+use Rattle.answers.specs.Answered.{checked_of}
+use Rattle.answers.specs.declared.Refusal.{Refusal}
 use Rattle.combined_list.specs.Contigs.{Grouped, IsFirst}
 use Rattle.combined_list.specs.WrittenList.{CallLoaded, ListReady}
 use Rattle.definitions.specs.Answers.{scratch_after}
-use Rattle.definitions.specs.Checked.{Checked, ◌>>◌, accepted, refused}
+use Rattle.definitions.specs.Checked.{Checked, ◌>>◌, accepted}
 use Rattle.definitions.specs.CombinedList.{Input, Texts, combined_records}
 use Rattle.definitions.specs.Looks.{contig_looks, looks_of}
-use Rattle.search_looks.specs.declared.Looked.TheVariants as looked
-use Rattle.search_looks.specs.declared.Looked.{Looked}
 
 -- ---- the answer
 
--- the figure or the row, as the definitions have it
-abbrev pub looked_answer : Looked → Checked ℕ
-looked_answer (looked.Figure figure) = accepted figure
-looked_answer (looked.Refused row) = refused row
-
 -- what a call promises
-pub record LooksAnswered (texts : Texts) (contig scratch scratch' : List ℕ) (r : Looked) : Type 0 where
-  pub answer : looked_answer r ≡ looks_of texts (length scratch) contig
+pub record LooksAnswered (texts : Texts) (contig scratch scratch' : List ℕ) (r : Result ℕ Refusal) : Type 0 where
+  pub answer : checked_of r ≡ looks_of texts (length scratch) contig
   pub cleared : scratch' ≡ scratch_after scratch
 
 -- the figure of an input with so many scratch places

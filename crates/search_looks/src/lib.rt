@@ -3,21 +3,14 @@
 #![tactic(auto)]
 
 ghost use Rattle.std.specs.Prelude.{◌≤◌, length, ◌≡◌};
+ghost use Rattle.answers.specs.Answered.{checked_of};
 ghost use Rattle.combine_gvcfs.specs.Combined.{TextsFit, texts_of};
 ghost use Rattle.combined_list.specs.WrittenList.{ListsFit};
 ghost use Rattle.definitions.specs.Looks.{contig_looks, looks_of};
-ghost use Rattle.search_looks.specs.Looked.{ContigsReady, FirstReady, LooksAnswered, SitesReady, TablesReady, looks_with, looked_answer};
+ghost use Rattle.search_looks.specs.Looked.{ContigsReady, FirstReady, LooksAnswered, SitesReady, TablesReady, looks_with};
 ghost use Rattle.tables.specs.Tables.{part_at};
 
-use combine_gvcfs::TextsRead;
-use contig_walk::Walked;
-
-// The figure, or the row that refuses the call.
-#[derive(Clone, Copy)]
-pub enum Looked {
-    Figure(usize),
-    Refused(usize),
-}
+use answers::{LoadError, Refusal};
 
 // The looks of a contig, which is named by the number of its first site. `chosen` takes the numbers of its sites.
 fn first_looks(
@@ -88,16 +81,16 @@ fn contigs_looks<'a>(
     runs: &[usize],
     chosen: &mut [usize],
     scratch: &mut [u64],
-) -> Looked
+) -> Result<usize, Refusal>
     requires { ContigsReady s.now rows.now samples sites clipped clip.now referenced reference.now contigs.now order.now runs.now × (length order.now ≤ length chosen.old) × (2 ≤ length scratch.old) }
     ensures { (ready : ContigsReady s.now rows.now samples sites clipped clip.now referenced reference.now contigs.now order.now runs.now)
-        → looked_answer result ≡ looks_with ready.list.tables.loaded.input 1 contig.now }
+        → checked_of result ≡ looks_with ready.list.tables.loaded.input 1 contig.now }
 {
     let mut held = [0u8; 8192];
     let mut fresh = [0u8; 8192];
     let mut alts = [0u8; 4096];
     let mut out = [0u8; 1];
-    let measured = combined_list::walk_contigs(
+    combined_list::walk_contigs(
         s,
         rows,
         samples,
@@ -115,13 +108,10 @@ fn contigs_looks<'a>(
         &mut alts,
         &mut out[..0],
         0,
-    );
-    match measured {
-        Walked::Refused(row) => Looked::Refused(row),
-        Walked::To(_, _) => Looked::Figure(asked_looks(
-            s, rows, samples, sites, clipped, clip, contig, order, runs, chosen, scratch,
-        )),
-    }
+    )?;
+    Ok(asked_looks(
+        s, rows, samples, sites, clipped, clip, contig, order, runs, chosen, scratch,
+    ))
 }
 
 // The figure of an input in order, from its tables, with places for a window of breakpoints: rows 11 to 13.
@@ -139,10 +129,10 @@ fn looks_in_windows<'a>(
     firsts: &mut [usize],
     chosen: &mut [usize],
     scratch: &mut [u64],
-) -> Looked
+) -> Result<usize, Refusal>
     requires { TablesReady s.now rows.now samples sites clipped clip.now referenced reference.now × ListsFit sites order.old firsts.old chosen.old × (2 ≤ length scratch.old) }
     ensures { (ready : TablesReady s.now rows.now samples sites clipped clip.now referenced reference.now)
-        → looked_answer result ≡ looks_with ready.call.loaded.input 1 contig.now }
+        → checked_of result ≡ looks_with ready.call.loaded.input 1 contig.now }
 {
     let mut runs = [0usize; 65];
     covering_sites::group_by_sample(rows, sites, samples, order, &mut runs);
@@ -181,13 +171,13 @@ fn loaded_looks<'a>(
     firsts: &mut [usize],
     chosen: &mut [usize],
     scratch: &mut [u64],
-) -> Looked
+) -> Result<usize, Refusal>
     requires { TablesReady s.now rows.now samples sites clipped clip.now referenced reference.now × ListsFit sites order.old firsts.old chosen.old }
     ensures { (ready : TablesReady s.now rows.now samples sites clipped clip.now referenced reference.now)
-        → looked_answer result ≡ looks_with ready.call.loaded.input (length scratch.old) contig.now }
+        → checked_of result ≡ looks_with ready.call.loaded.input (length scratch.old) contig.now }
 {
     if combined_list::lacks_place(scratch, sites) {
-        return Looked::Refused(10);
+        return Err(Refusal::Scratch);
     }
     if 1024 <= scratch.len() {
         return looks_in_windows(
@@ -211,9 +201,9 @@ fn fitting_looks<'a>(
     reference: &'a [u8],
     contig: &[u8],
     scratch: &mut [u64],
-) -> Looked
+) -> Result<usize, Refusal>
     requires { TextsFit cohort.now clipped clip.now referenced reference.now }
-    ensures { looked_answer result ≡ looks_of (texts_of cohort.now clipped clip.now referenced reference.now) (length scratch.old) contig.now }
+    ensures { checked_of result ≡ looks_of (texts_of cohort.now clipped clip.now referenced reference.now) (length scratch.old) contig.now }
 {
     let mut names = [0usize; 128];
     let mut rows = [0usize; 95234];
@@ -224,13 +214,13 @@ fn fitting_looks<'a>(
         cohort, clipped, clip, referenced, reference, &mut names, &mut rows,
     );
     match read {
-        TextsRead::NoRoom => Looked::Refused(2),
-        TextsRead::Refused(row) => Looked::Refused(row),
-        TextsRead::Loaded(samples, sites) => loaded_looks(
+        Err(LoadError::NoRoom) => Err(Refusal::Size),
+        Err(LoadError::Refused(refusal)) => Err(refusal),
+        Ok(size) => loaded_looks(
             cohort,
             &rows,
-            samples,
-            sites,
+            size.samples,
+            size.sites,
             clipped,
             clip,
             referenced,
@@ -253,11 +243,11 @@ fn texts_looks<'a>(
     reference: &'a [u8],
     contig: &[u8],
     scratch: &mut [u64],
-) -> Looked
-    ensures { looked_answer result ≡ looks_of (texts_of cohort.now clipped clip.now referenced reference.now) (length scratch.old) contig.now }
+) -> Result<usize, Refusal>
+    ensures { checked_of result ≡ looks_of (texts_of cohort.now clipped clip.now referenced reference.now) (length scratch.old) contig.now }
 {
     if !combine_gvcfs::all_short(cohort, clipped, clip, referenced, reference) {
-        return Looked::Refused(2);
+        return Err(Refusal::Size);
     }
     fitting_looks(
         cohort, clipped, clip, referenced, reference, contig, scratch,
@@ -275,12 +265,12 @@ pub fn looks<'a>(
     reference: &'a [u8],
     contig: &[u8],
     scratch: &mut [u64],
-) -> Looked
+) -> Result<usize, Refusal>
     ensures { LooksAnswered (texts_of cohort.now clipped clip.now referenced reference.now) contig.now scratch.old scratch.new result }
 {
     let looked = texts_looks(
         cohort, clipped, clip, referenced, reference, contig, scratch,
     );
-    tables::clear_places(scratch);
+    slices::clear(scratch, 0);
     looked
 }

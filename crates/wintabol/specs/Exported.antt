@@ -1,28 +1,24 @@
 -- What an exported function gives back: the definitions' answer as numbers, and what its buffers hold at the end.
-use Rattle.std.specs.Prelude.{ℕ, eqb, length, List, ◌≡◌}
+use Rattle.std.specs.Prelude.{ℕ, eqb, length, List, ◌≡◌, Result, Ok, Err}
 use Rattle.allele_subsetting_pl.specs.UnusedAlts.{Outputs, list_of}
-use Rattle.allele_subsetting_pl.specs.declared.UnusedAltOutcome.{UnusedAltOutcome}
-use Rattle.allele_subsetting_pl.specs.declared.UnusedAltOutcome.TheVariants as unused
-use Rattle.answers.specs.declared.Outcome.{Outcome}
-use Rattle.answers.specs.declared.Outcome.TheVariants as outcome
+use Rattle.allele_subsetting_pl.specs.declared.UnusedAlts.{UnusedAlts}
+use Rattle.answers.specs.Answered.{row_of}
+use Rattle.answers.specs.declared.Refusal.{Refusal}
 use Rattle.definitions.specs.AlleleSubset.{UnusedAltSubset}
 use Rattle.definitions.specs.Answers.{Answer, answer_of, output_after, scratch_after}
 use Rattle.definitions.specs.Checked.{Checked, accepted, is_accepted, refused}
 use Rattle.definitions.specs.CombinedList.{Texts, combined_list}
 use Rattle.definitions.specs.LookUp.{LookedUp, numbers_written}
 use Rattle.definitions.specs.Looks.{looks_of}
-use Rattle.position_lookup.specs.declared.Lookup.TheVariants as lookup
-use Rattle.position_lookup.specs.declared.Lookup.{Lookup}
-use Rattle.search_looks.specs.declared.Looked.{Looked}
-use Rattle.search_looks.specs.declared.Looked.TheVariants as looked
+use Rattle.position_lookup.specs.declared.LookedUp as lookup
 
 abbrev pub answer : ℕ → ℕ → Answer
 answer number written = record { number = number; written = written }
 
 -- the row that refuses the call, else 0, and how many values are written
-abbrev pub outcome_numbers : Outcome → Answer
-outcome_numbers (outcome.Written n) = answer 0 n
-outcome_numbers (outcome.Refused row) = answer row 0
+abbrev pub outcome_numbers : Result ℕ Refusal → Answer
+outcome_numbers (Ok n) = answer 0 n
+outcome_numbers (Err refusal) = answer (row_of refusal) 0
 
 -- the two numbers are the answer of these values, or of the row that refuses them, and so is what the output holds at the end; the
 -- first number is 0 exactly if the call is accepted
@@ -46,10 +42,6 @@ pub record FigureAnswer : Type 0 where
 abbrev pub answer_figure : ℕ → ℕ → FigureAnswer
 answer_figure number figure = record { number = number; figure = figure }
 
-abbrev pub looked_numbers : Looked → FigureAnswer
-looked_numbers (looked.Figure figure) = answer_figure 0 figure
-looked_numbers (looked.Refused row) = answer_figure row 0
-
 unfoldable pub answer_figure_of : Checked ℕ → FigureAnswer
 answer_figure_of (refused row) = answer_figure row 0
 answer_figure_of (accepted figure) = answer_figure 0 figure
@@ -72,9 +64,9 @@ pub record LookupNumbers : Type 0 where
 abbrev pub answer_lookup : ℕ → ℕ → ℕ → LookupNumbers
 answer_lookup number pairs groups = record { number = number; pairs = pairs; groups = groups }
 
-abbrev pub lookup_numbers : Lookup → LookupNumbers
-lookup_numbers (lookup.Found pairs groups) = answer_lookup 0 pairs groups
-lookup_numbers (lookup.Refused row) = answer_lookup row 0 0
+abbrev pub lookup_numbers : Result lookup.LookedUp Refusal → LookupNumbers
+lookup_numbers (Ok l) = answer_lookup 0 l.pairs l.groups
+lookup_numbers (Err refusal) = answer_lookup (row_of refusal) 0 0
 
 unfoldable pub answer_lookup_of : Checked LookedUp → LookupNumbers
 answer_lookup_of (refused row) = answer_lookup row 0 0
@@ -99,9 +91,9 @@ pub record UnusedAltAnswer : Type 0 where
 abbrev pub answer_alts : ℕ → ℕ → ℕ → ℕ → UnusedAltAnswer
 answer_alts number alts likelihoods ad = record { number = number; alts = alts; likelihoods = likelihoods; ad = ad }
 
-abbrev pub outcome_alts : UnusedAltOutcome → UnusedAltAnswer
-outcome_alts (unused.Written alts likelihoods ad) = answer_alts 0 alts likelihoods ad
-outcome_alts (unused.Refused row) = answer_alts row 0 0 0
+abbrev pub outcome_alts : Result UnusedAlts Refusal → UnusedAltAnswer
+outcome_alts (Ok written) = answer_alts 0 written.alts written.likelihoods written.ad
+outcome_alts (Err refusal) = answer_alts (row_of refusal) 0 0 0
 
 unfoldable pub answer_alts_of : Checked UnusedAltSubset → UnusedAltAnswer
 answer_alts_of (refused row) = answer_alts row 0 0 0

@@ -13,25 +13,24 @@ ghost use Rattle.definitions.specs.Likelihoods.{log10_from_pl};
 ghost use Rattle.definitions.specs.LookUp.{look_up_within};
 ghost use Rattle.definitions.specs.ReverseTrim.{trimmed_alleles};
 ghost use Rattle.likelihoods.specs.Written.{NearTenths, none_above};
-ghost use Rattle.wintabol.specs.Exported.{Exported, ExportedAlts, ExportedList, ExportedLookUp, ExportedLooks, answer, answer_alts, answer_figure, answer_lookup, looked_numbers, lookup_numbers, outcome_alts, outcome_numbers};
+ghost use Rattle.wintabol.specs.Exported.{Exported, ExportedAlts, ExportedList, ExportedLookUp, ExportedLooks, answer, answer_alts, answer_lookup, lookup_numbers, outcome_alts, outcome_numbers};
 
-use allele_subsetting_pl::UnusedAltOutcome;
-use answers::Outcome;
-use position_lookup::Lookup;
-use search_looks::Looked;
+use allele_subsetting_pl::UnusedAlts;
+use answers::Refusal;
+use position_lookup::LookedUp;
 
-// An outcome as two numbers.
-fn give(outcome: Outcome, written: &mut usize) -> usize
+// A number, or why there is none, as two numbers.
+fn give(outcome: Result<usize, Refusal>, written: &mut usize) -> usize
     ensures { outcome_numbers outcome ≡ answer result written.new }
 {
     match outcome {
-        Outcome::Written(count) => {
+        Ok(count) => {
             *written = count;
             0
         }
-        Outcome::Refused(row) => {
+        Err(refusal) => {
             *written = 0;
-            row
+            refusal.row()
         }
     }
 }
@@ -63,22 +62,6 @@ pub fn wintabol_combine<'a>(
     give(outcome, written)
 }
 
-// A figure, or the row that refuses it, as two numbers.
-fn give_looked(looked: Looked, figure: &mut usize) -> usize
-    ensures { looked_numbers looked ≡ answer_figure result figure.new }
-{
-    match looked {
-        Looked::Figure(count) => {
-            *figure = count;
-            0
-        }
-        Looked::Refused(row) => {
-            *figure = 0;
-            row
-        }
-    }
-}
-
 // For planning, how many sites the search along a contig looks at, for the texts of `wintabol_combine`. The figure is 0 for a contig that no
 // site names, and where a row refuses the call.
 pub fn wintabol_looks<'a>(
@@ -104,23 +87,23 @@ pub fn wintabol_looks<'a>(
         contig,
         scratch,
     );
-    give_looked(looked, figure)
+    give(looked, figure)
 }
 
-// How many pairs were looked up and how many record groups were read, or the row that refuses it, as three numbers.
-fn give_lookup(answer: Lookup, pairs: &mut usize, groups: &mut u32) -> usize
+// How many pairs were looked up and how many record groups were read, or why none were, as three numbers.
+fn give_lookup(answer: Result<LookedUp, Refusal>, pairs: &mut usize, groups: &mut u32) -> usize
     ensures { lookup_numbers answer ≡ answer_lookup result pairs.new groups.new }
 {
     match answer {
-        Lookup::Found(count, read) => {
-            *pairs = count;
-            *groups = read;
+        Ok(looked) => {
+            *pairs = looked.pairs;
+            *groups = looked.groups;
             0
         }
-        Lookup::Refused(row) => {
+        Err(refusal) => {
             *pairs = 0;
             *groups = 0;
-            row
+            refusal.row()
         }
     }
 }
@@ -198,21 +181,26 @@ pub fn wintabol_subset_log10_genotype_likelihoods(
 }
 
 // An outcome with three outputs as four numbers.
-fn give_alts(outcome: UnusedAltOutcome, alts: &mut usize, gl: &mut usize, ad: &mut usize) -> usize
+fn give_alts(
+    outcome: Result<UnusedAlts, Refusal>,
+    alts: &mut usize,
+    gl: &mut usize,
+    ad: &mut usize,
+) -> usize
     ensures { outcome_alts outcome ≡ answer_alts result alts.new gl.new ad.new }
 {
     match outcome {
-        UnusedAltOutcome::Written(of_alts, of_gl, of_ad) => {
-            *alts = of_alts;
-            *gl = of_gl;
-            *ad = of_ad;
+        Ok(written) => {
+            *alts = written.alts;
+            *gl = written.likelihoods;
+            *ad = written.ad;
             0
         }
-        UnusedAltOutcome::Refused(row) => {
+        Err(refusal) => {
             *alts = 0;
             *gl = 0;
             *ad = 0;
-            row
+            refusal.row()
         }
     }
 }
