@@ -4,7 +4,7 @@
 ghost use Rattle.std.specs.Prelude.{◌≡◌, leb, ◌&&◌};
 
 // Document 01, allele number: an allele in a record's list of at most 16, from 0, which is REF. A byte: no place of a pair wraps.
-#[derive(Clone, Copy)]
+#[derive(Clone, Copy, PartialEq, Eq, PartialOrd, Ord)]
 pub struct AlleleIndex(u8);
 
 impl AlleleIndex {
@@ -28,7 +28,7 @@ impl AlleleIndex {
 }
 
 // Document 01, sample number: a sample in the order of the cohort's names, from 0.
-#[derive(Clone, Copy)]
+#[derive(Clone, Copy, PartialEq, Eq, PartialOrd, Ord)]
 pub struct SampleIndex(usize);
 
 impl SampleIndex {
@@ -46,7 +46,7 @@ impl SampleIndex {
 }
 
 // Document 01, position: a base of a contig, from 1. The contig is named beside it.
-#[derive(Clone, Copy)]
+#[derive(Clone, Copy, PartialEq, Eq, PartialOrd, Ord)]
 pub struct GenomePosition(u64);
 
 impl GenomePosition {

@@ -6,18 +6,16 @@ ghost use Rattle.std.proofs.Math.Option.{get_or, map};
 ghost use Rattle.std.specs.Prelude.{◌≡◌, ◌+◌, ◌<◌, ◌≤◌, ◌^◌, length};
 ghost use Rattle.std.proofs.Math.ListN.{get_elem?};
 ghost use Rattle.std.proofs.lemmas.List.Edits.{sets};
+ghost use Rattle.answers.specs.Options.{option_of};
 ghost use Rattle.definitions.specs.CalledGenotypes.{gq_from_pl, normalized_pl, pl_without_allele_at};
 ghost use Rattle.definitions.specs.CalledList.{without_index};
 ghost use Rattle.definitions.specs.Genotypes.{genotype_pairs};
 ghost use Rattle.genotype_values.specs.Remapped.{Filled};
 ghost use Rattle.genotype_values.specs.Values.{present};
 ghost use Rattle.kv_write.specs.Laid.{Laid};
-ghost use Rattle.kv_write.specs.Optional.{option_of};
 ghost use Rattle.called_genotypes.specs.Values.{PlWithout, folded_pl, retained_allele, retained_pl_at};
 
 use bio_ids::AlleleIndex;
-use diploid_pairs::PairAt;
-use kv_write::OptionalNumber;
 
 // ---- PL and AD
 
@@ -37,19 +35,19 @@ fn retained_allele(allele: AlleleIndex, dropped: AlleleIndex) -> AlleleIndex
 fn folded_pl(pl: &[u32], dropped: AlleleIndex, low: AlleleIndex, high: AlleleIndex) -> u32
     ensures { result ≡ pl_without_allele_at pl.now dropped.0 low.0 high.0 }
 {
-    let own = genotype_values::value_at(pl, diploid_pairs::place_of(low, high));
-    let with_dropped = genotype_values::value_at(pl, diploid_pairs::place_of(high, dropped));
+    let own = slices::value_or(pl, diploid_pairs::place_of(low, high), 0);
+    let with_dropped = slices::value_or(pl, diploid_pairs::place_of(high, dropped), 0);
     let a = low.get();
     let b = high.get();
     if a == 0 {
         if b == 0 {
-            let twice = genotype_values::value_at(pl, diploid_pairs::place_of(dropped, dropped));
-            return genotyping::lesser(with_dropped, genotyping::lesser(twice, own));
+            let twice = slices::value_or(pl, diploid_pairs::place_of(dropped, dropped), 0);
+            return with_dropped.min(twice.min(own));
         }
-        return genotyping::lesser(with_dropped, own);
+        return with_dropped.min(own);
     }
     if a == b {
-        return genotyping::lesser(with_dropped, own);
+        return with_dropped.min(own);
     }
     own
 }
@@ -61,12 +59,12 @@ fn folded_pl_at(pl: &[u32], dropped: AlleleIndex, place: usize) -> u32
         0 }
 {
     match diploid_pairs::pair_at(place) {
-        PairAt::Pair(low, high) => {
-            let a = retained_allele(low, dropped);
-            let b = retained_allele(high, dropped);
+        Some(pair) => {
+            let a = retained_allele(pair.low(), dropped);
+            let b = retained_allele(pair.high(), dropped);
             folded_pl(pl, dropped, a, b)
         }
-        PairAt::NoPair => 0,
+        None => 0,
     }
 }
 
@@ -78,7 +76,7 @@ fn fold_pl(retained: usize, dropped: AlleleIndex, pl: &[u32], out: &mut [u32]) -
     let count = retained * (retained + 1) / 2;
     for place in 0..count {
         let x = folded_pl_at(pl, dropped, place);
-        genotype_values::put_value(out, place, x);
+        slices::store(out, place, x);
     }
     count
 }
@@ -88,9 +86,8 @@ fn normalize_pl(pl: &[u32], out: &mut [u32])
     ensures { out.new ≡ sets out.old 0 (normalized_pl pl.now) }
 {
     let least = genotyping::least_pl(pl);
-    for i in 0..pl.len() {
-        let x = pl[i];
-        genotype_values::put_value(out, i, x - least);
+    for (i, x) in pl.iter().enumerate() {
+        slices::store(out, i, *x - least);
     }
 }
 
@@ -123,13 +120,10 @@ fn store_values(out: &mut [u32], place: usize, values: &[u32]) -> usize
     requires { place + length values.now < 2 ^ 64 }
     ensures { Laid out.old place values.now out.new result }
 {
-    let mut next = place;
-    for i in 0..values.len() {
-        let x = values[i];
-        genotype_values::put_value(out, next, x);
-        next += 1;
+    for (i, x) in values.iter().enumerate() {
+        slices::store(out, place + i, *x);
     }
-    next
+    place + values.len()
 }
 
 // AD without the dropped allele's entry, as far as it fits, and how many values it has.
@@ -148,11 +142,11 @@ pub fn remap_ad(dropped: AlleleIndex, ad: &[u32], out: &mut [u32]) -> usize
 // ---- GQ
 
 // GQ of a PL; missing if there is none.
-pub fn gq_of_pl(pl: &[u32]) -> OptionalNumber
+pub fn gq_of_pl(pl: &[u32]) -> Option<u32>
     ensures { option_of result ≡ map gq_from_pl (present pl.now) }
 {
     if pl.len() == 0 {
-        return OptionalNumber::Missing;
+        return None;
     }
-    OptionalNumber::Present(genotyping::gq_phred_from_pl(pl))
+    Some(genotyping::gq_phred_from_pl(pl))
 }

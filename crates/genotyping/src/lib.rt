@@ -6,26 +6,11 @@ ghost use Rattle.definitions.specs.CalledGenotypes.{gq_from_least_pls, gq_from_p
 ghost use Rattle.definitions.specs.Genotypes.{least};
 ghost use Rattle.genotyping.specs.OneReading.{FirstRead, count_held, equal_pls, least_of, most_count, with_later_pl};
 
-// The lesser of two PLs.
-pub fn lesser(a: u32, b: u32) -> u32
-    ensures { result ≡ min a b }
-{
-    if a < b { a } else { b }
-}
-
 // The least PL; 0 if there is none.
 pub fn least_pl(pl: &[u32]) -> u32
     ensures { result ≡ least pl.now }
 {
-    if pl.len() == 0 {
-        return 0;
-    }
-    let mut best = pl[0];
-    for i in 1..pl.len() {
-        let p = pl[i];
-        best = lesser(p, best);
-    }
-    best
+    pl.iter().copied().min().unwrap_or(0)
 }
 
 // What one reading of some PLs finds: the least, how often it occurs, and the least above it; 0 where there is none.
@@ -53,7 +38,7 @@ fn lesser_second(p: u32, second: u32) -> u32
     if second == 0 {
         return p;
     }
-    lesser(p, second)
+    p.min(second)
 }
 
 // From the three over any first PLs, and the next PL, to the three over all of those, the count held at the greatest usize: for every list `one_step_held`,
@@ -101,7 +86,7 @@ pub fn gq_from_least_pls(t: LeastPls) -> u32
     if second < least {
         return 0;
     }
-    lesser(second - least, 99)
+    (second - least).min(99)
 }
 
 // The three over so many PLs that all equal p; over none with two zeros.
@@ -127,28 +112,23 @@ fn read_first_pls(pl: &[u32]) -> FirstPls
     ensures { FirstRead pl.now result }
 {
     if pl.len() == 0 {
-        let none = equal_pls(0, 0);
-        return FirstPls {
-            found: none,
-            next: 0,
-        };
+        let found = equal_pls(0, 0);
+        return FirstPls { found, next: 0 };
     }
     let first = pl[0];
-    for i in 1..pl.len() {
-        let p = pl[i];
-        if p != first {
+    match pl.iter().position(|p| *p != first) {
+        Some(i) => {
             let equal = equal_pls(first, i);
-            let found = with_next_pl(equal, p);
-            return FirstPls {
-                found: found,
-                next: i + 1,
-            };
+            let found = with_next_pl(equal, pl[i]);
+            FirstPls { found, next: i + 1 }
         }
-    }
-    let all = equal_pls(first, pl.len());
-    FirstPls {
-        found: all,
-        next: pl.len(),
+        None => {
+            let found = equal_pls(first, pl.len());
+            FirstPls {
+                found,
+                next: pl.len(),
+            }
+        }
     }
 }
 

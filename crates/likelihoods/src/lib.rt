@@ -1,7 +1,7 @@
 // Log10 genotype likelihoods in binary64: from PL, within range, less the greatest.
 #![tactic(auto)]
 
-ghost use Rattle.std.specs.Prelude.{map, ◌≡◌, ◌<◌, length, set};
+ghost use Rattle.std.specs.Prelude.{map, ◌≡◌, ◌<◌, length};
 ghost use Rattle.std.proofs.lemmas.List.Edits.{sets};
 ghost use Rattle.definitions.specs.AlleleSubset.{greater, greatest, in_range, less_greatest};
 ghost use Rattle.definitions.specs.Checked.{within};
@@ -20,23 +20,13 @@ pub fn log10_from_pl(pl: u32) -> f64
     -(pl as f64) / 10.0
 }
 
-// Stores a value, if there is room at the place.
-pub fn put_value(out: &mut [f64], place: usize, x: f64)
-    ensures { out.new ≡ set out.old place x }
-{
-    if place < out.len() {
-        out[place] = x;
-    }
-}
-
 // The likelihoods of all PLs, as far as they fit.
 fn put_log10_from_pl(pl: &[u32], out: &mut [f64])
     ensures { out.new ≡ sets out.old 0 (map log10_from_pl pl.now) }
 {
-    for i in 0..pl.len() {
-        let p = pl[i];
-        let x = log10_from_pl(p);
-        put_value(out, i, x);
+    for (i, p) in pl.iter().enumerate() {
+        let x = log10_from_pl(*p);
+        slices::store(out, i, x);
     }
 }
 
@@ -59,10 +49,7 @@ pub fn log10_likelihoods_from_pl(pl: &[u32], out: &mut [f64]) -> Result<usize, R
 fn greater_of(first: f64, second: f64) -> f64
     ensures { result ≡ greater first second }
 {
-    if first < second {
-        return second;
-    }
-    first
+    if first < second { second } else { first }
 }
 
 // The first greatest of some values.
@@ -71,9 +58,8 @@ fn greatest_of(values: &[f64]) -> f64
     ensures { result ≡ greatest values.now }
 {
     let mut best = values[0];
-    for i in 1..values.len() {
-        let v = values[i];
-        best = greater_of(best, v);
+    for v in &values[1..] {
+        best = greater_of(best, *v);
     }
     best
 }
@@ -86,10 +72,9 @@ pub fn scale_log_space_array_for_numerical_stability(values: &[f64], out: &mut [
         return;
     }
     let best = greatest_of(values);
-    for i in 0..values.len() {
-        let v = values[i];
-        let x = v - best;
-        put_value(out, i, x);
+    for (i, v) in values.iter().enumerate() {
+        let x = *v - best;
+        slices::store(out, i, x);
     }
 }
 
@@ -97,21 +82,12 @@ pub fn scale_log_space_array_for_numerical_stability(values: &[f64], out: &mut [
 fn in_range(x: f64) -> bool
     ensures { result ≡ in_range x }
 {
-    if -2147483648.0 <= x {
-        return x <= 2147483648.0;
-    }
-    false
+    -2147483648.0 <= x && x <= 2147483648.0
 }
 
 // Whether every value is in range.
 pub fn all_in_range(values: &[f64]) -> bool
     ensures { result ≡ all_of in_range values.now }
 {
-    for i in 0..values.len() {
-        let v = values[i];
-        if !in_range(v) {
-            return false;
-        }
-    }
-    true
+    values.iter().all(|v| in_range(*v))
 }

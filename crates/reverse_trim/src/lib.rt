@@ -13,8 +13,7 @@ ghost use Rattle.laws.proofs.AllelesAsRead.{allele_as_read};
 ghost use Rattle.reverse_trim.specs.CommonEnding.{common_ending, common_ending_of_all};
 ghost use Rattle.reverse_trim.specs.LetterAlleles.{alleles_spelled, letters_spelled, spells_letters};
 
-use alleles::AllelesRead;
-use answers::Outcome;
+use answers::Refusal;
 
 // Whether a list, REF first, has 1 to 16 alleles of 1 to 255 letters each, none twice.
 fn are_alleles(list: &[u8]) -> bool
@@ -24,21 +23,14 @@ fn are_alleles(list: &[u8]) -> bool
     if list.len() <= end {
         return kv_text::is_letters(list, 255);
     }
-    let read = alleles::check_alleles(&list[..end], &list[end + 1..], 255, 16);
-    match read {
-        AllelesRead::Alleles(_, _) => true,
-        AllelesRead::Fault => false,
-    }
+    alleles::check_alleles(&list[..end], &list[end + 1..], 255, 16).is_some()
 }
 
 // Whether a field is a letter allele: `*` and `<NON_REF>` are none.
 fn is_letter_allele(field: &[u8]) -> bool
     ensures { result ≡ spells_letters field.now }
 {
-    if alleles::is_span_del(field) {
-        return false;
-    }
-    !alleles::is_non_ref(field)
+    !alleles::is_span_del(field) && !alleles::is_non_ref(field)
 }
 
 // Whether one of the ALTs is a letter allele.
@@ -162,17 +154,17 @@ fn put_trimmed(list: &[u8], clip: usize, out: &mut [u8]) -> usize
 
 // The entry: writes the alleles of a list with commas, REF first, without the common ending of the letter alleles. The answer is
 // how many bytes were written, or the row that refuses the call, and then `out` is as it was.
-pub fn reverse_trim_alleles(alleles: &[u8], out: &mut [u8]) -> Outcome
+pub fn reverse_trim_alleles(alleles: &[u8], out: &mut [u8]) -> Result<usize, Refusal>
     ensures { Answered (trimmed_alleles alleles.now (length out.old)) out.old out.new result }
 {
     if !are_alleles(alleles) {
-        return Outcome::Refused(5);
+        return Err(Refusal::Alleles);
     }
     let clip = reverse_suffix_clip_count(alleles);
     let len = put_trimmed(alleles, clip, &mut out[..0]);
     if out.len() < len {
-        return Outcome::Refused(14);
+        return Err(Refusal::Output);
     }
     put_trimmed(alleles, clip, out);
-    Outcome::Written(len)
+    Ok(len)
 }

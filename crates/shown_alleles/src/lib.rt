@@ -11,9 +11,6 @@ ghost use Rattle.laws.proofs.Every.{IfThere};
 ghost use Rattle.definitions.specs.SelectionSheet.{in_least_pair, pair_has};
 ghost use Rattle.shown_alleles.specs.Shown.{no_pair, shows_any};
 
-use diploid_pairs::PairAt;
-use kv_text::{FieldAt, NumbersRead};
-
 // Whether a number is one of two.
 fn is_either(n: usize, a: usize, b: usize) -> bool
     ensures { result ≡ (eqb n a || eqb n b) }
@@ -25,10 +22,9 @@ fn is_either(n: usize, a: usize, b: usize) -> bool
 fn pair_has(place: usize, allele: usize) -> bool
     ensures { result ≡ pair_has allele (get_or (genotype_pairs 16) place no_pair) }
 {
-    let at = diploid_pairs::pair_at(place);
-    match at {
-        PairAt::Pair(low, high) => is_either(allele, low.get(), high.get()),
-        PairAt::NoPair => is_either(allele, 0, 0),
+    match diploid_pairs::pair_at(place) {
+        Some(pair) => is_either(allele, pair.low().get(), pair.high().get()),
+        None => is_either(allele, 0, 0),
     }
 }
 
@@ -36,10 +32,7 @@ fn pair_has(place: usize, allele: usize) -> bool
 fn is_least_with(value: u32, least: u32, place: usize, allele: usize) -> bool
     ensures { result ≡ eqb value least && pair_has allele (get_or (genotype_pairs 16) place no_pair) }
 {
-    if value != least {
-        return false;
-    }
-    pair_has(place, allele)
+    value == least && pair_has(place, allele)
 }
 
 // Whether some pair of least PL has an allele.
@@ -47,9 +40,8 @@ fn in_least_pair(pl: &[u32], allele: usize) -> bool
     ensures { result ≡ in_least_pair 16 allele (some pl.now) }
 {
     let least = genotyping::least_pl(pl);
-    for i in 0..pl.len() {
-        let value = pl[i];
-        if is_least_with(value, least, i, allele) {
+    for (i, value) in pl.iter().enumerate() {
+        if is_least_with(*value, least, i, allele) {
             return true;
         }
     }
@@ -62,10 +54,9 @@ fn text_has(value: &[u8], allele: usize) -> bool
     ensures { result ≡ in_least_pair 16 allele (number_list value.now) }
 {
     let mut numbers = [0u32; 136];
-    let read = kv_text::read_numbers(value, &mut numbers);
-    match read {
-        NumbersRead::Fault => false,
-        NumbersRead::Count(n) => in_least_pair(&numbers[..n], allele),
+    match kv_text::read_numbers(value, &mut numbers) {
+        Some(n) => in_least_pair(&numbers[..n], allele),
+        None => false,
     }
 }
 
@@ -76,10 +67,9 @@ fn allele_at<'a>(reference: &'a [u8], alts: &'a [u8], number: usize) -> &'a [u8]
     if number == 0 {
         return reference;
     }
-    let field = kv_text::field_at(alts, b',', number - 1);
-    match field {
-        FieldAt::At(a, e) => tables::part(alts, a, e),
-        FieldAt::Absent => &alts[..0],
+    match kv_text::field_at(alts, b',', number - 1) {
+        Some(field) => tables::part(alts, field.at, field.end),
+        None => &alts[..0],
     }
 }
 
@@ -88,10 +78,7 @@ fn is_shown(wanted: &[u8], allele: &[u8], value: &[u8], number: usize) -> bool
     requires { IfThere (λ l. length l ≤ 136) (number_list value.now) }
     ensures { result ≡ same_letters wanted.now allele.now && in_least_pair 16 number (number_list value.now) }
 {
-    if !kv_text::same_letters(wanted, allele) {
-        return false;
-    }
-    text_has(value, number)
+    kv_text::same_letters(wanted, allele) && text_has(value, number)
 }
 
 // Whether a sample with this PL shows an allele of a record with REF, these ALTs, and so many alleles in all.
