@@ -18,10 +18,10 @@ use Rattle.window_counts.specs.Along.{Span, along, counts_with, wider, zeros}
 use Rattle.window_counts.specs.Counts.{AddReady, CountsSmall, WindowsReady, added, position_limit}
 use Rattle.window_counts.specs.declared.Windows.{Windows}
 use Rattle.depth_windows.specs.declared.Asked.{Asked}
-use Rattle.depth_windows.specs.declared.Extent.TheVariants as extent
-use Rattle.depth_windows.specs.declared.Extent.{Extent}
-use Rattle.depth_windows.specs.declared.ExtentRead.TheVariants as read
-use Rattle.depth_windows.specs.declared.ExtentRead.{ExtentRead}
+use Rattle.answers.specs.Answered.{row_of}
+use Rattle.answers.specs.declared.Refusal.{Refusal}
+use Rattle.bio_ids.specs.declared.GenomeLoc.{GenomeLoc}
+use Rattle.std.specs.Prelude as std
 
 -- the records behind a list's header
 unfoldable pub records_at : List ℕ → ListHeader → Checked (List Record)
@@ -42,13 +42,13 @@ place_end p = get_or (end_option p.end) p.pos.0
 abbrev pub place_span : List ℕ → RecordPlace → List ℕ → Option Span → Option Span
 place_span s p contig span = cond (same_bytes contig (bytes_of s p.contig)) (wider span p.pos.0 (place_end p)) span
 
-abbrev pub extent_span : Extent → Option Span
-extent_span (extent.Reach l) = some (record { first = l.start.0; last = l.end.0 })
-extent_span extent.Nothing = none
+abbrev pub extent_span : std.Option GenomeLoc → Option Span
+extent_span (std.Some l) = some (record { first = l.start.0; last = l.end.0 })
+extent_span std.None = none
 
-abbrev pub extent_answer : ExtentRead → Checked (Option Span)
-extent_answer (read.Extent e) = accepted (extent_span e)
-extent_answer (read.Refused row) = refused row
+abbrev pub extent_answer : std.Result (std.Option GenomeLoc) Refusal → Checked (Option Span)
+extent_answer (std.Ok e) = accepted (extent_span e)
+extent_answer (std.Err r) = refused (row_of r)
 
 -- ---- the counts of windows
 

@@ -9,19 +9,21 @@ use Rattle.definitions.specs.Records.{Record}
 use Rattle.list_walk.specs.declared.ListHeader.{ListHeader}
 use Rattle.window_counts.specs.Along.{along, span_with}
 use Rattle.depth_windows.specs.Along.{extent_span, records_at}
+use Rattle.answers.specs.Answered.{row_of}
+use Rattle.answers.specs.declared.Refusal.{Refusal}
+use Rattle.bio_ids.specs.declared.GenomeLoc.{GenomeLoc}
 use Rattle.depth_windows.specs.declared.Asked.{Asked}
-use Rattle.depth_windows.specs.declared.Extent.{Extent}
-use Rattle.depth_windows.specs.declared.Windowed.TheVariants as windowed
-use Rattle.depth_windows.specs.declared.Windowed.{Windowed}
+use Rattle.depth_windows.specs.declared.WindowRun.{WindowRun}
+use Rattle.std.specs.Prelude as std
 
 -- where the first window begins, and how many there are
 pub record Placed : Type 0 where
   pub first : ℕ
   pub count : ℕ
 
-abbrev pub windowed_answer : Windowed → Checked Placed
-windowed_answer (windowed.Windows first count) = accepted (record { first = first.0; count = count })
-windowed_answer (windowed.Refused row) = refused row
+abbrev pub windowed_answer : std.Result WindowRun Refusal → Checked Placed
+windowed_answer (std.Ok run) = accepted (record { first = run.first.0; count = run.count })
+windowed_answer (std.Err r) = refused (row_of r)
 
 unfoldable pub placed_of : Checked Windows → Checked Placed
 placed_of (refused n) = refused n
@@ -33,7 +35,7 @@ counts_of (refused n) = refused n
 counts_of (accepted w) = accepted w.counts
 
 -- the answer is that of these windows, or of the row that refuses them, and so is what the output holds at the end
-pub record Given (windows : Checked Windows) (out out' : List ℕ) (r : Windowed) : Type 0 where
+pub record Given (windows : Checked Windows) (out out' : List ℕ) (r : std.Result WindowRun Refusal) : Type 0 where
   pub answer : windowed_answer r ≡ placed_of windows
   pub output : out' ≡ output_after (counts_of windows) out
 
@@ -51,7 +53,7 @@ windows_over_span list samples contig asked places = do
       (windows_over (records_on contig list) asked.sample.0 asked.threshold asked.size asked.step) places
 
 -- the list was read, and its contig has this extent
-pub record OverReady (s : List ℕ) (h : ListHeader) (contig : List ℕ) (extent : Extent) : Type 0 where
+pub record OverReady (s : List ℕ) (h : ListHeader) (contig : List ℕ) (extent : std.Option GenomeLoc) : Type 0 where
   pub few : h.samples ≤ max_samples
   pub list : List Record
   pub value : records_at s h ≡ accepted list

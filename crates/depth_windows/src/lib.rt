@@ -6,86 +6,69 @@
 ghost use Rattle.std.specs.Prelude.{◌≤◌, ltb, length, ◌&&◌, ◌≡◌};
 ghost use Rattle.std.proofs.Math.Option.{none};
 ghost use Rattle.answers.specs.Answered.{Answered};
+ghost use Rattle.answers.specs.Options.{option_of};
 ghost use Rattle.definitions.specs.DepthWindows.{depth_windows, is_deep, window_fits, windows_along};
 ghost use Rattle.definitions.specs.Limits.{max_samples};
-ghost use Rattle.kv_write.specs.Optional.{option_of};
 ghost use Rattle.window_counts.specs.Along.{span_with, wider, zeros};
 ghost use Rattle.depth_windows.specs.Along.{AddsReady, CountReady, FillReady, all_counted, along_records, extent_answer, extent_span, filled_counts, place_added, place_span, records_at};
 ghost use Rattle.depth_windows.specs.Windowed.{Given, OverReady, filled_with, windows_behind, windows_over_span};
 
-use answers::Outcome;
+use answers::Refusal;
 use bio_ids::{GenomeLoc, GenomePosition, SampleIndex};
-use kv_write::OptionalNumber;
 use list_reader::RecordPlace;
-use list_walk::{HeaderAt, ListHeader, Stepped};
+use list_walk::ListHeader;
 use window_counts::Windows;
 
 // ---- the first reading: where a contig begins and ends
 
-// A contig's first and last position in a record, as far as the list is read.
-#[derive(Clone, Copy)]
-pub enum Extent {
-    Reach(GenomeLoc),
-    Nothing,
-}
-
-// The extent with a record's stretch behind it.
-fn widened(extent: Extent, pos: GenomePosition, last: GenomePosition) -> Extent
+// The extent of a contig, as far as the list is read, with a record's stretch behind it.
+fn widened(
+    extent: Option<GenomeLoc>,
+    pos: GenomePosition,
+    last: GenomePosition,
+) -> Option<GenomeLoc>
     ensures { extent_span result ≡ wider (extent_span extent) pos.0 last.0 }
 {
     match extent {
-        Extent::Nothing => Extent::Reach(GenomeLoc::new(pos, last)),
-        Extent::Reach(reach) => {
-            let start = reach.start;
-            Extent::Reach(GenomeLoc::new(start, last))
-        }
+        Some(reach) => Some(GenomeLoc::new(reach.start, last)),
+        None => Some(GenomeLoc::new(pos, last)),
     }
 }
 
 // The extent with a record, if it is on the contig.
-fn extent_with(list: &[u8], place: RecordPlace, contig: &[u8], extent: Extent) -> Extent
+fn extent_with(
+    list: &[u8],
+    place: RecordPlace,
+    contig: &[u8],
+    extent: Option<GenomeLoc>,
+) -> Option<GenomeLoc>
     ensures { extent_span result ≡ place_span list.now place contig.now (extent_span extent) }
 {
     let on = tables::part(list, place.contig.at, place.contig.end);
     if !kv_text::same_bytes(contig, on) {
         return extent;
     }
-    let pos = place.pos;
-    let end = place.end;
-    let last = list_walk::record_end(pos, end);
-    widened(extent, pos, last)
+    let last = list_walk::record_end(place.pos, place.end);
+    widened(extent, place.pos, last)
 }
 
-// The extent of a contig in a whole list, or the row that refuses the list.
-#[derive(Clone, Copy)]
-pub enum ExtentRead {
-    Extent(Extent),
-    Refused(usize),
-}
-
-// Reads all record groups behind a header: rows 1 and 4 to 8.
-fn contig_extent(list: &[u8], header: ListHeader, contig: &[u8]) -> ExtentRead
+// A contig's first and last position in a whole list: reads all record groups behind a header. Rows 1 and 4 to 8.
+fn contig_extent(
+    list: &[u8],
+    header: ListHeader,
+    contig: &[u8],
+) -> Result<Option<GenomeLoc>, Refusal>
     requires { header.samples ≤ max_samples }
     ensures { extent_answer result ≡ along_records (span_with contig.now) none (records_at list.now header) }
 {
     let mut rows = [0usize; 1408];
     let mut cursor = list_walk::first_group(header);
-    let mut extent = Extent::Nothing;
-    loop {
-        let stepped = list_walk::step(list, header, cursor, &mut rows);
-        match stepped {
-            Stepped::Refused(row) => {
-                return ExtentRead::Refused(row);
-            }
-            Stepped::End => {
-                return ExtentRead::Extent(extent);
-            }
-            Stepped::Record(place, next) => {
-                extent = extent_with(list, place, contig, extent);
-                cursor = next;
-            }
-        }
+    let mut extent = None;
+    while let Some((place, next)) = list_walk::step(list, header, cursor, &mut rows)? {
+        extent = extent_with(list, place, contig, extent);
+        cursor = next;
     }
+    Ok(extent)
 }
 
 // ---- the second reading: the counts
@@ -100,12 +83,12 @@ pub struct Asked {
 }
 
 // Whether a DP is at or above a threshold. A missing one is not.
-fn is_deep(threshold: u32, dp: OptionalNumber) -> bool
+fn is_deep(threshold: u32, dp: Option<u32>) -> bool
     ensures { result ≡ is_deep threshold (option_of dp) }
 {
     match dp {
-        OptionalNumber::Present(n) => threshold <= n,
-        OptionalNumber::Missing => false,
+        Some(n) => threshold <= n,
+        None => false,
     }
 }
 
@@ -131,10 +114,8 @@ fn add_record(
     if !is_deep(asked.threshold, dp) {
         return;
     }
-    let pos = place.pos;
-    let end = place.end;
-    let last = list_walk::record_end(pos, end);
-    window_counts::add_stretch(counts, windows, GenomeLoc::new(pos, last));
+    let last = list_walk::record_end(place.pos, place.end);
+    window_counts::add_stretch(counts, windows, GenomeLoc::new(place.pos, last));
 }
 
 // Adds all records of a list that was read before.
@@ -152,20 +133,9 @@ fn add_records(
 {
     let mut rows = [0usize; 1408];
     let mut cursor = list_walk::first_group(header);
-    loop {
-        let stepped = list_walk::step(list, header, cursor, &mut rows);
-        match stepped {
-            Stepped::Refused(_) => {
-                return;
-            }
-            Stepped::End => {
-                return;
-            }
-            Stepped::Record(place, next) => {
-                add_record(list, place, &rows, contig, asked, windows, counts);
-                cursor = next;
-            }
-        }
+    while let Ok(Some((place, next))) = list_walk::step(list, header, cursor, &mut rows) {
+        add_record(list, place, &rows, contig, asked, windows, counts);
+        cursor = next;
     }
 }
 
@@ -182,17 +152,17 @@ fn count_windows(
     ensures { (ready : CountReady list.now header contig.now asked windows (zeros (length counts.old)))
         → counts.new ≡ all_counted ready }
 {
-    tables::clear_numbers(counts);
+    slices::clear(counts, 0);
     add_records(list, header, contig, asked, windows, counts);
 }
 
 // ---- the windows
 
-// Where the first window begins and how many there are, or the row that refuses the call.
+// Where the first window begins, 0 without one, and how many there are.
 #[derive(Clone, Copy)]
-pub enum Windowed {
-    Windows(GenomePosition, usize),
-    Refused(usize),
+pub struct WindowRun {
+    pub first: GenomePosition,
+    pub count: usize,
 }
 
 // Counts the windows of a contig that has records, up to its last position: row 14 if there are fewer places.
@@ -204,18 +174,20 @@ fn fill_windows(
     windows: Windows,
     last: GenomePosition,
     out: &mut [u32],
-) -> Windowed
+) -> Result<WindowRun, Refusal>
     requires { FillReady list.now header contig.now asked windows last }
     ensures { (ready : FillReady list.now header contig.now asked windows last)
         → Given (filled_with windows.first.0 (filled_counts ready) (length out.old)) out.old out.new result }
 {
     let count = window_counts::window_count(windows, last);
     if out.len() < count {
-        return Windowed::Refused(14);
+        return Err(Refusal::Output);
     }
     count_windows(list, header, contig, asked, windows, &mut out[..count]);
-    let first = windows.first;
-    Windowed::Windows(first, count)
+    Ok(WindowRun {
+        first: windows.first,
+        count,
+    })
 }
 
 // A window's length or step: 1 to 1,000,000 positions.
@@ -243,30 +215,29 @@ fn windows_over(
     list: &[u8],
     header: ListHeader,
     contig: &[u8],
-    extent: Extent,
+    extent: Option<GenomeLoc>,
     asked: Asked,
     out: &mut [u32],
-) -> Windowed
+) -> Result<WindowRun, Refusal>
     requires { OverReady list.now header contig.now extent }
     ensures { (ready : OverReady list.now header contig.now extent)
         → Given (windows_over_span ready.list header.samples contig.now asked (length out.old)) out.old out.new result }
 {
     if !asked_right(asked, header.samples) {
-        return Windowed::Refused(17);
+        return Err(Refusal::Window);
     }
-    match extent {
-        Extent::Nothing => Windowed::Windows(GenomePosition::new_1based(0), 0),
-        Extent::Reach(reach) => {
-            let first = reach.start;
-            let last = reach.end;
-            let windows = Windows {
-                first,
-                size: asked.size as u64,
-                step: asked.step as u64,
-            };
-            fill_windows(list, header, contig, asked, windows, last, out)
-        }
-    }
+    let Some(reach) = extent else {
+        return Ok(WindowRun {
+            first: GenomePosition::new_1based(0),
+            count: 0,
+        });
+    };
+    let windows = Windows {
+        first: reach.start,
+        size: asked.size as u64,
+        step: asked.step as u64,
+    };
+    fill_windows(list, header, contig, asked, windows, reach.end, out)
 }
 
 // The windows of a contig behind a header: rows 1, 4 to 8, 17 and 14.
@@ -276,33 +247,32 @@ fn windows_behind(
     contig: &[u8],
     asked: Asked,
     out: &mut [u32],
-) -> Windowed
+) -> Result<WindowRun, Refusal>
     requires { header.samples ≤ max_samples }
     ensures { Given (windows_behind list.now header contig.now asked (length out.old)) out.old out.new result }
 {
-    let read = contig_extent(list, header, contig);
-    match read {
-        ExtentRead::Refused(row) => Windowed::Refused(row),
-        ExtentRead::Extent(extent) => windows_over(list, header, contig, extent, asked, out),
-    }
+    let extent = contig_extent(list, header, contig)?;
+    windows_over(list, header, contig, extent, asked, out)
 }
 
 // The windows of a contig in a combined list: how many positions of each lie in a record with DP at or above the threshold. The answer is
 // where the first begins, 0 without one, and how many there are; or the row that refuses the call, and then `out` is as it was.
-pub fn windows_along(list: &[u8], contig: &[u8], asked: Asked, out: &mut [u32]) -> Windowed
+pub fn windows_along(
+    list: &[u8],
+    contig: &[u8],
+    asked: Asked,
+    out: &mut [u32],
+) -> Result<WindowRun, Refusal>
     ensures { Given
         (windows_along list.now contig.now asked.sample.0 asked.threshold asked.size asked.step (length out.old))
         out.old out.new result }
 {
     if 16777216 < list.len() {
-        return Windowed::Refused(2);
+        return Err(Refusal::Size);
     }
     let mut names = [0usize; 128];
-    let header = list_walk::read_header(list, &mut names);
-    match header {
-        HeaderAt::Refused(row) => Windowed::Refused(row),
-        HeaderAt::Header(read) => windows_behind(list, read, contig, asked, out),
-    }
+    let header = list_walk::read_header(list, &mut names)?;
+    windows_behind(list, header, contig, asked, out)
 }
 
 // The library's entry: the same for a sample by its number, a threshold, and a length and a step of windows, with the answer of any call that
@@ -315,7 +285,7 @@ pub fn depth_windows(
     size: u32,
     step: u32,
     out: &mut [u32],
-) -> Outcome
+) -> Result<usize, Refusal>
     ensures { Answered
         (depth_windows list.now contig.now sample.0 threshold size step (length out.old))
         out.old out.new result }
@@ -326,9 +296,6 @@ pub fn depth_windows(
         size,
         step,
     };
-    let given = windows_along(list, contig, asked, out);
-    match given {
-        Windowed::Refused(row) => Outcome::Refused(row),
-        Windowed::Windows(_, count) => Outcome::Written(count),
-    }
+    let run = windows_along(list, contig, asked, out)?;
+    Ok(run.count)
 }

@@ -6,27 +6,27 @@
 #![tactic(auto)]
 
 ghost use Rattle.std.specs.Prelude.{◌≤◌, length, ◌≡◌};
+ghost use Rattle.answers.specs.Answered.{row_of};
+ghost use Rattle.answers.specs.Options.{option_of};
 ghost use Rattle.definitions.specs.Answers.{look_up_files, printed_looked_up};
 ghost use Rattle.definitions.specs.Checked.{refused};
 ghost use Rattle.files.specs.FileTexts.{read_text};
 ghost use Rattle.files.specs.Printing.{Printed};
 ghost use Rattle.kv_write.specs.Laid.{Laid};
-ghost use Rattle.kv_write.specs.Optional.{option_of};
 ghost use Rattle.list_programs.specs.FoundLines.{answer_lines, found_lines, most_bytes, record_option};
 
-use files::{FileRead, is_failed, is_too_long, read_file, text};
-use kv_write::OptionalNumber;
-use position_lookup::Lookup;
+use answers::Refusal;
+use files::{ReadError, is_failed, is_too_long, read_file, text};
 use std::rt::Files;
 
 // The number of a record, missing for 4294967295.
-fn record_number(number: u32) -> OptionalNumber
+fn record_number(number: u32) -> Option<u32>
     ensures { option_of result ≡ record_option number }
 {
     if number == 4294967295 {
-        return OptionalNumber::Missing;
+        return None;
     }
-    OptionalNumber::Present(number)
+    Some(number)
 }
 
 // Lays a line `record` for each number over the start of a buffer, as far as they fit. The answer is where they end.
@@ -35,10 +35,8 @@ fn put_records(numbers: &[u32], out: &mut [u8]) -> usize
     ensures { Laid out.old 0 (answer_lines numbers.now) out.new result }
 {
     let mut at = 0;
-    for i in 0..numbers.len() {
-        let n = numbers[i];
-        let number = record_number(n);
-        at = kv_write::put_optional_number_line(out, at, b"record=", number);
+    for n in numbers {
+        at = kv_write::put_optional_number_line(out, at, b"record=", record_number(*n));
     }
     at
 }
@@ -53,17 +51,17 @@ fn put_found(numbers: &[u32], groups: u32, list: &mut [u8; 65536]) -> usize
 }
 
 // The same for a refusal.
-fn put_row(row: usize, list: &mut [u8; 65536]) -> usize
-    ensures { Printed (printed_looked_up (refused row)) list.old list.new result }
+fn put_row(refusal: Refusal, list: &mut [u8; 65536]) -> usize
+    ensures { Printed (printed_looked_up (refused (row_of refusal))) list.old list.new result }
 {
-    files::put_refusal(list, row)
+    files::put_refusal(list, refusal)
 }
 
 // What `look_up` prints for the files that were read, made in the list's buffer. The answer is how many bytes it has.
 pub fn look_up_program(
-    of_combined: FileRead,
+    of_combined: Result<Option<usize>, ReadError>,
     combined: &[u8],
-    of_places: FileRead,
+    of_places: Result<Option<usize>, ReadError>,
     places: &[u8],
     list: &mut [u8; 65536],
 ) -> usize
@@ -72,10 +70,10 @@ pub fn look_up_program(
         list.old list.new result }
 {
     if is_too_long(of_combined) {
-        return put_row(2, list);
+        return put_row(Refusal::Size, list);
     }
     if is_too_long(of_places) {
-        return put_row(2, list);
+        return put_row(Refusal::Size, list);
     }
     let mut found = [0u32; 1024];
     let answer = position_lookup::look_up(
@@ -84,8 +82,8 @@ pub fn look_up_program(
         &mut found,
     );
     match answer {
-        Lookup::Refused(row) => put_row(row, list),
-        Lookup::Found(count, groups) => put_found(&found[..count], groups, list),
+        Ok(counts) => put_found(&found[..counts.pairs], counts.groups, list),
+        Err(refusal) => put_row(refusal, list),
     }
 }
 

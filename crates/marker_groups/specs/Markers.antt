@@ -1,45 +1,40 @@
 -- What reading the marker file finds: the lines of a marker, and the table of all.
 use Rattle.std.specs.Prelude.{◌*◌, ◌+◌, ◌-◌, ◌<◌, ◌≤◌, ℕ, eqb, drop, get_or, length, take, cond, false, true, List, [], ◌∷◌, map, reverse, ◌≡◌}
-use Rattle.std.proofs.Math.Option
+use Rattle.answers.specs.Answered.{row_of}
+use Rattle.answers.specs.declared.LoadError.{LoadError}
+use Rattle.answers.specs.declared.LoadError.TheVariants.{NoRoom, Refused}
+use Rattle.answers.specs.declared.Refusal.{Refusal}
 use Rattle.definitions.specs.Alleles.{Allele}
 use Rattle.definitions.specs.Answers.{scratch_after}
 use Rattle.definitions.specs.Bytes.{comma, fields_of, same_bytes, text}
 use Rattle.definitions.specs.Checked.{Checked, accepted, refused}
 use Rattle.definitions.specs.Lines.{Line, line_at, lines_of}
-use Rattle.definitions.specs.Lists.{all_of, any_of, index_where, numbers_from}
+use Rattle.definitions.specs.Lists.{all_of, any_of, numbers_from}
 use Rattle.definitions.specs.Numbers.{max_number, name}
 use Rattle.definitions.specs.SelectionSheet.{Marker, marker_lines, marker_of, markers_of, max_markers, names_after, number_in, wanted_allele}
 use Rattle.kv_text.specs.Fields.{between}
 use Rattle.kv_text.specs.Lines.{Behind, LineFound, read_to, unread}
-use Rattle.kv_text.specs.declared.ValueAt.{ValueAt}
-use Rattle.kv_text.specs.declared.ValueAt.TheVariants as value
+use Rattle.kv_text.specs.declared.Part.{Part}
 use Rattle.laws.proofs.AllelesAsRead.{allele_as_read}
 use Rattle.laws.proofs.Every.{Every}
 use Rattle.site_groups.specs.SiteGroups.{bytes_of}
-use Rattle.marker_groups.specs.declared.AftersAt.{AftersAt}
-use Rattle.marker_groups.specs.declared.AftersAt.TheVariants as afters
-use Rattle.marker_groups.specs.declared.LinesAt.{LinesAt}
-use Rattle.marker_groups.specs.declared.LinesAt.TheVariants as lines
-use Rattle.marker_groups.specs.declared.MarkerAt.{MarkerAt}
-use Rattle.marker_groups.specs.declared.MarkerAt.TheVariants as one
 use Rattle.marker_groups.specs.declared.MarkerLines.{MarkerLines}
-use Rattle.marker_groups.specs.declared.MarkersAt.{MarkersAt}
-use Rattle.marker_groups.specs.declared.MarkersAt.TheVariants as all
+use Rattle.std.specs.Prelude as std
 
 -- ---- the answers about a line
 
 -- the wanted allele that stands there
-abbrev pub allele_found : List ℕ → ValueAt → LineFound Allele
-allele_found s (value.At a e) = read_to (allele_as_read (between s a e)) e
-allele_found s value.Absent = unread
+abbrev pub allele_found : List ℕ → std.Option Part → LineFound Allele
+allele_found s (std.Some part) = read_to (allele_as_read (between s part.at part.end)) part.end
+allele_found s std.None = unread
 
 -- the names of a list; `.` has none
 unfoldable pub after_names : List ℕ → List (List ℕ)
 after_names list = cond (same_bytes list (text ".")) [] (fields_of comma list)
 
-abbrev pub after_found : List ℕ → ValueAt → LineFound (List (List ℕ))
-after_found s (value.At a e) = read_to (after_names (between s a e)) e
-after_found s value.Absent = unread
+abbrev pub after_found : List ℕ → std.Option Part → LineFound (List (List ℕ))
+after_found s (std.Some part) = read_to (after_names (between s part.at part.end)) part.end
+after_found s std.None = unread
 
 -- ---- the lines of a marker
 
@@ -60,9 +55,9 @@ pub record LinesTo (s : List ℕ) (at : ℕ) (l : MarkerLines) : Type 0 where
   pub within : l.next ≤ length s
 
 -- or row 19 refuses the group, whatever stands before it
-unfoldable pub LinesRead : List ℕ → ℕ → LinesAt → Type 0
-LinesRead s at (lines.Lines l) = LinesTo s at l
-LinesRead s at lines.Wrong = (before : List Marker) → marker_of before (marker_group s at) ≡ refused 19
+unfoldable pub LinesRead : List ℕ → ℕ → std.Option MarkerLines → Type 0
+LinesRead s at (std.Some l) = LinesTo s at l
+LinesRead s at std.None = (before : List Marker) → marker_of before (marker_group s at) ≡ refused 19
 
 -- ---- the table
 
@@ -81,11 +76,6 @@ name_of = part_at 0 1
 -- the names of the first so many markers
 unfoldable pub names_in : List ℕ → List ℕ → ℕ → List (List ℕ)
 names_in s rows count = map (name_of s rows) (numbers_from 0 count)
-
--- the number of the first marker from i on with this name, or how many there are if none has it
-unfoldable pub find_from : List ℕ → List ℕ → ℕ → List ℕ → ℕ → ℕ
-find_from s rows count n i =
-    i + Option.get_or (index_where (same_bytes n) (map (name_of s rows) (numbers_from i (count - i)))) (count - i)
 
 -- the numbers of the markers that `after` names
 unfoldable pub after_at : List ℕ → ℕ → List ℕ
@@ -121,9 +111,9 @@ pub record AftersTo (s rows : List ℕ) (count : ℕ) (list numbers : List ℕ) 
   pub below : Every (λ j. get_or numbers j 0 < count) (numbers_from 0 names)
 
 -- or some name is no marker's
-unfoldable pub AftersFound : List ℕ → List ℕ → ℕ → List ℕ → List ℕ → AftersAt → Type 0
-AftersFound s rows count list numbers (afters.Markers names) = AftersTo s rows count list numbers names
-AftersFound s rows count list numbers afters.Unnamed = all_of (λ n. any_of (same_bytes n) (names_in s rows count)) (after_names list) ≡ false
+unfoldable pub AftersFound : List ℕ → List ℕ → ℕ → List ℕ → List ℕ → std.Option ℕ → Type 0
+AftersFound s rows count list numbers (std.Some names) = AftersTo s rows count list numbers names
+AftersFound s rows count list numbers std.None = all_of (λ n. any_of (same_bytes n) (names_in s rows count)) (after_names list) ≡ false
 
 -- ---- the markers
 
@@ -143,9 +133,9 @@ pub record MarkerTo (s : List ℕ) (at : ℕ) (rows₀ rows : List ℕ) (count n
   pub forward : at < next
   pub within : next ≤ length s
 
-unfoldable pub MarkerRead : List ℕ → ℕ → List ℕ → List ℕ → ℕ → MarkerAt → Type 0
-MarkerRead s at rows₀ rows count (one.Next next) = MarkerTo s at rows₀ rows count next
-MarkerRead s at rows₀ rows count (one.Refused row) = marker_of (reverse (markers_in s rows₀ count)) (marker_group s at) ≡ refused row
+unfoldable pub MarkerRead : List ℕ → ℕ → List ℕ → List ℕ → ℕ → std.Result ℕ Refusal → Type 0
+MarkerRead s at rows₀ rows count (std.Ok next) = MarkerTo s at rows₀ rows count next
+MarkerRead s at rows₀ rows count (std.Err r) = marker_of (reverse (markers_in s rows₀ count)) (marker_group s at) ≡ refused (row_of r)
 
 -- the table has the markers of the text, and behind them it is as it was
 pub record MarkersTo (s rows₀ rows : List ℕ) (count : ℕ) : Type 0 where
@@ -163,7 +153,7 @@ pub record MarkersUnread (rows₀ rows : List ℕ) : Type 0 where
   pub no_room : length rows₀ < 6500
   pub same : rows ≡ rows₀
 
-unfoldable pub MarkersRead : List ℕ → List ℕ → List ℕ → MarkersAt → Type 0
-MarkersRead s rows₀ rows (all.Markers count) = MarkersTo s rows₀ rows count
-MarkersRead s rows₀ rows (all.Refused row) = MarkersRefused s rows₀ rows row
-MarkersRead s rows₀ rows all.NoRoom = MarkersUnread rows₀ rows
+unfoldable pub MarkersRead : List ℕ → List ℕ → List ℕ → std.Result ℕ LoadError → Type 0
+MarkersRead s rows₀ rows (std.Ok count) = MarkersTo s rows₀ rows count
+MarkersRead s rows₀ rows (std.Err (Refused r)) = MarkersRefused s rows₀ rows (row_of r)
+MarkersRead s rows₀ rows (std.Err NoRoom) = MarkersUnread rows₀ rows

@@ -10,10 +10,7 @@ ghost use Rattle.marker_sums.specs.Sums.{SumReady, met_after, none_met, sum_over
 fn is_set(flags: &[u8], place: usize) -> bool
     ensures { result ≡ eqb (get_or flags.now place 0) 1 }
 {
-    if flags.len() <= place {
-        return false;
-    }
-    flags[place] == 1
+    slices::value_or(flags, place, 0) == 1
 }
 
 // Whether all markers are met that a marker names.
@@ -42,16 +39,6 @@ fn is_met(rows: &[usize], marker: usize, shown: &[u8], met: &[u8]) -> bool
     all_met(rows, marker, met)
 }
 
-// 1 for true.
-fn flag(b: bool) -> u8
-    ensures { result ≡ cond b 1 0 }
-{
-    if b {
-        return 1;
-    }
-    0
-}
-
 // The weight of a marker that is met; 0 of another.
 fn weighed(rows: &[usize], marker: usize, met: bool) -> usize
     ensures { result ≡ cond met (column 7 rows.now marker) 0 }
@@ -71,7 +58,7 @@ pub fn sample_sum(rows: &[usize], count: usize, shown: &[u8]) -> usize
     let mut sum = 0;
     for marker in 0..count {
         let is = is_met(rows, marker, shown, &met);
-        met[marker] = flag(is);
+        met[marker] = is as u8;
         sum += weighed(rows, marker, is);
     }
     sum

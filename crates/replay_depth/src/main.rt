@@ -10,7 +10,7 @@
 
 ghost use Rattle.std.specs.Prelude.{◌<◌, length};
 
-use answers::Outcome;
+use answers::Refusal;
 use bio_ids::SampleIndex;
 use test_cases::{
     case_at, count_field, field, line_at, number_field, print, print_number, print_refused,
@@ -19,18 +19,13 @@ use test_cases::{
 
 // Sets every place to a number that no window has.
 fn set_numbers(out: &mut [u32]) {
-    for i in 0..out.len() {
-        out[i] = 4294967294;
-    }
+    out.fill(4294967294);
 }
 
 // Prints a line if a place from an index on is not as it was set.
 fn print_if_changed(rt: &impl Print, out: &[u32], from: usize) {
-    for i in from..out.len() {
-        if out[i] != 4294967294 {
-            print(rt, b"a place behind the counts has changed\n");
-            return;
-        }
+    if out.iter().skip(from).any(|n| *n != 4294967294) {
+        print(rt, b"a place behind the counts has changed\n");
     }
 }
 
@@ -42,24 +37,22 @@ fn print_count(rt: &impl Print, number: u32) {
 
 // Prints so many counts, as far as there are places.
 fn print_counts(rt: &impl Print, out: &[u32], count: usize) {
-    for i in 0..out.len() {
-        if i < count {
-            print_count(rt, out[i]);
-        }
+    for n in out.iter().take(count) {
+        print_count(rt, *n);
     }
 }
 
 // Prints the answer behind the case's name. The answer is how many windows there are.
-fn print_windows(rt: &impl Print, outcome: Outcome, out: &[u32]) -> usize {
+fn print_windows(rt: &impl Print, outcome: Result<usize, Refusal>, out: &[u32]) -> usize {
     match outcome {
-        Outcome::Written(count) => {
+        Ok(count) => {
             print(rt, b" windows=");
             print_counts(rt, out, count);
             print(rt, b"\n");
             count
         }
-        Outcome::Refused(row) => {
-            print_refused(rt, row);
+        Err(refusal) => {
+            print_refused(rt, refusal);
             0
         }
     }
@@ -71,7 +64,7 @@ fn small_field(line: &[u8], number: usize) -> u32 {
 }
 
 // The call of a case.
-fn run(line: &[u8], list: &[u8], out: &mut [u32]) -> Outcome {
+fn run(line: &[u8], list: &[u8], out: &mut [u32]) -> Result<usize, Refusal> {
     depth_windows::depth_windows(
         list,
         field(line, 8),

@@ -10,25 +10,21 @@
 
 ghost use Rattle.std.specs.Prelude.{◌<◌, length};
 
-use position_lookup::Lookup;
+use answers::Refusal;
+use position_lookup::LookedUp;
 use test_cases::{
     case_at, count_field, field, line_at, print, print_number, print_refused, read_input,
 };
 
 // Sets every place to a number that no call leaves there.
 fn set_numbers(out: &mut [u32]) {
-    for i in 0..out.len() {
-        out[i] = 4294967294;
-    }
+    out.fill(4294967294);
 }
 
 // Prints a line if a place from an index on is not as it was set.
 fn print_if_changed(rt: &impl Print, out: &[u32], from: usize) {
-    for i in from..out.len() {
-        if out[i] != 4294967294 {
-            print(rt, b"a place behind the answers has changed\n");
-            return;
-        }
+    if out.iter().skip(from).any(|n| *n != 4294967294) {
+        print(rt, b"a place behind the answers has changed\n");
     }
 }
 
@@ -44,25 +40,23 @@ fn print_record(rt: &impl Print, number: u32) {
 
 // Prints so many answers behind the case's name, as far as there are places.
 fn print_records(rt: &impl Print, out: &[u32], count: usize) {
-    for i in 0..out.len() {
-        if i < count {
-            print_record(rt, out[i]);
-        }
+    for n in out.iter().take(count) {
+        print_record(rt, *n);
     }
 }
 
 // Prints the answer behind the case's name; it is how many places it has.
-fn print_lookup(rt: &impl Print, answer: Lookup, out: &[u32]) -> usize {
+fn print_lookup(rt: &impl Print, answer: Result<LookedUp, Refusal>, out: &[u32]) -> usize {
     match answer {
-        Lookup::Found(count, groups) => {
-            print_records(rt, out, count);
+        Ok(counts) => {
+            print_records(rt, out, counts.pairs);
             print(rt, b" groups=");
-            print_number(rt, groups as usize);
+            print_number(rt, counts.groups as usize);
             print(rt, b"\n");
-            count
+            counts.pairs
         }
-        Lookup::Refused(row) => {
-            print_refused(rt, row);
+        Err(refusal) => {
+            print_refused(rt, refusal);
             0
         }
     }

@@ -1,7 +1,7 @@
 // The counts of windows along a contig, to which the stretch of a record is added by arithmetic: one step for each window that it overlaps.
 #![tactic(auto)]
 
-ghost use Rattle.std.specs.Prelude.{◌-◌, ◌/◌, ◌<◌, ◌≤◌, max, min, suc, ◌≡◌};
+ghost use Rattle.std.specs.Prelude.{◌-◌, ◌/◌, ◌<◌, ◌≤◌, suc, ◌≡◌};
 ghost use Rattle.definitions.specs.DepthWindows.{overlap};
 ghost use Rattle.window_counts.specs.Counts.{AddReady, LastReady, OverlapReady, OverlapsReady, SkipReady, added, windows_before};
 
@@ -15,35 +15,13 @@ pub struct Windows {
     pub step: u64,
 }
 
-fn lesser(a: u64, b: u64) -> u64
-    ensures { result ≡ min a b }
-{
-    if a < b {
-        return a;
-    }
-    b
-}
-
-fn greater(a: u64, b: u64) -> u64
-    ensures { result ≡ max a b }
-{
-    if a < b {
-        return b;
-    }
-    a
-}
-
 // How many positions of a window lie in a stretch.
 fn overlap(first: u64, last: u64, size: u64, begin: u64) -> u64
     requires { OverlapReady last size begin }
     ensures { result ≡ overlap first last size begin }
 {
-    let past = lesser(last + 1, begin + size);
-    let from = greater(first, begin);
-    if past <= from {
-        return 0;
-    }
-    past - from
+    let past = (last + 1).min(begin + size);
+    past.saturating_sub(first.max(begin))
 }
 
 // How many windows end before a position.
@@ -77,13 +55,13 @@ fn add_overlaps(counts: &mut [u32], windows: Windows, stretch: GenomeLoc)
     let start = stretch.start.get();
     let end = stretch.end.get();
     let mut begin = windows.first.get();
-    let mut k = 0;
-    while k < counts.len() && begin <= end {
-        let count = counts[k];
+    for count in counts {
+        if end < begin {
+            return;
+        }
         let more = overlap(start, end, size, begin);
-        counts[k] = count + more as u32;
+        *count += more as u32;
         begin += step;
-        k += 1;
     }
 }
 
