@@ -1,30 +1,16 @@
 -- The entries of samples, stored one by one.
-use Prim.Native.Nat.{◌+◌, ◌-◌, ◌<◌, ◌≤◌, suc, ℕ}
+use Prim.Native.Nat.{◌+◌, ◌<◌, ◌≤◌, suc, ℕ}
+use denote.Ref.{Bor}
 use lib.ListN.{drop, drop_of_length-le, get_or, length, set, take}
-use lib.Seq.{drop-cons, set_out, sets, sets-eq, take-append_seam, take-suc}
-use mathlib.Core.List.{List, [], ◌++◌, ◌∷◌}
+use lib.Seq.{drop-cons, sets, sets-eq, take-append_seam}
+use mathlib.Core.List.{List, [], ◌++◌, ◌∷◌, map, map-append, reverse, reverse-append}
 use mathlib.Core.Path.{◌∙◌, ◌≡◌, ap, refl, sym}
 use native.Mathlib.Numerals.{add-one}
 use native.Mathlib.Omega.{arith}
 use Rattle.found_sites.specs.Own.{found_at, found_list, put_all, put_own}
 use Rattle.found_sites.specs.declared.Found.{Found}
 
--- ---- one site
-
-module _ (found : Found) (own : List ℕ) {sample : ℕ} (e : sample ≡ found.sample.0) where
-  pub put_stored : set own sample found.row ≡ put_own found own
-  unfolding put_own
-  put_stored = rw e
-
-  pub put_none : length own ≤ sample → own ≡ put_own found own
-  unfolding put_own
-  put_none h = rw (← e) (sym (set_out own sample found.row h))
-
 -- ---- the list
-
--- what stands past a list's end
-abbrev pub nobody : Found
-nobody = found_at 0 0
 
 module _ (sites owners : List ℕ) (same : length sites ≡ length owners) (list : List Found) (i : ℕ) where
   pub gather_next : i < length owners
@@ -46,18 +32,14 @@ found_count (row ∷ sites) (sample ∷ owners) e = ap suc (found_count sites ow
 
 -- ---- the list's sites stored, the last one first
 
-all_append : (xs ys : List Found) (own : List ℕ) → put_all (xs ++ ys) own ≡ put_all xs (put_all ys own)
-unfolding put_all
-all_append [] ys own = refl
-all_append (x ∷ xs) ys own = ap (put_own x) (all_append xs ys own)
+-- one more item in front of those that were yielded, in reverse
+reverse_more : {A B : Type 0} (v : A → B) (xs : List A) (x : A) → reverse (map v (xs ++ (x ∷ []))) ≡ v x ∷ reverse (map v xs)
+reverse_more v xs x = ap reverse (map-append v xs (x ∷ [])) ∙ reverse-append (map v xs) (v x ∷ [])
 
-pub all_last : (list : List Found) (own : List ℕ) (i : ℕ) → 0 < i → i ≤ length list
-    → put_all (take (i - 1) list) (put_own (get_or list (i - 1) nobody) own) ≡ put_all (take i list) own
-unfolding put_all
-all_last list own i h l =
-    let j : i ≡ suc (i - 1) = omega arith in
-    let e : take i list ≡ take (i - 1) list ++ (get_or list (i - 1) nobody ∷ []) = ap (λ (k : ℕ). take k list) j ∙ take-suc list (i - 1) nobody (omega arith) in
-    rw e (sym (all_append (take (i - 1) list) (get_or list (i - 1) nobody ∷ []) own))
+pub store_more : (own₀ : List ℕ) {own own' : List ℕ} {sample : ℕ} (xs : List (Bor Found)) (x : Bor Found) → own ≡ put_all (reverse (map (λ f. f.now) xs)) own₀
+    → sample ≡ x.now.sample.0 → own' ≡ set own sample x.now.row → own' ≡ put_all (reverse (map (λ f. f.now) (xs ++ (x ∷ [])))) own₀
+unfolding put_all put_own
+store_more own₀ xs x e s h = rw (h, s, e) (sym (ap (λ l. put_all l own₀) (reverse_more (λ (f : Bor Found). f.now) xs x)))
 
 -- those that were stored at the list's beginning
 pub take_gathered : (list found : List Found) → length found ≤ length list → take (length found) (sets list 0 found) ≡ found

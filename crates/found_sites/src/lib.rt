@@ -3,7 +3,7 @@
 
 ghost use Rattle.std.specs.Prelude.{◌≡◌, ◌<◌, ◌≤◌, get_or, length};
 ghost use Rattle.std.proofs.lemmas.List.Edits.{sets};
-ghost use Rattle.found_sites.specs.Own.{found_at, found_list, own_rows, put_all, put_own};
+ghost use Rattle.found_sites.specs.Own.{found_at, found_list, own_rows, put_all};
 
 use bio_ids::SampleIndex;
 
@@ -34,30 +34,14 @@ fn gather(list: &mut [Found], sites: &[usize], owners: &[usize])
     }
 }
 
-// Stores the row of a found site as its sample's entry, if the sample has one.
-fn put_own(own: &mut [usize], found: Found)
-    ensures { own.new ≡ put_own found own.old }
-{
-    slices::store(own, found.sample.get(), found.row);
-}
-
-// The same for each of a list, from the last to the first, so that a sample's first one is left.
+// Stores the row of each found site of a list as its sample's entry, if the sample has one, from the last site to the first, so that a
+// sample's first one is left.
 fn spread(list: &[Found], own: &mut [usize])
     ensures { own.new ≡ put_all list.now own.old }
 {
     for found in list.iter().rev() {
-        put_own(own, *found);
+        slices::store(own, found.sample.get(), found.row);
     }
-}
-
-// Makes the list of 64, each `blank` at first, has at most 64 sites gathered in it, and their rows spread from it.
-fn list_sites(sites: &[usize], owners: &[usize], blank: Found, own: &mut [usize])
-    requires { (length owners.now ≤ 64) × (length sites.now ≡ length owners.now) }
-    ensures { own.new ≡ put_all (found_list sites.now owners.now) own.old }
-{
-    let mut list = [blank; 64];
-    gather(&mut list, sites, owners);
-    spread(&list[..owners.len()], own);
 }
 
 // The row of each sample's own site: of at most 64 sites the first that is the sample's. The entry of a sample that has none is left
@@ -70,5 +54,7 @@ pub fn own_sites(sites: &[usize], owners: &[usize], own: &mut [usize])
         sample: SampleIndex::new(0),
         row: 0,
     };
-    list_sites(sites, owners, blank, own);
+    let mut list = [blank; 64];
+    gather(&mut list, sites, owners);
+    spread(&list[..owners.len()], own);
 }

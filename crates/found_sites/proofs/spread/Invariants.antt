@@ -1,10 +1,7 @@
--- Storing what is left of the list gives what storing all of it was to give.
-use Rattle.std.proofs.Common.{◌≡◌, ◌≤◌, length, take}
+-- What is stored so far: the sites that were yielded, the last of them first.
+use Rattle.std.proofs.Common.{◌≡◌, map, reverse}
 use Rattle.found_sites.specs.Own.{put_all}
 use Rattle.found_sites.proofs.spread.Given as goal
 
-abbrev pub invariant-loop-i : goal.invariant-loop-i
-invariant-loop-i l = (put_all (take l.i l.list) l.own ≡ put_all (take l.count l.list) l.initial.own) × (l.i ≤ length l.list)
-
-abbrev pub decreases-loop-i : goal.decreases-loop-i
-decreases-loop-i l = l.i
+abbrev pub invariant-loop-found : goal.invariant-loop-found
+invariant-loop-found l = l.own ≡ put_all (reverse (map (λ f. f.now) l.yielded)) l.initial.own
