@@ -7,9 +7,8 @@ use mathlib.Core.Path.{◌∙◌, ◌≡◌, ap, refl, sym}
 use native.Mathlib.Decide.{dec_le}
 use native.Mathlib.Nat.{zero-add}
 use native.Mathlib.Omega.{arith}
-use Rattle.answers.specs.Answered.{Answered}
-use Rattle.answers.specs.declared.Outcome.{Outcome}
-use Rattle.answers.specs.declared.Outcome.TheVariants as outcome
+use Rattle.answers.specs.Answered.{Answered, row_of}
+use Rattle.answers.specs.declared.Refusal.{Refusal}
 use Rattle.definitions.specs.Answers.{output_after, printed_answer, printed_looks, written_of}
 use Rattle.definitions.specs.Bytes.{text}
 use Rattle.definitions.specs.Checked.{Checked, accepted, refused}
@@ -20,6 +19,7 @@ use Rattle.kv_write.specs.Keyed.{keyed}
 use Rattle.kv_write.proofs.Lines.{line_keyed}
 use Rattle.kv_write.specs.Laid.{Laid}
 use Rattle.laws.proofs.Checked.{accepted_same}
+use Rattle.std.specs.Prelude.{Err, Ok, Result}
 use Rattle.files.proofs.LaidDigits.{length_most}
 use Rattle.files.specs.Printing.{Printed, written_values}
 
@@ -75,14 +75,16 @@ refusal_same n = refl
 -- ---- an answer
 
 -- what a call wrote are the values that it promised
-pub values_written : (values : Checked (List ℕ)) {out out' : List ℕ} (o : Outcome) → Answered values out out' o → written_values o out' ≡ values
+pub values_written : (values : Checked (List ℕ)) {out out' : List ℕ} (r : Result ℕ Refusal) → Answered values out out' r
+    → written_values r out' ≡ values
 unfolding written_of output_after
-values_written (refused n) (outcome.Written count) a = let e : ◌≡◌ {A = Checked ℕ} (accepted count) (refused n) = a.answer in cc
-values_written (refused n) (outcome.Refused row) a = let e : ◌≡◌ {A = Checked ℕ} (refused row) (refused n) = a.answer in cc
-values_written (accepted list) (outcome.Written count) a =
+values_written (refused n) (Ok count) a = let e : ◌≡◌ {A = Checked ℕ} (accepted count) (refused n) = a.answer in cc
+values_written (refused n) (Err refusal) a = let e : ◌≡◌ {A = Checked ℕ} (refused (row_of refusal)) (refused n) = a.answer in cc
+values_written (accepted list) (Ok count) a =
     let e : count ≡ length list = accepted_same a.answer in
     ap accepted (rw a.output (take_at list _ count (sym e)))
-values_written (accepted list) (outcome.Refused row) a = let e : ◌≡◌ {A = Checked ℕ} (refused row) (accepted (length list)) = a.answer in cc
+values_written (accepted list) (Err refusal) a =
+    let e : ◌≡◌ {A = Checked ℕ} (refused (row_of refusal)) (accepted (length list)) = a.answer in cc
 
 -- behind what is printed the output is as it was
 same_behind : (values : Checked (List ℕ)) (out : List ℕ) {out' : List ℕ} {r : ℕ} → out' ≡ output_after values out → r ≡ length (printed_answer values)
@@ -92,7 +94,7 @@ same_behind (refused n) out {r = r} e count = ap (drop r) e
 same_behind (accepted list) out {r = r} e count = rw e (drop_at list _ r (sym count) ∙ rw count)
 
 -- so printing what it wrote prints them
-pub answered_printed : (values : Checked (List ℕ)) {out out' out'' : List ℕ} (o : Outcome) {r : ℕ} → Answered values out out' o
+pub answered_printed : (values : Checked (List ℕ)) {out out' out'' : List ℕ} (o : Result ℕ Refusal) {r : ℕ} → Answered values out out' o
     → Printed (printed_answer (written_values o out')) out' out'' r → Printed (printed_answer values) out out'' r
 answered_printed values {out} o a p =
     let q = rw (values_written values o a) at p in

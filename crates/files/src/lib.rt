@@ -170,20 +170,13 @@ pub fn put_figure(out: &mut [u8], figure: usize) -> usize
     put_number_line(out, b"looks=", figure)
 }
 
-// So many bytes, or all that the buffer has.
-fn count_within(buffer: &[u8], count: usize) -> usize
-    ensures { result ≡ length (take count buffer.now) }
-{
-    count.min(buffer.len())
-}
-
 // Makes what a program prints, in the buffer that a call wrote its list to: the list, or the refusal over its start. The answer is how many
 // bytes that is.
 pub fn put_answer(outcome: Result<usize, Refusal>, list: &mut [u8; 65536]) -> usize
     ensures { Printed (printed_answer (written_values outcome list.old)) list.old list.new result }
 {
     match outcome {
-        Ok(count) => count_within(list, count),
+        Ok(count) => count.min(list.len()),
         Err(refusal) => put_refusal(list, refusal.row()),
     }
 }

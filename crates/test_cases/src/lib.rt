@@ -146,7 +146,7 @@ pub fn set_bytes(out: &mut [u8]) {
 }
 
 // Prints a line if the output behind so many values is not all as it was set.
-pub fn print_if_changed<T: PartialEq>(rt: &impl Print, out: &[T], count: usize, set: T) {
+pub fn print_if_changed<T: Copy + PartialEq>(rt: &impl Print, out: &[T], count: usize, set: T) {
     if out.iter().skip(count).any(|value| *value != set) {
         print(rt, b"the output has changed behind the list\n");
     }

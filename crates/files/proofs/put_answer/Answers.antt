@@ -2,12 +2,13 @@
 use native.Mathlib.Omega.{arith}
 use Rattle.definitions.specs.Answers.{printed_answer}
 use Rattle.files.proofs.Printing.{front_printed, laid_printed, refusal_short}
+use Rattle.std.proofs.lemmas.List.{length-take}
 use Rattle.files.proofs.put_answer.Goals as goal
 
-pub returns-in-Written : goal.returns-in-Written
+pub returns-in-Ok : goal.returns-in-Ok
 unfolding printed_answer
-returns-in-Written c = rw c.in-Written.is (front_printed c.args.list.now c.in-Written.count c.count_within.ensures)
+returns-in-Ok c = let count = c.in-Ok.count in let list = c.args.list.now in
+    rw c.in-Ok.is (front_printed list count (rw length-take (omega arith)))
 
-pub returns-in-Refused : goal.returns-in-Refused
-returns-in-Refused c =
-    rw c.in-Refused.is (laid_printed (omega (arith, refusal_short c.in-Refused.number (omega arith))) c.put_refusal.ensures)
+pub returns-in-Err : goal.returns-in-Err
+returns-in-Err c = rw (c.in-Err.is, ← c.row.ensures) (laid_printed (omega (arith, refusal_short c.row.result (omega arith))) c.put_refusal.ensures)
