@@ -7,10 +7,8 @@ use Rattle.definitions.specs.Lines.{line}
 use Rattle.definitions.specs.Lists.{only_if}
 use Rattle.definitions.specs.LookUp.{no_record}
 use Rattle.definitions.specs.Numbers.{decimal, written_or_missing}
-use Rattle.files.specs.FileTexts.{ReadWhole, read_text}
+use Rattle.files.specs.FileTexts.{ReadAnswer, ReadWhole, read_text}
 use Rattle.files.specs.Printing.{Printed}
-use Rattle.files.specs.declared.ReadError.{ReadError}
-use Rattle.std.specs.Prelude as std
 
 -- the record that a number of the output stands for
 unfoldable pub record_option : ℕ → Option ℕ
@@ -32,7 +30,7 @@ found_lines numbers groups = answer_lines numbers ++ line "groups" (decimal grou
 -- of `look_up_program`.
 abbrev pub LookUpWhole : Type 0
 LookUpWhole =
-    (combined places : Option (List ℕ)) (first second : std.Result (std.Option ℕ) ReadError) (s t list list' : List ℕ) (n : ℕ)
+    (combined places : Option (List ℕ)) (first second : ReadAnswer) (s t list list' : List ℕ) (n : ℕ)
     → ReadWhole combined first s → ReadWhole places second t
     → Printed (printed_looked_up (look_up_files (read_text first s) (read_text second t))) list list' n
     → take n list' ≡ look_up_program combined places

@@ -16,7 +16,7 @@ ghost use Rattle.kv_write.specs.Laid.{Laid};
 ghost use Rattle.list_programs.specs.FoundLines.{answer_lines, found_lines, most_bytes, record_option};
 
 use answers::Refusal;
-use files::{ReadError, is_failed, is_too_long, read_file, text};
+use files::{FileRead, is_failed, is_too_long, read_file, text};
 use std::rt::Files;
 
 // The number of a record, missing for 4294967295.
@@ -54,14 +54,14 @@ fn put_found(numbers: &[u32], groups: u32, list: &mut [u8; 65536]) -> usize
 fn put_row(refusal: Refusal, list: &mut [u8; 65536]) -> usize
     ensures { Printed (printed_looked_up (refused (row_of refusal))) list.old list.new result }
 {
-    files::put_refusal(list, refusal)
+    files::put_refusal(list, refusal.row())
 }
 
 // What `look_up` prints for the files that were read, made in the list's buffer. The answer is how many bytes it has.
 pub fn look_up_program(
-    of_combined: Result<Option<usize>, ReadError>,
+    of_combined: FileRead,
     combined: &[u8],
-    of_places: Result<Option<usize>, ReadError>,
+    of_places: FileRead,
     places: &[u8],
     list: &mut [u8; 65536],
 ) -> usize

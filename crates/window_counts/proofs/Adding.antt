@@ -1,7 +1,7 @@
 -- Adding a stretch to the counts of windows, window by window: what is passed over, one step, and where it may stop.
 use Prim.Native.Nat.{◌*◌, ◌+◌, ◌-◌, ◌/◌, ◌<◌, ◌≤◌, suc, zero, ℕ}
-use borrow.Author.Tests.{leb-true, ltb-false}
-use lib.Dec.{leb, ltb}
+use borrow.Author.Tests.{ltb-false}
+use lib.Dec.{ltb}
 use lib.ListN.{drop, drop_of_length-le, get_or, length, length-drop, length-set, set, take, take-append-drop}
 use lib.Seq.{drop-cons, drop-set-lt, get_or-append-add, get_or_at, length-take-le, take_all, take-suc-set}
 use mathlib.Core.Bool.{Bool, cond, false, true}
@@ -11,7 +11,7 @@ use native.Mathlib.Nat.{add-zero, div-mul-le_self, suc-mul}
 use native.Mathlib.Omega.{arith}
 use Rattle.definitions.specs.DepthWindows.{overlap}
 use Rattle.definitions.specs.Limits.{max_window}
-use Rattle.window_counts.specs.Counts.{AddReady, CountsSmall, OverlapReady, OverlapsReady, SkipReady, added, position_limit, windows_before, with_stretch}
+use Rattle.window_counts.specs.Counts.{AddReady, CountsSmall, OverlapsReady, SkipReady, added, position_limit, windows_before, with_stretch}
 use Rattle.window_counts.specs.declared.Windows.{Windows}
 
 module _ (start end size step : ℕ) where
@@ -111,18 +111,6 @@ module _ (start end size step : ℕ) where
         let all = next_count l in
         let same : with_stretch start end size step begin₀ counts₀ ≡ with_stretch s e size step b counts₀ = rw (p, q, r) in
         omega (arith, m, all, ap (λ (xs : List ℕ). get_or xs k 0) same, f k)
-
--- ---- what the calls ask, where a window begins up to the stretch's end
-
-pub overlap_ready : {last last' size begin : ℕ} → leb begin last ≡ true → last ≡ last' → last' < position_limit → size ≤ max_window
-    → OverlapReady last size begin
-overlap_ready {last} {last'} {size} {begin} b e l s =
-    let below = leb-true begin last b in
-    record { last_small = omega arith; size_small = s; begin_small = omega arith }
-
-pub next_begin : (begin : ℕ) {last last' step : ℕ} → leb begin last ≡ true → last ≡ last' → last' < position_limit → step ≤ max_window
-    → begin + step < 18446744073709551616
-next_begin begin {last} {last'} {step} b e l s = omega (arith, leb-true begin last b)
 
 -- ---- the windows before the stretch
 

@@ -1,5 +1,5 @@
 -- The extent of a contig and the counts of its windows, record by record, are those of the definitions: `extent_along`, `windows_along_lem`.
-use Prim.Native.Nat.{◌*◌, ◌+◌, ◌-◌, ◌/◌, ◌<◌, ◌≤◌, max, suc, zero, ℕ}
+use Prim.Native.Nat.{◌*◌, ◌+◌, ◌-◌, ◌/◌, ◌<◌, ◌≤◌, suc, zero, ℕ}
 use borrow.Author.Tests.{lt-ltb}
 use lib.Dec.{ltb}
 use lib.ListN.{get_or, length}
@@ -15,7 +15,7 @@ use Rattle.definitions.specs.Genotypes.{missing_data}
 use Rattle.definitions.specs.Lists.{any_of, filter_by, numbers_from}
 use Rattle.definitions.specs.Records.{Record, record_end}
 use Rattle.laws.proofs.DepthWindows.{Apart, deep_overlap, depth_by_overlap, first_position_lem}
-use Rattle.laws.proofs.Every.{Every, every_all, every_member, every_of_map, every_or, every_uncons, map_every, pairwise_head, pairwise_tail}
+use Rattle.laws.proofs.Every.{every_all, every_of_map, every_or, every_uncons, map_every, pairwise_head, pairwise_tail}
 use Rattle.laws.proofs.Members.{filter_few, length_numbers}
 use Rattle.window_counts.specs.Along.{Span, along, counts_with, span_with, wider, zeros}
 use Rattle.window_counts.specs.Counts.{CountsSmall, with_stretch}

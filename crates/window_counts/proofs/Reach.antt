@@ -1,7 +1,7 @@
 -- What the extent of a contig says of its windows, in a list that reads.
-use Prim.Native.Nat.{◌-◌, ◌/◌, ◌<◌, ◌≤◌, max, suc, ℕ}
-use lib.ListN.{get_or, length}
-use mathlib.Core.List.{List, [], ◌∷◌, foldr, map}
+use Prim.Native.Nat.{◌-◌, ◌/◌, ◌<◌, ◌≤◌, suc, ℕ}
+use lib.ListN.{length}
+use mathlib.Core.List.{List, [], ◌∷◌}
 use mathlib.Core.Option
 use mathlib.Core.Option.{Option, none, some}
 use mathlib.Core.Path.{◌∙◌, ◌≡◌, ap, refl, sym}

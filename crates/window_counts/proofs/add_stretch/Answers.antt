@@ -1,12 +1,5 @@
-use mathlib.Core.Path.{◌∙◌, refl}
+use mathlib.Core.Path.{refl}
 use Rattle.window_counts.proofs.Adding.{later_added, skip_ready, later_ready, none_added, skipping, skips_fit, starts_fit}
-use borrow.Author.Rules.{rules}
-use Rattle.window_counts.proofs.add_stretch.Reads as reads
-use Rattle.window_counts.proofs.add_stretch.Lts as lts
-use Rattle.bio_ids.proofs.GenomePosition.get.Reads as get-reads
-use Rattle.bio_ids.proofs.GenomePosition.new_1based.Reads as new-1based-reads
-use Rattle.window_counts.proofs.add_overlaps.Reads as add-overlaps-reads
-use Rattle.window_counts.proofs.windows_before.Reads as windows-before-reads
 use Rattle.window_counts.proofs.add_stretch.Goals as goal
 
 pub windows_before-skipped-requires : goal.windows_before-skipped-requires

@@ -2,10 +2,6 @@ use Prim.Native.Nat.{◌-◌}
 use native.Mathlib.Nat.{div-le_self}
 use native.Mathlib.Numerals.{add-one}
 use native.Mathlib.Omega.{arith}
-use borrow.Author.Rules.{rules}
-use Rattle.window_counts.proofs.window_count.Reads as reads
-use Rattle.window_counts.proofs.window_count.Lts as lts
-use Rattle.bio_ids.proofs.GenomePosition.get.Reads as get-reads
 use Rattle.window_counts.proofs.window_count.Goals as goal
 
 pub overflow_add-result : goal.overflow_add-result

@@ -4,10 +4,6 @@ use native.Mathlib.Nat.{div-le_self}
 use native.Mathlib.Numerals.{add-one}
 use native.Mathlib.Omega.{arith}
 use Rattle.window_counts.specs.Counts.{windows_before}
-use borrow.Author.Rules.{rules}
-use Rattle.window_counts.proofs.windows_before.Reads as reads
-use Rattle.window_counts.proofs.windows_before.Lts as lts
-use Rattle.bio_ids.proofs.GenomePosition.get.Reads as get-reads
 use Rattle.window_counts.proofs.windows_before.Goals as goal
 
 pub returns-then-pos-past : goal.returns-then-pos-past
