@@ -240,17 +240,7 @@ fn same_letter(a: u8, b: u8) -> bool
 pub fn same_letters(a: &[u8], b: &[u8]) -> bool
     ensures { result ≡ same_bytes (map capital a.now) (map capital b.now) }
 {
-    if b.len() != a.len() {
-        return false;
-    }
-    let mut i = 0;
-    while i < a.len() {
-        if !same_letter(a[i], b[i]) {
-            return false;
-        }
-        i += 1;
-    }
-    true
+    a.len() == b.len() && a.iter().zip(b).all(|(x, y)| same_letter(*x, *y))
 }
 
 // Whether a field is letters of ACGTN in either case, 1 to `most` of them.

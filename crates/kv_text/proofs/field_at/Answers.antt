@@ -5,12 +5,12 @@ use lib.ListN.{drop, get_or, length, length-drop, length-take, take}
 use mathlib.Core.List.{List, [], ◌∷◌}
 use mathlib.Core.Path.{◌∙◌, ◌≡◌, ap, refl}
 use native.Mathlib.Decide.{dec_lt}
-use native.Mathlib.Nat.{zero-add}
+use native.Mathlib.Nat.{sub-zero, zero-add}
 use native.Mathlib.Omega.{arith}
 use Rattle.definitions.specs.Bytes.{fields_of}
 use Rattle.kv_text.proofs.Fields.{field_first, field_forward, field_last, field_within}
 use Rattle.kv_text.specs.Fields.{FieldFound, between, field_length, field_start, separated_length}
-use Rattle.kv_text.specs.declared.FieldAt.TheVariants.{Absent, At}
+use Rattle.std.specs.Prelude as std
 use Rattle.kv_text.proofs.field_at.Invariants.{Turn}
 use Rattle.kv_text.proofs.field_at.Goals as goal
 
@@ -42,12 +42,12 @@ module _ (s : List ℕ) (separator n left at end : ℕ) (t : Turn s separator n 
             omega (arith, t.start, field-length, field_forward separator s at end t.ends);
       }
 
-  too_few : 0 < left → length s ≤ end → FieldFound s separator n Absent
+  too_few : 0 < left → length s ≤ end → FieldFound s separator n std.None
   unfolding FieldFound
   too_few some_left h = omega (arith, t.count, ap length (field_last separator s at end t.ends t.within h))
 
   -- the field is the first of those from `at` on
-  here : (fs : List (List ℕ)) → left ≤ 0 → fields_of separator (drop at s) ≡ between s at end ∷ fs → FieldFound s separator n (At at end)
+  here : (fs : List (List ℕ)) → left ≤ 0 → fields_of separator (drop at s) ≡ between s at end ∷ fs → FieldFound s separator n (std.Some (record { at = at; end = end }))
   unfolding FieldFound separated_length
   here fs none_left cut =
       let zero_left : left ≡ 0 = omega arith in
@@ -61,24 +61,23 @@ module _ (s : List ℕ) (separator n left at end : ℕ) (t : Turn s separator n 
         omega (arith, ap length is_field, field-length, field_forward separator s at end t.ends),
       )
 
-  found : left ≤ 0 → FieldFound s separator n (At at end)
+  found : left ≤ 0 → FieldFound s separator n (std.Some (record { at = at; end = end }))
   found none_left = go (dec_lt end (length s))
     where
-      go : Dec (end < length s) → FieldFound s separator n (At at end)
+      go : Dec (end < length s) → FieldFound s separator n (std.Some (record { at = at; end = end }))
       go (yes h) = here _ none_left (field_first separator s at end t.ends h)
       go (no h) = here _ none_left (field_last separator s at end t.ends t.within (omega arith))
 
-pub loop-left-init : goal.loop-left-init
-loop-left-init c = first _ _ _ _ c.field_end-end.ensures
+pub loop-init : goal.loop-init
+loop-init c = rw sub-zero (first _ _ _ _ c.field_end-end.ensures)
 
 pub returns-then-s-end : goal.returns-then-s-end
-returns-then-s-end c = too_few _ _ _ _ _ _ c.loop-left.invariant c.loop-left-test.true c.if-s-end.true
+returns-then-s-end c = too_few _ _ _ _ _ _ c.loop.invariant (omega arith) c.if-s-end.true
 
-pub loop-left-smaller : goal.loop-left-smaller
-loop-left-smaller c = omega arith
-
-pub loop-left-preserved : goal.loop-left-preserved
-loop-left-preserved c = next _ _ _ _ _ _ c.loop-left.invariant _ c.loop-left-test.true (omega arith) c.field_end-end-in-loop-left.ensures
+pub loop-preserved : goal.loop-preserved
+loop-preserved c =
+    let one-less : c.args.number - (c.loop.counter + 1) ≡ c.args.number - c.loop.counter - 1 = omega arith in
+    rw one-less (next _ _ _ _ _ _ c.loop.invariant _ (omega arith) (omega arith) c.field_end-end-in-loop.ensures)
 
 pub returns : goal.returns
-returns c = found _ _ _ _ _ _ c.loop-left.invariant c.loop-left-test.false
+returns c = found _ _ _ _ _ _ c.loop.invariant (omega arith)

@@ -1,4 +1,4 @@
--- The loop's invariant: the field that is looked for is the one with `left` before it of those from `at` on.
+-- The loop's invariant: the field that is looked for is the one with so many before it of those from `at` on as turns are left.
 use Prim.Native.Nat.{◌+◌, ◌-◌, ◌<◌, ◌≤◌, suc, ℕ}
 use borrow.Author.Rules.{rules}
 use lib.ListN.{drop, get_or, length, length-drop, length-take, take}
@@ -10,7 +10,7 @@ use native.Mathlib.Omega.{arith}
 use Rattle.definitions.specs.Bytes.{fields_of}
 use Rattle.kv_text.proofs.Fields.{field_first, field_forward, field_last, field_within}
 use Rattle.kv_text.specs.Fields.{FieldFound, between, field_length, field_start, separated_length}
-use Rattle.kv_text.specs.declared.FieldAt.TheVariants.{Absent, At}
+use Rattle.std.specs.Prelude as std
 use Rattle.kv_text.proofs.field_at.Given as goal
 
 pub record Turn (s : List ℕ) (separator n left at end : ℕ) : Type 0 where
@@ -20,8 +20,5 @@ pub record Turn (s : List ℕ) (separator n left at end : ℕ) : Type 0 where
   pub count : length (fields_of separator s) + left ≡ length (fields_of separator (drop at s)) + n
   pub start : field_start separator n s ≡ at + separated_length (take left (fields_of separator (drop at s)))
 
-abbrev pub invariant-loop-left : goal.invariant-loop-left
-invariant-loop-left l = Turn l.s l.separator l.number l.left l.at l.end
-
-abbrev pub decreases-loop-left : goal.decreases-loop-left
-decreases-loop-left l = l.left
+abbrev pub invariant-loop : goal.invariant-loop
+invariant-loop l = Turn l.s l.separator l.number (l.number - l.counter) l.at l.end

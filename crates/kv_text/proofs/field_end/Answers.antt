@@ -1,42 +1,45 @@
--- The loop's invariant: the field's end is that of what is left.
+-- `position` counts the bytes before the first separator.
 use Prim.Native.Nat.{◌+◌, ◌-◌, ◌<◌, ◌≤◌, ℕ}
 use borrow.Author.Rules.{rules}
-use lib.ListN.{drop, drop_of_length-le, get_or, length}
-use lib.Seq.{drop-cons}
+use borrow.Author.Tests.{tests}
+use lib.ListN.{drop, drop_of_length-le, length, length-drop}
+use lib.Seq.{take_all}
 use mathlib.Core.List.{List}
 use mathlib.Core.Logic.{◌≢◌}
-use mathlib.Core.Path.{◌≡◌, refl}
+use mathlib.Core.Path.{◌∙◌, ◌≡◌, refl, sym}
 use native.Mathlib.Numerals.{add-one}
 use native.Mathlib.Omega.{arith}
+use Rattle.std.proofs.lemmas.Iterator.{IsFirst-from_position, YieldsList-from_slice, index_from_first}
+use Rattle.std.specs.List.{AllWithin, HoldsAt}
+use Rattle.std.specs.Option.{MatchOption, unwrap_or}
+use Rattle.std.specs.Prelude.{Option, None, Some}
 use Rattle.kv_text.proofs.Fields.{field_more, field_none, field_stop}
 use Rattle.kv_text.specs.Fields.{field_length}
 use Rattle.kv_text.proofs.field_end.Goals as goal
 
-module _ (s : List ℕ) (at separator i : ℕ) (inv : at + field_length separator (drop at s) ≡ i + field_length separator (drop i s)) where
-  here : i < length s → get_or s i 0 ≡ separator → i ≡ at + field_length separator (drop at s)
-  here h e = rw (inv, drop-cons s i 0, field_stop separator _ _ e) (omega arith)
+counted : (separator : ℕ) (s : List ℕ) (r : Option ℕ)
+    → MatchOption r (AllWithin (λ b. b ≢ separator) s 0 (length s)) (λ i. (i < length s) × HoldsAt (λ b. b ≡ separator) s i × AllWithin (λ b. b ≢ separator) s 0 i)
+    → field_length separator s ≡ unwrap_or r (length s)
+counted separator = index_from_first (field_length separator) (λ b. b ≡ separator) (λ b. b ≢ separator) (field_none separator)
+    (λ b s e. field_stop separator b s e) (λ b s n. field_more separator b s n ∙ sym (add-one _))
 
-  further : i < length s → get_or s i 0 ≢ separator
-      → at + field_length separator (drop at s) ≡ i + 1 + field_length separator (drop (i + 1) s)
-  further h n = rw (inv, drop-cons s i 0, field_more separator _ _ n, add-one) (omega arith)
+pub returns-then-s-at : goal.returns-then-s-at
+returns-then-s-at c = rw (drop_of_length-le c.args.s.now c.if-s-at.true, field_none) (omega arith)
 
-  at_end : length s ≤ i → i ≡ at + field_length separator (drop at s)
-  at_end h = rw (inv, drop_of_length-le s h, field_none) (omega arith)
+pub returns-in-Some : goal.returns-in-Some
+returns-in-Some c =
+    let rest = drop c.args.at c.args.s.now in
+    let whole = c.iter.ensures.rest ∙ take_all (length c.args.s.now - c.args.at) rest (omega (arith, length-drop c.args.at c.args.s.now)) in
+    let first =
+    IsFirst-from_position _ _ _ (λ b. b ≡ c.args.separator) (λ b. b ≢ c.args.separator) c.position.ensures.ran
+    (YieldsList-from_slice rest whole) (λ x q k. search (rules, tests)) (λ x q k. search (rules, tests)) in
+    rw (counted c.args.separator (drop c.args.at c.args.s.now) c.position.result first, c.in-Some.is)
 
-pub loop-i-init : goal.loop-i-init
-loop-i-init c = refl
-
-pub returns-then-s-i : goal.returns-then-s-i
-returns-then-s-i c = here _ _ _ _ c.loop-i.invariant (omega arith) c.if-s-i.true
-
-pub overflow_add-i : goal.overflow_add-i
-overflow_add-i c = omega arith
-
-pub loop-i-smaller : goal.loop-i-smaller
-loop-i-smaller c = omega arith
-
-pub loop-i-preserved : goal.loop-i-preserved
-loop-i-preserved c = further _ _ _ _ c.loop-i.invariant (omega arith) c.if-s-i.false
-
-pub returns : goal.returns
-returns c = at_end _ _ _ c.loop-i.i c.loop-i.invariant (omega arith)
+pub returns-in-None : goal.returns-in-None
+returns-in-None c =
+    let rest = drop c.args.at c.args.s.now in
+    let whole = c.iter.ensures.rest ∙ take_all (length c.args.s.now - c.args.at) rest (omega (arith, length-drop c.args.at c.args.s.now)) in
+    let first =
+    IsFirst-from_position _ _ _ (λ b. b ≡ c.args.separator) (λ b. b ≢ c.args.separator) c.position.ensures.ran
+    (YieldsList-from_slice rest whole) (λ x q k. search (rules, tests)) (λ x q k. search (rules, tests)) in
+    rw (counted c.args.separator (drop c.args.at c.args.s.now) c.position.result first, c.in-None.is) (omega (arith, length-drop c.args.at c.args.s.now))

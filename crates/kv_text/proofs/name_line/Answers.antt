@@ -17,22 +17,14 @@ is-name-itself : (s : List ℕ) → is_there (name s) ≡ true → name s ≡ so
 unfolding name
 is-name-itself s h = only_if_there _ s h
 
-pub returns-in_default : goal.returns-in_default
-returns-in_default c = (read_absent _ _ _ name (rw c.in_default.is at c.value_line-v.ensures).0, tt)
+pub returns-in_err-value : goal.returns-in_err-value
+returns-in_err-value c = rw c.from_residual.ensures (read_absent _ _ _ name c.in_err-value.ensures.0, tt)
 
-pub slice_bounds-is_name-count : goal.slice_bounds-is_name-count
-slice_bounds-is_name-count c = let l = rw c.in-At.is at c.value_line-v.ensures in omega (arith, l.1)
-
-pub slice_bounds-is_name-start : goal.slice_bounds-is_name-start
-slice_bounds-is_name-start c = let l = rw c.in-At.is at c.value_line-v.ensures in let h = l.1 in search rules
-
-pub slice_bounds-is_name-end : goal.slice_bounds-is_name-end
-slice_bounds-is_name-end c = let l = rw c.in-At.is at c.value_line-v.ensures in let h = line_within _ _ _ some _ _ l.0 in search rules
-
-pub returns-then-is_name : goal.returns-then-is_name
-returns-then-is_name c = let l = rw c.in-At.is at c.value_line-v.ensures in
-    (read_right _ _ _ name _ _ _ l.0 (is-name-itself _ (sym c.is_name.ensures ∙ c.if-is_name.true)), l.1)
+pub returns-then-not-is_name : goal.returns-then-not-is_name
+returns-then-not-is_name c = (read_wrong _ _ _ name _ _ c.in_ok-value.ensures.0 (not_there _ (sym c.is_name.ensures ∙ c.if-not-is_name.true)), tt)
 
 pub returns : goal.returns
-returns c = let l = rw c.in-At.is at c.value_line-v.ensures in
-    (read_wrong _ _ _ name _ _ l.0 (not_there _ (sym c.is_name.ensures ∙ c.if-is_name.false)), tt)
+returns c = (read_right _ _ _ name _ _ _ c.in_ok-value.ensures.0 (is-name-itself _ (sym c.is_name.ensures ∙ c.if-not-is_name.false)), c.in_ok-value.ensures.1)
+
+pub slice_bounds-is_name-end : goal.slice_bounds-is_name-end
+slice_bounds-is_name-end c = let h = line_within _ _ _ some _ _ c.in_ok-value.ensures.0 in search rules

@@ -1,48 +1,35 @@
 -- The value of the line: `.`, or a number.
 use borrow.Author.Rules.{rules}
 use mathlib.Core.Option.{some}
-use mathlib.Core.Path.{◌∙◌, ap, sym}
-use native.Mathlib.Omega.{arith}
+use mathlib.Core.Path.{◌∙◌, sym}
 use Rattle.definitions.specs.Bytes.{text}
 use Rattle.definitions.specs.Numbers.{number, or_missing}
 use Rattle.kv_text.proofs.Lines.{line_within, missing_dot, missing_none, missing_some, read_absent, read_right, read_wrong}
-use Rattle.kv_text.specs.Fields.{number_read}
 use Rattle.kv_text.proofs.optional_number_line.Goals as goal
 
-pub returns-in_default : goal.returns-in_default
-returns-in_default c = read_absent _ _ _ (or_missing number) (rw c.in_default.is at c.value_line-v.ensures).0
-
-pub slice_bounds-same_bytes-count : goal.slice_bounds-same_bytes-count
-slice_bounds-same_bytes-count c = let l = rw c.in-At.is at c.value_line-v.ensures in omega (arith, l.1)
-
-pub slice_bounds-same_bytes-start : goal.slice_bounds-same_bytes-start
-slice_bounds-same_bytes-start c = let l = rw c.in-At.is at c.value_line-v.ensures in let h = l.1 in search rules
+pub returns-in_err-value : goal.returns-in_err-value
+returns-in_err-value c = rw c.from_residual.ensures (read_absent _ _ _ (or_missing number) c.in_err-value.ensures.0)
 
 pub slice_bounds-same_bytes-end : goal.slice_bounds-same_bytes-end
-slice_bounds-same_bytes-end c = let l = rw c.in-At.is at c.value_line-v.ensures in let h = line_within _ _ _ some _ _ l.0 in search rules
+slice_bounds-same_bytes-end c = let h = line_within _ _ _ some _ _ c.in_ok-value.ensures.0 in search rules
 
 pub returns-then-same_bytes : goal.returns-then-same_bytes
 unfolding text
-returns-then-same_bytes c = let l = rw c.in-At.is at c.value_line-v.ensures in
-    read_right _ _ _ (or_missing number) _ _ _ l.0 (missing_dot number _ (sym c.same_bytes.ensures ∙ c.if-same_bytes.true))
-
-pub slice_bounds-read_number-count : goal.slice_bounds-read_number-count
-slice_bounds-read_number-count c = let l = rw c.in-At.is at c.value_line-v.ensures in omega (arith, l.1)
-
-pub slice_bounds-read_number-start : goal.slice_bounds-read_number-start
-slice_bounds-read_number-start c = let l = rw c.in-At.is at c.value_line-v.ensures in let h = l.1 in search rules
+returns-then-same_bytes c =
+    read_right _ _ _ (or_missing number) _ _ _ c.in_ok-value.ensures.0 (missing_dot number _ (sym c.same_bytes.ensures ∙ c.if-same_bytes.true))
 
 pub slice_bounds-read_number-end : goal.slice_bounds-read_number-end
-slice_bounds-read_number-end c = let l = rw c.in-At.is at c.value_line-v.ensures in let h = line_within _ _ _ some _ _ l.0 in search rules
+slice_bounds-read_number-end c = let h = line_within _ _ _ some _ _ c.in_ok-value.ensures.0 in search rules
 
-pub returns-in-Value : goal.returns-in-Value
+pub returns-in_err-n : goal.returns-in_err-n
 unfolding text
-returns-in-Value c = let l = rw c.in-At.is at c.value_line-v.ensures in
-    read_right _ _ _ (or_missing number) _ _ _ l.0
-    (missing_some number _ _ (sym c.same_bytes.ensures ∙ c.if-same_bytes.false) (sym c.read_number-n.ensures ∙ ap number_read c.in-Value.is))
+returns-in_err-n c =
+    rw c.from_residual-in_err-n.ensures
+    (read_wrong _ _ _ (or_missing number) _ _ c.in_ok-value.ensures.0
+     (missing_none number _ (sym c.same_bytes.ensures ∙ c.if-same_bytes.false) (sym c.in_err-n.ensures)))
 
-pub returns-in-Fault : goal.returns-in-Fault
+pub returns : goal.returns
 unfolding text
-returns-in-Fault c = let l = rw c.in-At.is at c.value_line-v.ensures in
-    read_wrong _ _ _ (or_missing number) _ _ l.0
-    (missing_none number _ (sym c.same_bytes.ensures ∙ c.if-same_bytes.false) (sym c.read_number-n.ensures ∙ ap number_read c.in-Fault.is))
+returns c =
+    read_right _ _ _ (or_missing number) _ _ _ c.in_ok-value.ensures.0
+    (missing_some number _ _ (sym c.same_bytes.ensures ∙ c.if-same_bytes.false) (sym c.in_ok-n.ensures))

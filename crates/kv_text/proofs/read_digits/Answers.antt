@@ -17,7 +17,7 @@ use Rattle.definitions.specs.Numbers.{is_digit, number}
 use Rattle.kv_text.proofs.Digits.{digit_is, number_digit, number_leading_zero, number_none, number_other, number_zero, rest_digit, rest_none, rest_other, rest_too_great, rest_from}
 use Rattle.kv_text.proofs.Fields.{field_more, field_none, field_stop, first_more, first_none, first_stop}
 use Rattle.kv_text.specs.Fields.{digits_read, field_length, first_field}
-use Rattle.kv_text.specs.declared.DigitsAt.TheVariants.{Fault, Found}
+use Rattle.std.specs.Prelude as std
 use Rattle.kv_text.proofs.read_digits.Invariants.{Reading}
 use Rattle.kv_text.proofs.read_digits.Goals as goal
 
@@ -37,12 +37,12 @@ zero-leads [] h = absurd (h refl)
 zero-leads (c ∷ f) h = number_leading_zero c f
 
 module _ (s : List ℕ) (at : ℕ) where
-  empty : length s ≤ at → digits_read Fault s at
+  empty : length s ≤ at → digits_read std.None s at
   unfolding digits_read comma
   empty h = rw (drop_of_length-le s h, first_none 44) number_none
 
   module _ (h : at < length s) where
-    no_digit : is_digit (get_or s at 0) ≡ false → digits_read Fault s at
+    no_digit : is_digit (get_or s at 0) ≡ false → digits_read std.None s at
     unfolding digits_read comma
     no_digit d = rw (cut s at h) (go (ℕ_discrete (get_or s at 0) 44))
       where
@@ -54,11 +54,11 @@ module _ (s : List ℕ) (at : ℕ) where
       first-zero : first_field 44 (drop at s) ≡ 48 ∷ first_field 44 (drop (at + 1) s)
       first-zero = rw (cut s at h, z) (first_more 44 48 (drop (at + 1) s) (λ e. omega arith))
 
-      zero-stands : field_length 44 (drop (at + 1) s) ≡ 0 → digits_read (Found 0 (at + 1)) s at
+      zero-stands : field_length 44 (drop (at + 1) s) ≡ 0 → digits_read (std.Some (0, at + 1)) s at
       unfolding digits_read comma field_length
       zero-stands e = (rw first-zero (zero-alone _ e), rw first-zero (omega (arith, e)))
 
-      zero-before : field_length 44 (drop (at + 1) s) ≢ 0 → digits_read Fault s at
+      zero-before : field_length 44 (drop (at + 1) s) ≢ 0 → digits_read std.None s at
       unfolding digits_read comma field_length
       zero-before n = rw first-zero (zero-leads _ n)
 
@@ -73,7 +73,7 @@ module _ (s : List ℕ) (at : ℕ) where
 
 -- a turn, and the end
 module _ (s : List ℕ) (at i n : ℕ) (r : Reading s at i n) where
-  at_end : length s ≤ i → digits_read (Found n i) s at
+  at_end : length s ≤ i → digits_read (std.Some (n, i)) s at
   unfolding digits_read comma
   at_end h = (
     rw (r.value, drop_of_length-le s h, first_none 44) (rest_none n r.small),
@@ -81,19 +81,19 @@ module _ (s : List ℕ) (at i n : ℕ) (r : Reading s at i n) where
   )
 
   module _ (h : i < length s) where
-    at-comma : get_or s i 0 ≡ 44 → digits_read (Found n i) s at
+    at-comma : get_or s i 0 ≡ 44 → digits_read (std.Some (n, i)) s at
     unfolding digits_read comma
     at-comma e = (
       rw (r.value, cut s i h, first_stop 44 _ (drop (i + 1) s) e) (rest_none n r.small),
       rw (r.ends, cut s i h, field_stop 44 _ (drop (i + 1) s) e) (omega arith),
     )
 
-    at_other : is_digit (get_or s i 0) ≡ false → get_or s i 0 ≢ 44 → digits_read Fault s at
+    at_other : is_digit (get_or s i 0) ≡ false → get_or s i 0 ≢ 44 → digits_read std.None s at
     unfolding digits_read comma
     at_other d m = rw (r.value, cut s i h, first_more 44 _ (drop (i + 1) s) m) (rest_other n _ _ d)
 
     module _ (d : is_digit (get_or s i 0) ≡ true) where
-      too-great : 2147483647 < n * 10 + (get_or s i 0 - 48) → digits_read Fault s at
+      too-great : 2147483647 < n * 10 + (get_or s i 0 - 48) → digits_read std.None s at
       unfolding digits_read comma
       too-great g = rw (r.value, cut s i h, first_more 44 _ (drop (i + 1) s) (no_comma _ d)) (rest_too_great n _ _ g)
 
@@ -147,12 +147,6 @@ overflow_add-v c = omega (arith, c.loop-i.invariant.small, c.wide.ensures, (digi
 pub returns-then-v-gt2147483647 : goal.returns-then-v-gt2147483647
 returns-then-v-gt2147483647 c = too-great _ _ _ _ c.loop-i.invariant (omega arith) (sym c.is_digit-in-loop-i.ensures ∙ c.if-not-is_digit-2.false) (omega (arith, c.wide.ensures))
 
-pub overflow_add-i-in-loop-i : goal.overflow_add-i-in-loop-i
-overflow_add-i-in-loop-i c = omega arith
-
-pub loop-i-smaller : goal.loop-i-smaller
-loop-i-smaller c = omega arith
-
 pub loop-i-preserved : goal.loop-i-preserved
 loop-i-preserved c = rw c.wide.ensures
     (next _ _ _ _ c.loop-i.invariant (omega arith) (sym c.is_digit-in-loop-i.ensures ∙ c.if-not-is_digit-2.false) (omega (arith, c.wide.ensures)))
@@ -161,4 +155,6 @@ pub overflow_cast-result-2 : goal.overflow_cast-result-2
 overflow_cast-result-2 c = omega (arith, c.loop-i.invariant.small)
 
 pub returns : goal.returns
-returns c = at_end _ _ _ _ c.loop-i.invariant (omega arith)
+returns c =
+    let end : c.loop-i.i ≡ length c.args.s.now = omega arith in
+    at_end _ _ _ _ (rw end at c.loop-i.invariant) (omega arith)

@@ -48,11 +48,11 @@ module _ (s : List ℕ) where
     unfolding digits_read comma
     whole h = rw (first_whole 44 s (omega (arith, r.1))) at (sym r.0)
 
-pub returns-in_err-digits : goal.returns-in_err-digits
-returns-in_err-digits c = ?
+pub returns-in_err-n : goal.returns-in_err-n
+returns-in_err-n c = rw c.from_residual.ensures (fault _ c.in_err-n.ensures)
 
 pub returns-then-end-s : goal.returns-then-end-s
-returns-then-end-s c = ?
+returns-then-end-s c = inside _ _ _ c.in_ok-n.ensures c.if-end-s.true
 
 pub returns : goal.returns
-returns c = ?
+returns c = whole _ _ _ c.in_ok-n.ensures c.if-end-s.false

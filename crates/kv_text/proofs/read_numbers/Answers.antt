@@ -13,8 +13,7 @@ use Rattle.definitions.specs.Numbers.{number, number_list}
 use Rattle.kv_text.proofs.Fields.{field_first, field_forward, field_last, first_between, first_of}
 use Rattle.kv_text.proofs.Numbers.{all_fault, all_later_fault, all_number, all_nothing, all_numbers, first_fault, first_number}
 use Rattle.kv_text.specs.Fields.{between, digits_read, field_length, first_numbers, numbers_read}
-use Rattle.kv_text.specs.declared.DigitsAt.TheVariants as digits
-use Rattle.kv_text.specs.declared.NumbersRead.TheVariants.{Count, Fault}
+use Rattle.std.specs.Prelude as std
 use Rattle.kv_text.proofs.read_numbers.Invariants.{Turn, from}
 use Rattle.kv_text.proofs.read_numbers.Goals as goal
 
@@ -30,14 +29,14 @@ start s out = record {
 }
 
 module _ (s out₀ out : List ℕ) (at count : ℕ) (t : Turn s out₀ out at count) where
-  fault : digits_read digits.Fault s at → numbers_read Fault s × (out ≡ sets out₀ 0 (first_numbers (fields_of comma s)))
+  fault : digits_read std.None s at → numbers_read std.None s × (out ≡ sets out₀ 0 (first_numbers (fields_of comma s)))
   unfolding digits_read numbers_read number_list comma
   fault h =
       let (fs, e) = first_of 44 (drop at s) in
       let none_first : first_numbers (from s at) ≡ [] = rw e (first_fault _ fs h) in
       (t.faulty (rw e (all_fault _ fs h)), ap (sets out count) (sym none_first) ∙ t.same)
 
-  module _ (v end : ℕ) (r : digits_read (digits.Found v end) s at) where
+  module _ (v end : ℕ) (r : digits_read (std.Some (v, end)) s at) where
     ends : end ≡ at + field_length 44 (drop at s)
     unfolding digits_read comma
     ends = r.1
@@ -65,33 +64,27 @@ module _ (s out₀ out : List ℕ) (at count : ℕ) (t : Turn s out₀ out at co
         }
 
     last : (out' : List ℕ) → length s ≤ end → out' ≡ set out count v
-        → numbers_read (Count (count + 1)) s × (out' ≡ sets out₀ 0 (first_numbers (fields_of comma s)))
+        → numbers_read (std.Some (count + 1)) s × (out' ≡ sets out₀ 0 (first_numbers (fields_of comma s)))
     unfolding numbers_read number_list comma first_numbers
     last out' past e =
         let c = field_last 44 s at end ends t.within past in
         let first : first_numbers (from s at) ≡ v ∷ [] = rw c (first_number _ [] spelled) in
         ((t.reads (rw c (all_number _ [] spelled all_nothing)), omega (arith, t.place, ap length first)), e ∙ ap (sets out count) (sym first) ∙ t.same)
 
-pub loop-v-init : goal.loop-v-init
-loop-v-init c = start _ _
+pub loop-n-init : goal.loop-n-init
+loop-n-init c = start _ _
 
-pub shape_of-out-in_default : goal.shape_of-out-in_default
-shape_of-out-in_default c = c.loop-v.invariant.long
-
-pub returns-in_default : goal.returns-in_default
-returns-in_default c = fault _ _ _ _ _ c.loop-v.invariant (rw c.in_default.is at c.read_digits-digits.ensures)
+pub returns-in_err-n : goal.returns-in_err-n
+returns-in_err-n c = rw c.from_residual.ensures (fault _ _ _ _ _ c.loop-n.invariant c.in_err-n.ensures)
 
 pub overflow_add-count : goal.overflow_add-count
-overflow_add-count c = omega (arith, c.loop-v.invariant.few, c.loop-v.invariant.within)
-
-pub shape_of-out-then-s-end : goal.shape_of-out-then-s-end
-shape_of-out-then-s-end c = c.store.auto.out ∙ c.loop-v.invariant.long
+overflow_add-count c = omega (arith, c.loop-n.invariant.few, c.loop-n.invariant.within)
 
 pub returns-then-s-end : goal.returns-then-s-end
-returns-then-s-end c = last _ _ _ _ _ c.loop-v.invariant _ _ (rw c.in-Found.is at c.read_digits-digits.ensures) _ c.if-s-end.true c.store.ensures
+returns-then-s-end c = last _ _ _ _ _ c.loop-n.invariant _ _ c.in_ok-n.ensures _ c.if-s-end.true c.store.ensures
 
-pub loop-v-smaller : goal.loop-v-smaller
-loop-v-smaller c = less _ _ _ _ _ c.loop-v.invariant _ _ (rw c.in-Found.is at c.read_digits-digits.ensures) (omega arith)
+pub loop-n-smaller : goal.loop-n-smaller
+loop-n-smaller c = less _ _ _ _ _ c.loop-n.invariant _ _ c.in_ok-n.ensures (omega arith)
 
-pub loop-v-preserved : goal.loop-v-preserved
-loop-v-preserved c = next _ _ _ _ _ c.loop-v.invariant _ _ (rw c.in-Found.is at c.read_digits-digits.ensures) _ (omega arith) c.store.ensures c.store.auto.out
+pub loop-n-preserved : goal.loop-n-preserved
+loop-n-preserved c = next _ _ _ _ _ c.loop-n.invariant _ _ c.in_ok-n.ensures _ (omega arith) c.store.ensures c.store.auto.out

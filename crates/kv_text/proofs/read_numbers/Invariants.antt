@@ -13,8 +13,7 @@ use Rattle.definitions.specs.Numbers.{number, number_list}
 use Rattle.kv_text.proofs.Fields.{field_first, field_forward, field_last, first_between, first_of}
 use Rattle.kv_text.proofs.Numbers.{all_fault, all_later_fault, all_number, all_nothing, all_numbers, first_fault, first_number}
 use Rattle.kv_text.specs.Fields.{between, digits_read, field_length, first_numbers, numbers_read}
-use Rattle.kv_text.specs.declared.DigitsAt.TheVariants as digits
-use Rattle.kv_text.specs.declared.NumbersRead.TheVariants.{Count, Fault}
+use Rattle.std.specs.Prelude as std
 use Rattle.kv_text.proofs.read_numbers.Given as goal
 
 -- the fields from an offset on, and all of them
@@ -30,8 +29,8 @@ pub record Turn (s out₀ out : List ℕ) (at count : ℕ) : Type 0 where
   pub reads : all_numbers (from s at) ≡ some (first_numbers (from s at)) → all_numbers (from s 0) ≡ some (first_numbers (from s 0))
   pub faulty : all_numbers (from s at) ≡ none → all_numbers (from s 0) ≡ none
 
-abbrev pub invariant-loop-v : goal.invariant-loop-v
-invariant-loop-v l = Turn l.s l.initial.out l.out l.at l.count
+abbrev pub invariant-loop-n : goal.invariant-loop-n
+invariant-loop-n l = Turn l.s l.initial.out l.out l.at l.count
 
-abbrev pub decreases-loop-v : goal.decreases-loop-v
-decreases-loop-v l = length l.s - l.at
+abbrev pub decreases-loop-n : goal.decreases-loop-n
+decreases-loop-n l = length l.s - l.at

@@ -1,39 +1,44 @@
--- The loop's invariant: both are as long, and their letters the same if what is left of both is.
-use Prim.Native.Nat.{◌+◌, ◌-◌, ◌<◌, ℕ}
+-- `all` tells whether the two bytes of every pair have the same capital.
+use Prim.Native.Nat.{ℕ}
 use borrow.Author.Rules.{rules}
-use borrow.Author.Tests.{eqb-false, eqb-true, not-false, not-true}
+use borrow.Author.Tests.{eqb-false, eqb-true, ne_eqb, tests}
 use lib.Dec.{eqb}
-use lib.ListN.{drop, get_or, length}
-use mathlib.Core.Bool.{true}
-use mathlib.Core.List.{List}
+use lib.ListN.{length}
+use mathlib.Core.Bool.{Bool, ◌&&◌, false, true}
+use mathlib.Core.List.{List, [], ◌∷◌}
 use mathlib.Core.Path.{◌∙◌, ◌≡◌, refl, sym}
-use native.Mathlib.Numerals.{add-one}
 use native.Mathlib.Omega.{arith}
+use Rattle.std.proofs.lemmas.Iterator.{YieldsList-from_slice, YieldsList-from_zip, cases_from_all}
+use Rattle.std.specs.List.{zip}
+use Rattle.answers.proofs.Chains.{Fails, Passes, all_answer}
 use Rattle.definitions.specs.Alleles.{capital}
-use Rattle.laws.proofs.Capitals.{letters_end, letters_next, letters_other_byte, letters_other_length, same_letters}
+use Rattle.definitions.specs.Bytes.{compare_bytes, same_bytes}
+use Rattle.definitions.specs.Lists.{all_of}
+use Rattle.laws.proofs.Capitals.{letters_next, letters_other_byte, letters_other_length, same_letters}
 use Rattle.kv_text.proofs.same_letters.Goals as goal
 
-next : (a b : List ℕ) (i : ℕ) → same_letters a b ≡ same_letters (drop i a) (drop i b) → i < length a → i < length b
-    → eqb (capital (get_or a i 0)) (capital (get_or b i 0)) ≡ true → same_letters a b ≡ same_letters (drop (i + 1) a) (drop (i + 1) b)
-next a b i inv h l e = rw add-one (inv ∙ letters_next a b i h l (eqb-true _ _ e))
+abbrev alike : (ℕ × ℕ) → Bool
+alike p = eqb (capital p.0) (capital p.1)
 
-pub returns-then-b-a : goal.returns-then-b-a
-returns-then-b-a c = sym (letters_other_length c.args.a.now c.args.b.now λ e. c.if-b-a.true (sym e))
+pairs : (a b : List ℕ) → length a ≡ length b → all_of alike (zip a b) ≡ same_letters a b
+unfolding all_of same_bytes compare_bytes
+pairs [] [] e = refl
+pairs [] (y ∷ b) e = absurd (omega arith)
+pairs (x ∷ a) [] e = absurd (omega arith)
+pairs (x ∷ a) (y ∷ b) e = go (eqb (capital x) (capital y)) refl (pairs a b (omega arith))
+  where
+    go : (t : Bool) → eqb (capital x) (capital y) ≡ t → all_of alike (zip a b) ≡ same_letters a b
+        → (t && all_of alike (zip a b)) ≡ same_letters (x ∷ a) (y ∷ b)
+    go true q r = r ∙ sym (letters_next (x ∷ a) (y ∷ b) 0 (omega arith) (omega arith) (eqb-true _ _ q))
+    go false q r = sym (letters_other_byte (x ∷ a) (y ∷ b) 0 (eqb-false _ _ q))
 
-pub loop-i-init : goal.loop-i-init
-loop-i-init c = (omega arith, refl)
+pub returns-then-a-b : goal.returns-then-a-b
+returns-then-a-b c =
+    all_answer alike (zip c.args.a.now c.args.b.now) c.all.result
+    (cases_from_all c.all.new.self _ _ (Passes alike) (Fails alike) c.all.ensures.ran
+     (YieldsList-from_zip (YieldsList-from_slice c.args.a.now cc) (YieldsList-from_slice c.args.b.now cc))
+     (λ x q k. search (rules, tests)) (λ x q k. search (rules, tests)))
+    ∙ pairs _ _ c.if-a-b.true
 
-pub returns-then-not-same_letter : goal.returns-then-not-same_letter
-returns-then-not-same_letter c = sym (letters_other_byte c.args.a.now c.args.b.now c.loop-i.i (eqb-false _ _ (sym c.same_letter.ensures ∙ c.if-not-same_letter.true)))
-
-pub overflow_add-i : goal.overflow_add-i
-overflow_add-i c = omega arith
-
-pub loop-i-smaller : goal.loop-i-smaller
-loop-i-smaller c = omega arith
-
-pub loop-i-preserved : goal.loop-i-preserved
-loop-i-preserved c = (c.loop-i.invariant.0, next _ _ c.loop-i.i c.loop-i.invariant.1 (omega arith) (omega arith) (sym c.same_letter.ensures ∙ c.if-not-same_letter.false))
-
-pub returns : goal.returns
-returns c = sym (c.loop-i.invariant.1 ∙ letters_end _ _ c.loop-i.i (omega arith) (omega arith))
+pub returns-else-a-b : goal.returns-else-a-b
+returns-else-a-b c = ne_eqb _ _ c.if-a-b.false ∙ sym (letters_other_length _ _ c.if-a-b.false)

@@ -13,13 +13,13 @@ use Rattle.definitions.specs.Lists.{is_there}
 use Rattle.kv_text.proofs.Lines.{key_fits, line_absent, line_other_key, line_with_key}
 use Rattle.kv_text.specs.Fields.{between, field_length}
 use Rattle.kv_text.specs.Lines.{ValueRead, behind_line, value_before}
-use Rattle.kv_text.specs.declared.ValueStart.TheVariants.{At}
+use Rattle.std.specs.Prelude.{Some}
 use Rattle.kv_text.proofs.value_at.Goals as goal
 
 -- the value is found, and the text goes on behind the LF at e
 module _ (s : List ℕ) (at : ℕ) (key : List ℕ) (e : ℕ) (ends : e ≡ at + field_length 10 (drop at s)) where
   found : e < length s → is_there (strip_prefix key (between s at e)) ≡ true
-      → ValueRead s at key (value_before (At (at + length key)) (e + 1)) × (e + 1 ≡ behind_line at (value_before (At (at + length key)) (e + 1)))
+      → ValueRead s at key (value_before (Some (at + length key)) (e + 1)) × (e + 1 ≡ behind_line at (value_before (Some (at + length key)) (e + 1)))
   found h there =
       rw add-sub_cancel
       ((line_with_key s at key e ends h there, record { begins = refl; forward = key_fits s at key e ends there }), refl)
