@@ -1,8 +1,9 @@
 -- Numbers with commas between: the first, then each of the others behind a comma. For the loops that measure and lay them.
-use Prim.Native.Nat.{◌+◌, ◌<◌, ◌≤◌, ℕ}
-use lib.ListN.{drop, get_or, length, length-append}
+use Prim.Native.Nat.{◌+◌, ◌-◌, ◌<◌, ◌≤◌, ℕ}
+use lib.ListN.{drop, get_or, length, length-append, length-drop, take}
+use lib.Seq.{take_all}
 use mathlib.Core.List.{List, [], ◌++◌, ◌∷◌}
-use mathlib.Core.Path.{◌∙◌, ◌≡◌, ap}
+use mathlib.Core.Path.{◌∙◌, ◌≡◌, ap, sym}
 use native.Mathlib.Omega.{arith}
 use Rattle.definitions.specs.Bytes.{comma}
 use Rattle.definitions.specs.Numbers.{decimal, decimals}
@@ -18,9 +19,17 @@ pub no_numbers : (ns : List ℕ) → length ns ≡ 0 → decimals ns ≡ []
 unfolding decimals
 no_numbers = joined_none comma decimal
 
-pub first_then : (ns : List ℕ) → 0 < length ns → decimals ns ≡ decimal (get_or ns 0 0) ++ behind (drop 1 ns)
+-- all but the first, as a loop over `&numbers[1..]` has them
+abbrev pub others : List ℕ → List ℕ
+others ns = take (length ns - 1) (drop 1 ns)
+
+pub others_are : (ns : List ℕ) → others ns ≡ drop 1 ns
+others_are ns = take_all (length ns - 1) (drop 1 ns) (omega (arith, length-drop 1 ns))
+
+pub first_then : (ns : List ℕ) → 0 < length ns → decimals ns ≡ decimal (get_or ns 0 0) ++ behind (others ns)
 unfolding decimals behind
-first_then ns h = joined_first comma decimal ns 0 (λ e. omega arith)
+first_then ns h =
+    joined_first comma decimal ns 0 (λ e. omega arith) ∙ ap (λ (l : List ℕ). decimal (get_or ns 0 0) ++ each_after comma decimal l) (sym (others_are ns))
 
 pub next_then : (ns : List ℕ) (i : ℕ) → i < length ns → behind (drop i ns) ≡ 44 ∷ decimal (get_or ns i 0) ++ behind (drop (i + 1) ns)
 unfolding behind comma
@@ -37,8 +46,11 @@ comma_laid ns i h p l = one p (recast (next_then ns i h) l)
 
 -- the lengths
 
-pub length_first : (ns : List ℕ) → 0 < length ns → length (decimals ns) ≡ length (decimal (get_or ns 0 0)) + length (behind (drop 1 ns))
-length_first ns h = ap length (first_then ns h) ∙ length-append (decimal (get_or ns 0 0)) (behind (drop 1 ns))
+pub length_others : (ns : List ℕ) → length (others ns) ≡ length ns - 1
+length_others ns = ap length (others_are ns) ∙ length-drop 1 ns
+
+pub length_first : (ns : List ℕ) → 0 < length ns → length (decimals ns) ≡ length (decimal (get_or ns 0 0)) + length (behind (others ns))
+length_first ns h = ap length (first_then ns h) ∙ length-append (decimal (get_or ns 0 0)) (behind (others ns))
 
 pub length_next : (ns : List ℕ) (i : ℕ) → i < length ns
     → length (behind (drop i ns)) ≡ 1 + length (decimal (get_or ns i 0)) + length (behind (drop (i + 1) ns))

@@ -11,6 +11,3 @@ use Rattle.kv_write.proofs.copy_letters.Given as goal
 
 abbrev pub invariant-loop-i : goal.invariant-loop-i
 invariant-loop-i l = (length l.to ≡ length l.bytes) × Copied (map capital l.bytes) l.to l.i
-
-abbrev pub decreases-loop-i : goal.decreases-loop-i
-decreases-loop-i l = l.i-end - l.i

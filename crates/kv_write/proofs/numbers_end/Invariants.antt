@@ -8,8 +8,5 @@ use Rattle.definitions.specs.Numbers.{decimals}
 use Rattle.kv_write.proofs.NumberList.{behind, length_first, length_next, length_none}
 use Rattle.kv_write.proofs.numbers_end.Given as goal
 
-abbrev pub invariant-loop-i : goal.invariant-loop-i
-invariant-loop-i l = l.next + length (behind (drop l.i l.numbers)) ≡ l.at + length (decimals l.numbers)
-
-abbrev pub decreases-loop-i : goal.decreases-loop-i
-decreases-loop-i l = l.i-end - l.i
+abbrev pub invariant-loop-n : goal.invariant-loop-n
+invariant-loop-n l = l.next + length (behind (drop l.n-index l.n-items)) ≡ l.at + length (decimals l.numbers)

@@ -10,13 +10,7 @@ pub returns-then-out-at : goal.returns-then-out-at
 returns-then-out-at c = laid_past refl c.if-out-at.true
 
 pub returns-then-end-out : goal.returns-then-end-out
-returns-then-end-out c = laid_whole refl c.if-end-out.true c.copy_bytes.ensures
-
-pub slice_bounds-copy_bytes-end-3 : goal.slice_bounds-copy_bytes-end-3
-slice_bounds-copy_bytes-end-3 c = simp length-take (omega arith)
-
-pub copy_bytes-requires-2 : goal.copy_bytes-requires-2
-copy_bytes-requires-2 c = simp (length-take, length-drop) (omega arith)
+returns-then-end-out c = laid_whole refl c.if-end-out.true c.copy_from_slice.ensures.after
 
 pub returns : goal.returns
-returns c = laid_start (omega arith) (omega arith) c.copy_bytes-2.ensures
+returns c = laid_start (omega arith) (omega arith) c.copy_from_slice-2.ensures.after

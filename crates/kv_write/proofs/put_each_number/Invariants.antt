@@ -9,8 +9,5 @@ use Rattle.kv_write.proofs.Laying.{Left, done, fits_first, fits_rest, laid_appen
 use Rattle.kv_write.proofs.NumberList.{behind, comma_laid, first_then, length_next, none_behind}
 use Rattle.kv_write.proofs.put_each_number.Given as goal
 
-abbrev pub invariant-loop-i : goal.invariant-loop-i
-invariant-loop-i l = Left l.initial.out l.initial.next (behind (drop 1 l.numbers)) l.out l.next (behind (drop l.i l.numbers))
-
-abbrev pub decreases-loop-i : goal.decreases-loop-i
-decreases-loop-i l = l.i-end - l.i
+abbrev pub invariant-loop-n : goal.invariant-loop-n
+invariant-loop-n l = Left l.initial.out l.initial.next (behind l.n-items) l.out l.next (behind (drop l.n-index l.n-items))

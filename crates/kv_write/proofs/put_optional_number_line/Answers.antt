@@ -5,16 +5,16 @@ use Rattle.kv_write.proofs.put_optional_number_line.Goals as goal
 
 pub put_missing_line-requires : goal.put_missing_line-requires
 unfolding written_or_missing
-put_missing_line-requires c = rw c.in-Missing.is at c.requires
+put_missing_line-requires c = rw c.in-None.is at c.requires
 
 pub put_number_line-requires : goal.put_number_line-requires
 unfolding written_or_missing
-put_number_line-requires c = rw c.in-Present.is at c.requires
+put_number_line-requires c = rw c.in-Some.is at c.requires
 
-pub returns-in-Missing : goal.returns-in-Missing
+pub returns-in-None : goal.returns-in-None
 unfolding written_or_missing
-returns-in-Missing c = rw c.in-Missing.is c.put_missing_line.ensures
+returns-in-None c = rw c.in-None.is c.put_missing_line.ensures
 
-pub returns-in-Present : goal.returns-in-Present
+pub returns-in-Some : goal.returns-in-Some
 unfolding written_or_missing
-returns-in-Present c = rw c.in-Present.is c.put_number_line.ensures
+returns-in-Some c = rw c.in-Some.is c.put_number_line.ensures

@@ -13,8 +13,5 @@ use Rattle.kv_write.proofs.StoredDigits.{length_most}
 use Rattle.kv_write.specs.Laid.{Laid}
 use Rattle.kv_write.proofs.store_numbers.Given as goal
 
-abbrev pub invariant-loop-i : goal.invariant-loop-i
-invariant-loop-i l = Left l.initial.out l.initial.next (behind (drop 1 l.numbers)) l.out l.next (behind (drop l.i l.numbers)) × (l.next + 11 * (length l.numbers - l.i) ≤ length l.out)
-
-abbrev pub decreases-loop-i : goal.decreases-loop-i
-decreases-loop-i l = l.i-end - l.i
+abbrev pub invariant-loop-n : goal.invariant-loop-n
+invariant-loop-n l = Left l.initial.out l.initial.next (behind l.n-items) l.out l.next (behind (drop l.n-index l.n-items)) × (l.next + 11 * (length l.n-items - l.n-index) ≤ length l.out)
