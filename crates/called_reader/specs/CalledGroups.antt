@@ -1,6 +1,9 @@
 -- What reading a record group of a called list finds.
+use Rattle.std.specs.Prelude as std
 use Rattle.std.specs.Prelude.{◌*◌, ◌+◌, ◌<◌, ◌≤◌, suc, ℕ, drop, length, take, Bool, List, map, ◌≡◌}
 use Rattle.std.proofs.Math.Option.{Option, none, some}
+use Rattle.answers.specs.Answered.{row_of}
+use Rattle.answers.specs.declared.Refusal.{Refusal}
 use Rattle.bio_ids.specs.declared.GenomePosition.{GenomePosition}
 use Rattle.definitions.specs.Answers.{scratch_after}
 use Rattle.definitions.specs.Checked.{accepted, in_order, refused}
@@ -12,26 +15,16 @@ use Rattle.definitions.specs.Numbers.{name, number, number_list}
 use Rattle.definitions.specs.Records.{Record}
 use Rattle.definitions.specs.SelectionSheet.{called_data_read, called_lines, called_record_read}
 use Rattle.kv_text.specs.Lines.{Behind}
+use Rattle.kv_text.specs.declared.Part.{Part}
 use Rattle.list_reader.specs.RecordGroups.{PreviousOf, alleles_at, alts_at, right_counts}
-use Rattle.list_reader.specs.declared.Previous.{Previous}
+use Rattle.list_reader.specs.declared.PreviousRecord.{PreviousRecord}
 use Rattle.site_groups.specs.SiteGroups.{Counted, bytes_of, numbers_of}
-use Rattle.site_groups.specs.declared.Part.{Part}
 use Rattle.site_groups.specs.declared.SiteAlleles.{SiteAlleles}
 use Rattle.tables.specs.Tables.{name_at}
 use Rattle.called_reader.specs.declared.CalledHead.{CalledHead}
 use Rattle.called_reader.specs.declared.CalledPlace.{CalledPlace}
 use Rattle.called_reader.specs.declared.CalledValues.{CalledValues}
-use Rattle.called_reader.specs.declared.HeadAt.{HeadAt}
-use Rattle.called_reader.specs.declared.HeadAt.TheVariants as head
-use Rattle.called_reader.specs.declared.RecordAt.{RecordAt}
-use Rattle.called_reader.specs.declared.RecordAt.TheVariants as found
-use Rattle.called_reader.specs.declared.RecordCheck.{RecordCheck}
-use Rattle.called_reader.specs.declared.RecordCheck.TheVariants as check
-use Rattle.called_reader.specs.declared.SampleAt.{SampleAt}
-use Rattle.called_reader.specs.declared.SampleAt.TheVariants as sample
 use Rattle.called_reader.specs.declared.SamplesRead.{SamplesRead}
-use Rattle.called_reader.specs.declared.TextAt.{TextAt}
-use Rattle.called_reader.specs.declared.TextAt.TheVariants as text
 
 -- the lines of a called record group with so many samples, and those of the group at an offset
 abbrev pub group_lines : ℕ → ℕ
@@ -60,9 +53,9 @@ pub record SampleTo (s : List ℕ) (at : ℕ) (v : CalledValues) : Type 0 where
   pub forward : at < v.next
   pub within : v.next ≤ length s
 
-unfoldable pub SampleRead : List ℕ → ℕ → SampleAt → Type 0
-SampleRead s at (sample.Sample v) = SampleTo s at v
-SampleRead s at sample.Wrong = (first samples i : ℕ) → i < samples → Behind s first (group_lines i) at
+unfoldable pub SampleRead : List ℕ → ℕ → std.Option CalledValues → Type 0
+SampleRead s at (std.Some v) = SampleTo s at v
+SampleRead s at std.None = (first samples i : ℕ) → i < samples → Behind s first (group_lines i) at
     → called_data_read (record_group s first samples) i ≡ refused 1
 
 -- ---- the lines of the group
@@ -84,9 +77,9 @@ pub record HeadTo (s : List ℕ) (at : ℕ) (h : CalledHead) : Type 0 where
 abbrev pub Misspelled : List ℕ → ℕ → ℕ → Type 0
 Misspelled s at samples = (records : ℕ) (before : List Record) → called_record_read samples records before (record_group s at samples) ≡ refused 1
 
-unfoldable pub HeadRead : List ℕ → ℕ → HeadAt → Type 0
-HeadRead s at (head.Head h) = HeadTo s at h
-HeadRead s at head.Wrong = (samples : ℕ) → Misspelled s at samples
+unfoldable pub HeadRead : List ℕ → ℕ → std.Option CalledHead → Type 0
+HeadRead s at (std.Some h) = HeadTo s at h
+HeadRead s at std.None = (samples : ℕ) → Misspelled s at samples
 
 -- all lines: the first four, and what the samples' say
 pub record GroupLines (s : List ℕ) (at samples : ℕ) (h : CalledHead) (sample_data : List SampleData) : Type 0 where
@@ -111,9 +104,9 @@ pub record TextTo (s : List ℕ) (at samples : ℕ) (pls₀ pls : List ℕ) (h :
   pub forward : at < r.next
   pub within : r.next ≤ length s
 
-unfoldable pub TextRead : List ℕ → ℕ → ℕ → List ℕ → List ℕ → TextAt → Type 0
-TextRead s at samples pls₀ pls (text.Text h r) = TextTo s at samples pls₀ pls h r
-TextRead s at samples pls₀ pls text.Wrong = Misspelled s at samples
+unfoldable pub TextRead : List ℕ → ℕ → ℕ → List ℕ → List ℕ → std.Option (CalledHead × SamplesRead) → Type 0
+TextRead s at samples pls₀ pls (std.Some (h, r)) = TextTo s at samples pls₀ pls h r
+TextRead s at samples pls₀ pls std.None = Misspelled s at samples
 
 -- ---- rows 4, 5 and 8
 
@@ -123,7 +116,7 @@ record_from s contig pos a sample_data =
     record { contig = bytes_of s contig; pos = pos.0; end = none; alleles = alleles_at s a; sample_data = sample_data }
 
 -- a group whose lines are read, that is to be checked behind the records before it
-pub record Ready (s : List ℕ) (h : CalledHead) (last : Previous) (fit : Bool) (at samples records : ℕ) (before : List Record)
+pub record Ready (s : List ℕ) (h : CalledHead) (last : std.Option PreviousRecord) (fit : Bool) (at samples records : ℕ) (before : List Record)
     (sample_data : List SampleData) : Type 0 where
   pub lines : GroupLines s at samples h sample_data
   pub counted : fit ≡ all_of (right_counts s h.alleles) sample_data
@@ -131,23 +124,23 @@ pub record Ready (s : List ℕ) (h : CalledHead) (last : Previous) (fit : Bool) 
   pub previous : PreviousOf s before last
 
 -- rows 4, 5 and 8 let it through, with so many alleles
-pub record RecordRight (s : List ℕ) (h : CalledHead) (last : Previous) (fit : Bool) (n : ℕ) : Type 0 where
+pub record RecordRight (s : List ℕ) (h : CalledHead) (last : std.Option PreviousRecord) (fit : Bool) (n : ℕ) : Type 0 where
   pub value : (at samples records : ℕ) (before : List Record) (sample_data : List SampleData) → Ready s h last fit at samples records before sample_data
       → called_record_read samples records before (record_group s at samples) ≡ accepted (record_from s h.contig h.pos h.alleles sample_data)
   pub count : n ≡ suc (alts_at s h.alleles)
   pub few : n ≤ max_alleles
 
-unfoldable pub RecordChecked : List ℕ → CalledHead → Previous → Bool → RecordCheck → Type 0
-RecordChecked s h last fit (check.Right n) = RecordRight s h last fit n
-RecordChecked s h last fit (check.Refused row) =
+unfoldable pub RecordChecked : List ℕ → CalledHead → std.Option PreviousRecord → Bool → std.Result ℕ Refusal → Type 0
+RecordChecked s h last fit (std.Ok n) = RecordRight s h last fit n
+RecordChecked s h last fit (std.Err r) =
     (at samples records : ℕ) (before : List Record) (sample_data : List SampleData) → Ready s h last fit at samples records before sample_data
-    → called_record_read samples records before (record_group s at samples) ≡ refused row
+    → called_record_read samples records before (record_group s at samples) ≡ refused (row_of r)
 
 -- ---- the record
 
 -- The group reads as a record behind all records that end as `last` says, if they are fewer than the list's; the table says where its
 -- samples' PLs stand, and behind these it is as it was.
-pub record RecordTo (s : List ℕ) (at samples : ℕ) (last : Previous) (pls₀ pls : List ℕ) (p : CalledPlace) : Type 0 where
+pub record RecordTo (s : List ℕ) (at samples : ℕ) (last : std.Option PreviousRecord) (pls₀ pls : List ℕ) (p : CalledPlace) : Type 0 where
   pub sample_data : List SampleData
   pub value : (records : ℕ) (before : List Record) → length before < records → PreviousOf s before last
       → called_record_read samples records before (record_group s at samples) ≡ accepted (record_from s p.contig p.pos p.alleles sample_data)
@@ -160,20 +153,20 @@ pub record RecordTo (s : List ℕ) (at samples : ℕ) (last : Previous) (pls₀ 
   pub within : p.next ≤ length s
 
 -- a row refuses the group behind all such records
-abbrev pub RefusedBy : List ℕ → ℕ → ℕ → Previous → ℕ → Type 0
+abbrev pub RefusedBy : List ℕ → ℕ → ℕ → std.Option PreviousRecord → ℕ → Type 0
 RefusedBy s at samples last row = (records : ℕ) (before : List Record) → length before < records → PreviousOf s before last
     → called_record_read samples records before (record_group s at samples) ≡ refused row
 
 -- the row refuses it, and the table is zero
-pub record RecordRefused (s : List ℕ) (at samples : ℕ) (last : Previous) (pls₀ pls : List ℕ) (row : ℕ) : Type 0 where
+pub record RecordRefused (s : List ℕ) (at samples : ℕ) (last : std.Option PreviousRecord) (pls₀ pls : List ℕ) (row : ℕ) : Type 0 where
   pub value : RefusedBy s at samples last row
   pub cleared : pls ≡ scratch_after pls₀
 
-unfoldable pub RecordRead : List ℕ → ℕ → ℕ → Previous → List ℕ → List ℕ → RecordAt → Type 0
-RecordRead s at samples last pls₀ pls (found.Record p) = RecordTo s at samples last pls₀ pls p
-RecordRead s at samples last pls₀ pls (found.Refused row) = RecordRefused s at samples last pls₀ pls row
+unfoldable pub RecordRead : List ℕ → ℕ → ℕ → std.Option PreviousRecord → List ℕ → List ℕ → std.Result CalledPlace Refusal → Type 0
+RecordRead s at samples last pls₀ pls (std.Ok p) = RecordTo s at samples last pls₀ pls p
+RecordRead s at samples last pls₀ pls (std.Err r) = RecordRefused s at samples last pls₀ pls (row_of r)
 
 -- the same with the table left open after a refusal
-unfoldable pub RecordFound : List ℕ → ℕ → ℕ → Previous → List ℕ → List ℕ → RecordAt → Type 0
-RecordFound s at samples last pls₀ pls (found.Record p) = RecordTo s at samples last pls₀ pls p
-RecordFound s at samples last pls₀ pls (found.Refused row) = RefusedBy s at samples last row
+unfoldable pub RecordFound : List ℕ → ℕ → ℕ → std.Option PreviousRecord → List ℕ → List ℕ → std.Result CalledPlace Refusal → Type 0
+RecordFound s at samples last pls₀ pls (std.Ok p) = RecordTo s at samples last pls₀ pls p
+RecordFound s at samples last pls₀ pls (std.Err r) = RefusedBy s at samples last (row_of r)

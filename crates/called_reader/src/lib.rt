@@ -4,11 +4,11 @@
 ghost use Rattle.std.specs.Prelude.{◌≡◌, ◌*◌, ◌≤◌, length};
 ghost use Rattle.called_reader.specs.CalledGroups.{HeadRead, RecordChecked, RecordFound, RecordRead, SampleRead, TextRead};
 
-use alleles::AllelesRead;
+use answers::Refusal;
 use bio_ids::GenomePosition;
-use kv_text::{NumberAt, ValueAt};
-use list_reader::Previous;
-use site_groups::{NumbersPart, Part, PartAt, SiteAlleles};
+use kv_text::Part;
+use list_reader::PreviousRecord;
+use site_groups::{NumbersPart, SiteAlleles};
 
 // ---- the lines of a sample
 
@@ -20,44 +20,16 @@ pub struct CalledValues {
     next: usize,
 }
 
-#[derive(Clone, Copy)]
-enum SampleAt {
-    Sample(CalledValues),
-    Wrong,
-}
-
 // The four lines of a sample at an offset.
-fn sample_lines(s: &[u8], at: usize) -> SampleAt
+fn sample_lines(s: &[u8], at: usize) -> Option<CalledValues>
     ensures { SampleRead s.now at result }
 {
-    let quality = site_groups::code_line(s, at, b"gq=");
-    let NumberAt::Found(gq, e0) = quality else {
-        return SampleAt::Wrong;
-    };
-    let depth = site_groups::code_line(s, e0 + 1, b"dp=");
-    let NumberAt::Found(dp, e1) = depth else {
-        return SampleAt::Wrong;
-    };
-    let depths = list_reader::part_line(s, e1 + 1, b"ad=");
-    let PartAt::Part(a2, e2, n2) = depths else {
-        return SampleAt::Wrong;
-    };
-    let likelihoods = list_reader::part_line(s, e2 + 1, b"pl=");
-    let PartAt::Part(a3, e3, n3) = likelihoods else {
-        return SampleAt::Wrong;
-    };
-    let ad = NumbersPart {
-        at: a2,
-        end: e2,
-        count: n2,
-    };
-    let pl = NumbersPart {
-        at: a3,
-        end: e3,
-        count: n3,
-    };
-    let next = e3 + 1;
-    SampleAt::Sample(CalledValues { ad, pl, next })
+    let (_, e0) = kv_text::optional_number_line(s, at, b"gq=")?;
+    let (_, e1) = kv_text::optional_number_line(s, e0 + 1, b"dp=")?;
+    let ad = list_reader::part_line(s, e1 + 1, b"ad=")?;
+    let pl = list_reader::part_line(s, ad.end + 1, b"pl=")?;
+    let next = pl.end + 1;
+    Some(CalledValues { ad, pl, next })
 }
 
 // ---- the lines of a record
@@ -70,40 +42,18 @@ pub struct CalledHead {
     alleles: SiteAlleles,
 }
 
-#[derive(Clone, Copy)]
-enum HeadAt {
-    Head(CalledHead),
-    Wrong,
-}
-
-fn record_head(s: &[u8], at: usize) -> HeadAt
+fn record_head(s: &[u8], at: usize) -> Option<CalledHead>
     ensures { HeadRead s.now at result }
 {
-    let name = kv_text::name_line(s, at, b"contig=");
-    let ValueAt::At(a0, e0) = name else {
-        return HeadAt::Wrong;
-    };
-    let first = kv_text::number_line(s, e0 + 1, b"pos=");
-    let NumberAt::Found(pos, e1) = first else {
-        return HeadAt::Wrong;
-    };
-    let reference = kv_text::value_line(s, e1 + 1, b"ref=");
-    let ValueAt::At(a2, e2) = reference else {
-        return HeadAt::Wrong;
-    };
-    let alternate = kv_text::value_line(s, e2 + 1, b"alt=");
-    let ValueAt::At(a3, e3) = alternate else {
-        return HeadAt::Wrong;
-    };
-    let contig = Part { at: a0, end: e0 };
-    let refs = Part { at: a2, end: e2 };
-    let alts = Part { at: a3, end: e3 };
-    let next = e3 + 1;
-    let alleles = SiteAlleles { refs, alts, next };
-    HeadAt::Head(CalledHead {
+    let contig = kv_text::name_line(s, at, b"contig=")?;
+    let (pos, e1) = kv_text::number_line(s, contig.end + 1, b"pos=")?;
+    let refs = kv_text::value_line(s, e1 + 1, b"ref=")?;
+    let alts = kv_text::value_line(s, refs.end + 1, b"alt=")?;
+    let next = alts.end + 1;
+    Some(CalledHead {
         contig,
         pos: GenomePosition::new_1based(pos as u64),
-        alleles,
+        alleles: SiteAlleles { refs, alts, next },
     })
 }
 
@@ -115,69 +65,57 @@ struct SamplesRead {
     next: usize,
 }
 
-#[derive(Clone, Copy)]
-enum TextAt {
-    Text(CalledHead, SamplesRead),
-    Wrong,
-}
-
 // The lines of the record group at an offset: two numbers of the table for each sample, where its PL begins and where it ends.
-fn record_text(s: &[u8], at: usize, samples: usize, pls: &mut [usize]) -> TextAt
+fn record_text(
+    s: &[u8],
+    at: usize,
+    samples: usize,
+    pls: &mut [usize],
+) -> Option<(CalledHead, SamplesRead)>
     requires { 2 * samples ≤ length pls.old }
     ensures { TextRead s.now at samples pls.old pls.new result }
 {
-    let first = record_head(s, at);
-    let HeadAt::Head(head) = first else {
-        return TextAt::Wrong;
-    };
+    let head = record_head(s, at)?;
     let alleles = head.alleles;
     let alts = kv_text::count_fields(tables::part(s, alleles.alts.at, alleles.alts.end), b',');
     let mut next = alleles.next;
     let mut fit = true;
     for i in 0..samples {
-        let lines = sample_lines(s, next);
-        let SampleAt::Sample(values) = lines else {
-            return TextAt::Wrong;
-        };
+        let values = sample_lines(s, next)?;
         pls[2 * i] = values.pl.at;
         pls[2 * i + 1] = values.pl.end;
         fit = list_reader::counts_fit(fit, alts, values.pl.count, values.ad.count);
         next = values.next;
     }
-    TextAt::Text(head, SamplesRead { fit, next })
+    Some((head, SamplesRead { fit, next }))
 }
 
 // ---- rows 4, 5 and 8
 
-// How many alleles there are; or the row, 4, 5 or 8, that refuses the record.
-#[derive(Clone, Copy)]
-enum RecordCheck {
-    Right(usize),
-    Refused(usize),
-}
-
-// Rows 4, 5 and 8 of a record whose lines are spelled right: the lowest that applies decides.
-fn check_record(s: &[u8], head: CalledHead, previous: Previous, fit: bool) -> RecordCheck
+// Rows 4, 5 and 8 of a record whose lines are spelled right: the lowest that applies decides. How many alleles there are.
+fn check_record(
+    s: &[u8],
+    head: CalledHead,
+    previous: Option<PreviousRecord>,
+    fit: bool,
+) -> Result<usize, Refusal>
     ensures { RecordChecked s.now head previous fit result }
 {
     let pos = head.pos;
     if pos.get() < 1 {
-        return RecordCheck::Refused(4);
+        return Err(Refusal::Position);
     }
     let contig = tables::part(s, head.contig.at, head.contig.end);
     if !list_reader::comes_after(s, previous, contig, pos) {
-        return RecordCheck::Refused(4);
+        return Err(Refusal::Position);
     }
     let reference = tables::part(s, head.alleles.refs.at, head.alleles.refs.end);
     let alts = tables::part(s, head.alleles.alts.at, head.alleles.alts.end);
-    let read = alleles::check_alleles(reference, alts, 255, 16);
-    let AllelesRead::Alleles(n, _) = read else {
-        return RecordCheck::Refused(5);
-    };
+    let read = alleles::check_alleles(reference, alts, 255, 16).ok_or(Refusal::Alleles)?;
     if !fit {
-        return RecordCheck::Refused(8);
+        return Err(Refusal::Counts);
     }
-    RecordCheck::Right(n)
+    Ok(read.count)
 }
 
 // ---- the record
@@ -192,42 +130,27 @@ pub struct CalledPlace {
     pub next: usize,
 }
 
-#[derive(Clone, Copy)]
-pub enum RecordAt {
-    Record(CalledPlace),
-    Refused(usize),
-}
-
 // The record group at an offset, of a list with so many samples, after the record before it; what stands in the table after a refusal
 // is open.
 fn read_record(
     s: &[u8],
     at: usize,
     samples: usize,
-    previous: Previous,
+    previous: Option<PreviousRecord>,
     pls: &mut [usize],
-) -> RecordAt
+) -> Result<CalledPlace, Refusal>
     requires { 2 * samples ≤ length pls.old }
     ensures { RecordFound s.now at samples previous pls.old pls.new result }
 {
-    let text = record_text(s, at, samples, pls);
-    let TextAt::Text(head, read) = text else {
-        return RecordAt::Refused(1);
-    };
-    let check = check_record(s, head, previous, read.fit);
-    let contig = head.contig;
-    let pos = head.pos;
-    let alleles = head.alleles;
-    match check {
-        RecordCheck::Refused(row) => RecordAt::Refused(row),
-        RecordCheck::Right(count) => RecordAt::Record(CalledPlace {
-            contig,
-            pos,
-            alleles,
-            count,
-            next: read.next,
-        }),
-    }
+    let (head, read) = record_text(s, at, samples, pls).ok_or(Refusal::Spelling)?;
+    let count = check_record(s, head, previous, read.fit)?;
+    Ok(CalledPlace {
+        contig: head.contig,
+        pos: head.pos,
+        alleles: head.alleles,
+        count,
+        next: read.next,
+    })
 }
 
 // The record group at an offset, of a list with so many samples, after the record before it: where each sample's PL begins and ends goes into
@@ -237,18 +160,15 @@ pub fn record_at(
     s: &[u8],
     at: usize,
     samples: usize,
-    previous: Previous,
+    previous: Option<PreviousRecord>,
     pls: &mut [usize],
-) -> RecordAt
+) -> Result<CalledPlace, Refusal>
     requires { 2 * samples ≤ length pls.old }
     ensures { RecordRead s.now at samples previous pls.old pls.new result }
 {
-    let found = read_record(s, at, samples, previous, pls);
-    match found {
-        RecordAt::Record(place) => RecordAt::Record(place),
-        RecordAt::Refused(row) => {
-            tables::clear(pls);
-            RecordAt::Refused(row)
-        }
+    let read = read_record(s, at, samples, previous, pls);
+    if read.is_err() {
+        slices::clear(pls, 0);
     }
+    read
 }

@@ -7,10 +7,13 @@ ghost use Rattle.definitions.specs.Answers.{scratch_after};
 ghost use Rattle.definitions.specs.Bytes.{same_bytes};
 ghost use Rattle.definitions.specs.Limits.{max_samples};
 ghost use Rattle.tables.specs.Tables.{column, part_at, with_numbers};
-ghost use Rattle.cohort.specs.Cohort.{CohortAt, CohortFitting, ContigsNumbered, SitesAnswered, SitesRead, cohort_answer, cohort_front, first_on, front_answer, row_of, rows_in};
+ghost use Rattle.cohort.specs.Cohort.{CohortAt, CohortFitting, ContigsNumbered, SitesAnswered, SitesRead, cohort_answer, cohort_front, first_on, front_answer, loaded_of, row_of, rows_in};
 
-use sample_names::HeaderRead;
-use site_groups::{SiteAlleles, SiteAt, SitePlace, SiteValues};
+use answers::{LoadError, Refusal};
+use site_groups::{SiteAlleles, SitePlace, SiteValues};
+
+// GQ, DP or MIN_DP that is missing, in a row: past every number of a text.
+const MISSING: u32 = 4294967295;
 
 fn flag(b: bool) -> usize
     ensures { result ≡ cond b 1 0 }
@@ -31,14 +34,17 @@ pub fn put_site(
     requires { site * 22 + 22 ≤ length rows.old }
     ensures { rows.new ≡ sets rows.old (site * 22) (row_of place contig alleles values block) }
 {
+    let gq = values.gq.unwrap_or(MISSING);
+    let dp = values.dp.unwrap_or(MISSING);
+    let mindp = values.mindp.unwrap_or(MISSING);
     let row = [
         place.sample.get(),
         contig,
         place.start.get() as usize,
         place.end.get() as usize,
         flag(block),
-        values.gq as usize,
-        values.dp as usize + values.mindp as usize * 4294967296,
+        gq as usize,
+        dp as usize + mindp as usize * 4294967296,
         place.contig.at,
         place.contig.end,
         alleles.refs.at,
@@ -93,16 +99,9 @@ pub fn contig_number(s: &[u8], rows: &[usize], count: usize, contig: &[u8]) -> u
     count
 }
 
-// How many sites there are; or the row that refuses the first faulty group; or the table has no row for a site.
-#[derive(Clone, Copy)]
-pub enum SitesAt {
-    Sites(usize),
-    Refused(usize),
-    NoRoom,
-}
-
-// The site groups from an offset on, of a cohort with so many samples: a row for each, from the first row on.
-fn read_sites(s: &[u8], at: usize, samples: usize, rows: &mut [usize]) -> SitesAt
+// The site groups from an offset on, of a cohort with so many samples: a row for each, from the first row on. How many sites there are; or the
+// row that refuses the first faulty group; or the table has no row for a site.
+fn read_sites(s: &[u8], at: usize, samples: usize, rows: &mut [usize]) -> Result<usize, LoadError>
     ensures answer { SitesAnswered samples s.now at (length rows.old) result }
     ensures table { SitesRead samples s.now at rows.old rows.new result }
 {
@@ -111,87 +110,78 @@ fn read_sites(s: &[u8], at: usize, samples: usize, rows: &mut [usize]) -> SitesA
     let mut next = at;
     let mut count = 0;
     while next < s.len() {
-        let group = site_groups::site_at(s, next, samples, count, &mut ad, &mut pl);
-        match group {
-            SiteAt::Refused(row) => {
-                return SitesAt::Refused(row);
-            }
-            SiteAt::Site(place, alleles, values, block) => {
-                if rows.len() < count * 22 + 22 {
-                    return SitesAt::NoRoom;
-                }
-                let name = tables::part(s, place.contig.at, place.contig.end);
-                let contig = contig_number(s, rows, count, name);
-                put_site(rows, count, place, contig, alleles, values, block);
-                put_numbers(rows, count, values, &ad, &pl);
-                count += 1;
-                next = values.next;
-            }
+        let group = site_groups::site_at(s, next, samples, count, &mut ad, &mut pl)?;
+        if rows.len() < count * 22 + 22 {
+            return Err(LoadError::NoRoom);
         }
+        let place = group.place;
+        let values = group.values;
+        let name = tables::part(s, place.contig.at, place.contig.end);
+        let contig = contig_number(s, rows, count, name);
+        put_site(
+            rows,
+            count,
+            place,
+            contig,
+            group.alleles,
+            values,
+            group.block,
+        );
+        put_numbers(rows, count, values, &ad, &pl);
+        count += 1;
+        next = values.next;
     }
-    SitesAt::Sites(count)
+    Ok(count)
 }
 
-// The number of samples, and of sites; or the row that refuses the text; or a table is too short.
+// How many samples a cohort has, and how many sites.
 #[derive(Clone, Copy)]
-pub enum CohortRead {
-    Cohort(usize, usize),
-    Refused(usize),
-    NoRoom,
+pub struct CohortSize {
+    pub samples: usize,
+    pub sites: usize,
 }
 
-// The same where there is room for the names; what stands in the tables after a refusal, or where the sites have no room, is open.
-fn read_fitting(s: &[u8], names: &mut [usize], rows: &mut [usize]) -> CohortRead
+// The cohort where there is room for the names: its size; or the row that refuses the text; or a table is too short. What stands in the
+// tables after a refusal, or where the sites have no room, is open.
+fn read_fitting(s: &[u8], names: &mut [usize], rows: &mut [usize]) -> Result<CohortSize, LoadError>
     requires { 2 * max_samples ≤ length names.old }
-    ensures answer { result ≡ front_answer (rows_in (length rows.old)) (cohort_front (suc (rows_in (length rows.old))) s.now) }
+    ensures answer { loaded_of result ≡ front_answer (rows_in (length rows.old)) (cohort_front (suc (rows_in (length rows.old))) s.now) }
     ensures tables { CohortFitting s.now names.old names.new rows.old rows.new result }
 {
     if 16777216 < s.len() {
-        return CohortRead::Refused(2);
+        return Err(LoadError::Refused(Refusal::Size));
     }
-    let header = sample_names::read_samples(s, names);
-    match header {
-        HeaderRead::NoRoom => CohortRead::NoRoom,
-        HeaderRead::Refused(row) => CohortRead::Refused(row),
-        HeaderRead::Samples(samples, at) => {
-            let sites = read_sites(s, at, samples, rows);
-            match sites {
-                SitesAt::NoRoom => CohortRead::NoRoom,
-                SitesAt::Refused(row) => CohortRead::Refused(row),
-                SitesAt::Sites(count) => CohortRead::Cohort(samples, count),
-            }
-        }
-    }
+    let header = sample_names::read_samples(s, names)?;
+    let samples = header.count;
+    let sites = read_sites(s, header.next, samples, rows)?;
+    Ok(CohortSize { samples, sites })
 }
 
 // Clears both tables.
 fn clear_tables(names: &mut [usize], rows: &mut [usize])
     ensures { (rows.new ≡ scratch_after rows.old) × (names.new ≡ scratch_after names.old) }
 {
-    tables::clear(names);
-    tables::clear(rows);
+    slices::clear(names, 0);
+    slices::clear(rows, 0);
 }
 
 // Reads cohort.kv, rows 1 to 8, into the two tables: 128 numbers for names, two each, and 22 numbers for each site, 4,096 at most. If a
 // table is too short, or a row refuses the text, both are cleared. The answer is the same for all tables of these lengths.
-pub fn read_cohort(s: &[u8], names: &mut [usize], rows: &mut [usize]) -> CohortRead
-    ensures answer { result ≡ cohort_answer (length names.old) (length rows.old) s.now }
+pub fn read_cohort(
+    s: &[u8],
+    names: &mut [usize],
+    rows: &mut [usize],
+) -> Result<CohortSize, LoadError>
+    ensures answer { loaded_of result ≡ cohort_answer (length names.old) (length rows.old) s.now }
     ensures tables { CohortAt s.now names.old names.new rows.old rows.new result }
 {
     if names.len() < 128 {
         clear_tables(names, rows);
-        return CohortRead::NoRoom;
+        return Err(LoadError::NoRoom);
     }
     let read = read_fitting(s, names, rows);
-    match read {
-        CohortRead::Cohort(samples, sites) => CohortRead::Cohort(samples, sites),
-        CohortRead::NoRoom => {
-            clear_tables(names, rows);
-            CohortRead::NoRoom
-        }
-        CohortRead::Refused(row) => {
-            clear_tables(names, rows);
-            CohortRead::Refused(row)
-        }
+    if read.is_err() {
+        clear_tables(names, rows);
     }
+    read
 }

@@ -1,6 +1,10 @@
 -- What reading a record group of a combined list finds.
+use Rattle.std.specs.Prelude as std
 use Rattle.std.specs.Prelude.{◌*◌, ◌+◌, ◌<◌, ◌≤◌, suc, ℕ, ltb, drop, length, take, Bool, ◌&&◌, false, true, List, [], ◌∷◌, map, ◌≡◌}
 use Rattle.std.proofs.Math.Option.{Option, none, some}
+use Rattle.answers.specs.Answered.{row_of}
+use Rattle.answers.specs.Options.{option_of}
+use Rattle.answers.specs.declared.Refusal.{Refusal}
 use Rattle.bio_ids.specs.declared.GenomePosition.{GenomePosition}
 use Rattle.definitions.specs.Alleles.{RefAlts}
 use Rattle.definitions.specs.Answers.{scratch_after}
@@ -14,33 +18,16 @@ use Rattle.definitions.specs.Lists.{all_of, any_of, by_order, is_there, numbers_
 use Rattle.definitions.specs.Numbers.{name, number, or_missing}
 use Rattle.definitions.specs.Records.{Record, record_end}
 use Rattle.kv_text.specs.Lines.{Behind, LineFound, LineReads, read_to, unread}
-use Rattle.site_groups.specs.SiteGroups.{Counted, bytes_of, numbers_of}
-use Rattle.site_groups.specs.declared.Part.{Part}
+use Rattle.kv_text.specs.declared.Part.{Part}
+use Rattle.site_groups.specs.SiteGroups.{Counted, ValuesSmall, bytes_of, numbers_of}
 use Rattle.site_groups.specs.declared.SiteAlleles.{SiteAlleles}
 use Rattle.site_groups.specs.declared.SiteValues.{SiteValues}
 use Rattle.laws.proofs.AllelesAsRead.{ref_alts_as_read}
 use Rattle.tables.specs.Tables.{ad_at, code_option, column, dp_at, min_dp_at, pl_at, row_length}
-use Rattle.list_reader.specs.declared.EndAt.{EndAt}
-use Rattle.list_reader.specs.declared.EndAt.TheVariants as end
-use Rattle.list_reader.specs.declared.GtAt.{GtAt}
-use Rattle.list_reader.specs.declared.GtAt.TheVariants as gt
-use Rattle.list_reader.specs.declared.HeadAt.{HeadAt}
-use Rattle.list_reader.specs.declared.HeadAt.TheVariants as head
-use Rattle.list_reader.specs.declared.OptionalPosition.{OptionalPosition}
-use Rattle.list_reader.specs.declared.OptionalPosition.TheVariants as position
-use Rattle.list_reader.specs.declared.Previous.{Previous}
-use Rattle.list_reader.specs.declared.Previous.TheVariants as previous
-use Rattle.list_reader.specs.declared.RecordAt.{RecordAt}
-use Rattle.list_reader.specs.declared.RecordAt.TheVariants as found
-use Rattle.list_reader.specs.declared.RecordCheck.{RecordCheck}
-use Rattle.list_reader.specs.declared.RecordCheck.TheVariants as check
+use Rattle.list_reader.specs.declared.PreviousRecord.{PreviousRecord}
 use Rattle.list_reader.specs.declared.RecordHead.{RecordHead}
 use Rattle.list_reader.specs.declared.RecordPlace.{RecordPlace}
-use Rattle.list_reader.specs.declared.SampleAt.{SampleAt}
-use Rattle.list_reader.specs.declared.SampleAt.TheVariants as sample
 use Rattle.list_reader.specs.declared.SamplesRead.{SamplesRead}
-use Rattle.list_reader.specs.declared.TextAt.{TextAt}
-use Rattle.list_reader.specs.declared.TextAt.TheVariants as text
 
 -- the lines of a record group with so many samples, and those of the group at an offset
 abbrev pub group_lines : ℕ → ℕ
@@ -71,17 +58,17 @@ pub record GtTo (s : List ℕ) (at alts e : ℕ) : Type 0 where
   pub gt : Option AllelePair
   pub line : LineReads s at (key_of "gt") (or_missing (gt_of (suc alts))) (read_to gt e)
 
-unfoldable pub GtRead : List ℕ → ℕ → ℕ → GtAt → Type 0
-GtRead s at alts (gt.End e) = GtTo s at alts e
-GtRead s at alts gt.Wrong = LineReads s at (key_of "gt") (or_missing (gt_of (suc alts))) unread
+unfoldable pub GtRead : List ℕ → ℕ → ℕ → std.Option ℕ → Type 0
+GtRead s at alts (std.Some e) = GtTo s at alts e
+GtRead s at alts std.None = LineReads s at (key_of "gt") (or_missing (gt_of (suc alts))) unread
 
 -- the data of a genotype and of the other five lines
 abbrev pub sample_from : List ℕ → Option AllelePair → SiteValues → SampleData
 sample_from s g v = record {
   gt = g;
-  gq = code_option v.gq;
-  dp = code_option v.dp;
-  mindp = code_option v.mindp;
+  gq = option_of v.gq;
+  dp = option_of v.dp;
+  mindp = option_of v.mindp;
   ad = numbers_of s v.ad;
   pl = numbers_of s v.pl;
 }
@@ -94,28 +81,28 @@ pub record SampleLines (s : List ℕ) (first samples i alts : ℕ) (g : Option A
 pub record SampleTo (s : List ℕ) (at alts : ℕ) (v : SiteValues) : Type 0 where
   pub gt : Option AllelePair
   pub lines : (first samples i : ℕ) → i < samples → Behind s first (group_lines i) at → SampleLines s first samples i alts gt v
-  pub dp_small : v.dp < 4294967296
+  pub small : ValuesSmall v
   pub ad_count : Counted s v.ad
   pub pl_count : Counted s v.pl
   pub forward : at < v.next
   pub within : v.next ≤ length s
 
-unfoldable pub SampleRead : List ℕ → ℕ → ℕ → SampleAt → Type 0
-SampleRead s at alts (sample.Sample v) = SampleTo s at alts v
-SampleRead s at alts sample.Wrong = (first samples i : ℕ) → i < samples → Behind s first (group_lines i) at
+unfoldable pub SampleRead : List ℕ → ℕ → ℕ → std.Option SiteValues → Type 0
+SampleRead s at alts (std.Some v) = SampleTo s at alts v
+SampleRead s at alts std.None = (first samples i : ℕ) → i < samples → Behind s first (group_lines i) at
     → sample_data_read (record_group s first samples) (suc alts) i ≡ refused 1
 
 -- ---- END
 
 -- the position, if one is given
-abbrev pub end_option : OptionalPosition → Option ℕ
-end_option (position.At p) = some p.0
-end_option position.Missing = none
+abbrev pub end_option : std.Option GenomePosition → Option ℕ
+end_option (std.Some p) = some p.0
+end_option std.None = none
 
 -- the answers about its line
-abbrev pub end_found : EndAt → LineFound (Option ℕ)
-end_found (end.End p e) = read_to (end_option p) e
-end_found end.Wrong = unread
+abbrev pub end_found : std.Option (std.Option GenomePosition × ℕ) → LineFound (Option ℕ)
+end_found (std.Some (p, e)) = read_to (end_option p) e
+end_found std.None = unread
 
 -- ---- the lines of the group
 
@@ -144,9 +131,9 @@ pub record HeadTo (s : List ℕ) (at : ℕ) (h : RecordHead) : Type 0 where
 abbrev pub Misspelled : List ℕ → ℕ → ℕ → Type 0
 Misspelled s at samples = (records : ℕ) (before : List Record) → record_read samples records before (record_group s at samples) ≡ refused 1
 
-unfoldable pub HeadRead : List ℕ → ℕ → HeadAt → Type 0
-HeadRead s at (head.Head h) = HeadTo s at h
-HeadRead s at head.Wrong = (samples : ℕ) → Misspelled s at samples
+unfoldable pub HeadRead : List ℕ → ℕ → std.Option RecordHead → Type 0
+HeadRead s at (std.Some h) = HeadTo s at h
+HeadRead s at std.None = (samples : ℕ) → Misspelled s at samples
 
 -- all lines: the first five, and what the samples' say
 pub record GroupLines (s : List ℕ) (at samples : ℕ) (h : RecordHead) (sample_data : List SampleData) : Type 0 where
@@ -168,9 +155,9 @@ pub record TextTo (s : List ℕ) (at samples : ℕ) (rows₀ rows : List ℕ) (h
   pub forward : at < r.next
   pub within : r.next ≤ length s
 
-unfoldable pub TextRead : List ℕ → ℕ → ℕ → List ℕ → List ℕ → TextAt → Type 0
-TextRead s at samples rows₀ rows (text.Text h r) = TextTo s at samples rows₀ rows h r
-TextRead s at samples rows₀ rows text.Wrong = Misspelled s at samples
+unfoldable pub TextRead : List ℕ → ℕ → ℕ → List ℕ → List ℕ → std.Option (RecordHead × SamplesRead) → Type 0
+TextRead s at samples rows₀ rows (std.Some (h, r)) = TextTo s at samples rows₀ rows h r
+TextRead s at samples rows₀ rows std.None = Misspelled s at samples
 
 -- ---- rows 4 to 8
 
@@ -182,22 +169,22 @@ pub record LastRecord (s : List ℕ) (before : List Record) (contig : Part) (end
   pub on : last.contig ≡ bytes_of s contig
   pub to : record_end last ≡ (end).0
 
-unfoldable pub PreviousOf : List ℕ → List Record → Previous → Type 0
-PreviousOf s before previous.None = before ≡ []
-PreviousOf s before (previous.Last contig end) = LastRecord s before contig end
+unfoldable pub PreviousOf : List ℕ → List Record → std.Option PreviousRecord → Type 0
+PreviousOf s before std.None = before ≡ []
+PreviousOf s before (std.Some last) = LastRecord s before last.contig last.end
 
 -- `comes_after` by what stands for the record before
-abbrev pub comes_after_last : List ℕ → Previous → List ℕ → ℕ → Bool
-comes_after_last s previous.None contig pos = true
-comes_after_last s (previous.Last last end) contig pos = by_order (compare_bytes (bytes_of s last) contig) true (ltb (end).0 pos) false
+abbrev pub comes_after_last : List ℕ → std.Option PreviousRecord → List ℕ → ℕ → Bool
+comes_after_last s std.None contig pos = true
+comes_after_last s (std.Some last) contig pos = by_order (compare_bytes (bytes_of s last.contig) contig) true (ltb last.end.0 pos) false
 
 -- the record of these parts of the text, with its samples' data
-abbrev pub record_from : List ℕ → Part → GenomePosition → OptionalPosition → SiteAlleles → List SampleData → Record
+abbrev pub record_from : List ℕ → Part → GenomePosition → std.Option GenomePosition → SiteAlleles → List SampleData → Record
 record_from s contig pos end a sample_data =
     record { contig = bytes_of s contig; pos = pos.0; end = end_option end; alleles = alleles_at s a; sample_data = sample_data }
 
 -- a group whose lines are read, that is to be checked behind the records before it
-pub record Ready (s : List ℕ) (h : RecordHead) (last : Previous) (fit : Bool) (at samples records : ℕ) (before : List Record)
+pub record Ready (s : List ℕ) (h : RecordHead) (last : std.Option PreviousRecord) (fit : Bool) (at samples records : ℕ) (before : List Record)
     (sample_data : List SampleData) : Type 0 where
   pub lines : GroupLines s at samples h sample_data
   pub counted : fit ≡ all_of (right_counts s h.alleles) sample_data
@@ -205,23 +192,23 @@ pub record Ready (s : List ℕ) (h : RecordHead) (last : Previous) (fit : Bool) 
   pub previous : PreviousOf s before last
 
 -- rows 4 to 8 let it through, with so many alleles
-pub record RecordRight (s : List ℕ) (h : RecordHead) (last : Previous) (fit : Bool) (n : ℕ) : Type 0 where
+pub record RecordRight (s : List ℕ) (h : RecordHead) (last : std.Option PreviousRecord) (fit : Bool) (n : ℕ) : Type 0 where
   pub value : (at samples records : ℕ) (before : List Record) (sample_data : List SampleData) → Ready s h last fit at samples records before sample_data
       → record_read samples records before (record_group s at samples) ≡ accepted (record_from s h.contig h.pos h.end h.alleles sample_data)
   pub count : n ≡ suc (alts_at s h.alleles)
   pub few : n ≤ max_alleles
 
-unfoldable pub RecordChecked : List ℕ → RecordHead → Previous → Bool → RecordCheck → Type 0
-RecordChecked s h last fit (check.Right n) = RecordRight s h last fit n
-RecordChecked s h last fit (check.Refused row) =
+unfoldable pub RecordChecked : List ℕ → RecordHead → std.Option PreviousRecord → Bool → std.Result ℕ Refusal → Type 0
+RecordChecked s h last fit (std.Ok n) = RecordRight s h last fit n
+RecordChecked s h last fit (std.Err r) =
     (at samples records : ℕ) (before : List Record) (sample_data : List SampleData) → Ready s h last fit at samples records before sample_data
-    → record_read samples records before (record_group s at samples) ≡ refused row
+    → record_read samples records before (record_group s at samples) ≡ refused (row_of r)
 
 -- ---- the record
 
 -- The group reads as a record behind all records that end as `last` says, if they are fewer than the list's; the table's rows have
 -- its samples' data but for GT, and behind them it is as it was.
-pub record RecordTo (s : List ℕ) (at samples : ℕ) (last : Previous) (rows₀ rows : List ℕ) (p : RecordPlace) : Type 0 where
+pub record RecordTo (s : List ℕ) (at samples : ℕ) (last : std.Option PreviousRecord) (rows₀ rows : List ℕ) (p : RecordPlace) : Type 0 where
   pub sample_data : List SampleData
   pub value : (records : ℕ) (before : List Record) → length before < records → PreviousOf s before last
       → record_read samples records before (record_group s at samples) ≡ accepted (record_from s p.contig p.pos p.end p.alleles sample_data)
@@ -235,20 +222,20 @@ pub record RecordTo (s : List ℕ) (at samples : ℕ) (last : Previous) (rows₀
   pub within : p.next ≤ length s
 
 -- a row refuses the group behind all such records
-abbrev pub RefusedBy : List ℕ → ℕ → ℕ → Previous → ℕ → Type 0
+abbrev pub RefusedBy : List ℕ → ℕ → ℕ → std.Option PreviousRecord → ℕ → Type 0
 RefusedBy s at samples last row = (records : ℕ) (before : List Record) → length before < records → PreviousOf s before last
     → record_read samples records before (record_group s at samples) ≡ refused row
 
 -- the row refuses it, and the table is zero
-pub record RecordRefused (s : List ℕ) (at samples : ℕ) (last : Previous) (rows₀ rows : List ℕ) (row : ℕ) : Type 0 where
+pub record RecordRefused (s : List ℕ) (at samples : ℕ) (last : std.Option PreviousRecord) (rows₀ rows : List ℕ) (row : ℕ) : Type 0 where
   pub value : RefusedBy s at samples last row
   pub cleared : rows ≡ scratch_after rows₀
 
-unfoldable pub RecordRead : List ℕ → ℕ → ℕ → Previous → List ℕ → List ℕ → RecordAt → Type 0
-RecordRead s at samples last rows₀ rows (found.Record p) = RecordTo s at samples last rows₀ rows p
-RecordRead s at samples last rows₀ rows (found.Refused row) = RecordRefused s at samples last rows₀ rows row
+unfoldable pub RecordRead : List ℕ → ℕ → ℕ → std.Option PreviousRecord → List ℕ → List ℕ → std.Result RecordPlace Refusal → Type 0
+RecordRead s at samples last rows₀ rows (std.Ok p) = RecordTo s at samples last rows₀ rows p
+RecordRead s at samples last rows₀ rows (std.Err r) = RecordRefused s at samples last rows₀ rows (row_of r)
 
 -- the same with the table left open after a refusal
-unfoldable pub RecordFound : List ℕ → ℕ → ℕ → Previous → List ℕ → List ℕ → RecordAt → Type 0
-RecordFound s at samples last rows₀ rows (found.Record p) = RecordTo s at samples last rows₀ rows p
-RecordFound s at samples last rows₀ rows (found.Refused row) = RefusedBy s at samples last row
+unfoldable pub RecordFound : List ℕ → ℕ → ℕ → std.Option PreviousRecord → List ℕ → List ℕ → std.Result RecordPlace Refusal → Type 0
+RecordFound s at samples last rows₀ rows (std.Ok p) = RecordTo s at samples last rows₀ rows p
+RecordFound s at samples last rows₀ rows (std.Err r) = RefusedBy s at samples last (row_of r)

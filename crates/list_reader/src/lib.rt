@@ -12,10 +12,11 @@ ghost use Rattle.site_groups.specs.SiteGroups.{PartCounted, part_found};
 ghost use Rattle.tables.specs.Tables.{row_length};
 ghost use Rattle.list_reader.specs.RecordGroups.{GtRead, HeadRead, RecordChecked, RecordFound, RecordRead, SampleRead, TextRead, comes_after_last, end_found, end_option};
 
-use alleles::AllelesRead;
+use answers::Refusal;
 use bio_ids::{GenomePosition, SampleIndex};
-use kv_text::{NumberAt, NumberRead, OptionalAt, Order, ValueAt};
-use site_groups::{NumbersPart, Part, PartAt, SiteAlleles, SitePlace, SiteValues};
+use kv_text::Part;
+use site_groups::{NumbersPart, SiteAlleles, SitePlace, SiteValues};
+use std::cmp::Ordering;
 
 // ---- the lines of a sample
 
@@ -38,95 +39,50 @@ fn is_gt(value: &[u8], alts: usize) -> bool
     if end < value.len() {
         return false;
     }
-    let first = kv_text::read_number(tables::part(value, 0, slash));
-    let NumberRead::Value(low) = first else {
+    let Some(low) = kv_text::read_number(tables::part(value, 0, slash)) else {
         return false;
     };
-    let second = kv_text::read_number(tables::part(value, slash + 1, end));
-    let NumberRead::Value(high) = second else {
+    let Some(high) = kv_text::read_number(tables::part(value, slash + 1, end)) else {
         return false;
     };
     is_pair(low, high, alts)
 }
 
 // Where the line of a GT ends.
-#[derive(Clone, Copy)]
-enum GtAt {
-    End(usize),
-    Wrong,
-}
-
-fn gt_line(s: &[u8], at: usize, alts: usize) -> GtAt
+fn gt_line(s: &[u8], at: usize, alts: usize) -> Option<usize>
     ensures { GtRead s.now at alts result }
 {
-    let line = kv_text::value_line(s, at, b"gt=");
-    let ValueAt::At(a, e) = line else {
-        return GtAt::Wrong;
-    };
-    let value = tables::part(s, a, e);
+    let line = kv_text::value_line(s, at, b"gt=")?;
+    let value = tables::part(s, line.at, line.end);
     if kv_text::same_bytes(value, b".") {
-        return GtAt::End(e);
+        return Some(line.end);
     }
     if is_gt(value, alts) {
-        return GtAt::End(e);
+        return Some(line.end);
     }
-    GtAt::Wrong
+    None
 }
 
 // The list of numbers in the line at an offset: where it stands and how many it has. The numbers go nowhere.
-pub fn part_line(s: &[u8], at: usize, key: &[u8]) -> PartAt
+pub fn part_line(s: &[u8], at: usize, key: &[u8]) -> Option<NumbersPart>
     ensures { LineReads s.now at key.now (or_missing number_list) (part_found s.now result) × PartCounted s.now result }
 {
     let mut room = [0u32; 1];
     site_groups::part_line(s, at, key, &mut room[..0])
 }
 
-#[derive(Clone, Copy)]
-enum SampleAt {
-    Sample(SiteValues),
-    Wrong,
-}
-
 // The six lines of a sample at an offset, in a record with so many ALTs. `next` of the values is where the next sample begins.
-fn sample_lines(s: &[u8], at: usize, alts: usize) -> SampleAt
+fn sample_lines(s: &[u8], at: usize, alts: usize) -> Option<SiteValues>
     ensures { SampleRead s.now at alts result }
 {
-    let genotype = gt_line(s, at, alts);
-    let GtAt::End(e0) = genotype else {
-        return SampleAt::Wrong;
-    };
-    let quality = site_groups::code_line(s, e0 + 1, b"gq=");
-    let NumberAt::Found(gq, e1) = quality else {
-        return SampleAt::Wrong;
-    };
-    let depth = site_groups::code_line(s, e1 + 1, b"dp=");
-    let NumberAt::Found(dp, e2) = depth else {
-        return SampleAt::Wrong;
-    };
-    let least = site_groups::code_line(s, e2 + 1, b"mindp=");
-    let NumberAt::Found(mindp, e3) = least else {
-        return SampleAt::Wrong;
-    };
-    let depths = part_line(s, e3 + 1, b"ad=");
-    let PartAt::Part(a4, e4, n4) = depths else {
-        return SampleAt::Wrong;
-    };
-    let likelihoods = part_line(s, e4 + 1, b"pl=");
-    let PartAt::Part(a5, e5, n5) = likelihoods else {
-        return SampleAt::Wrong;
-    };
-    let ad = NumbersPart {
-        at: a4,
-        end: e4,
-        count: n4,
-    };
-    let pl = NumbersPart {
-        at: a5,
-        end: e5,
-        count: n5,
-    };
-    let next = e5 + 1;
-    SampleAt::Sample(SiteValues {
+    let e0 = gt_line(s, at, alts)?;
+    let (gq, e1) = kv_text::optional_number_line(s, e0 + 1, b"gq=")?;
+    let (dp, e2) = kv_text::optional_number_line(s, e1 + 1, b"dp=")?;
+    let (mindp, e3) = kv_text::optional_number_line(s, e2 + 1, b"mindp=")?;
+    let ad = part_line(s, e3 + 1, b"ad=")?;
+    let pl = part_line(s, ad.end + 1, b"pl=")?;
+    let next = pl.end + 1;
+    Some(SiteValues {
         gq,
         dp,
         mindp,
@@ -138,82 +94,38 @@ fn sample_lines(s: &[u8], at: usize, alts: usize) -> SampleAt
 
 // ---- the lines of a record
 
-// END of a record: a position, or none is given.
-#[derive(Clone, Copy)]
-pub enum OptionalPosition {
-    At(GenomePosition),
-    Missing,
-}
-
-// END in an `end` line, and where the line ends.
-#[derive(Clone, Copy)]
-enum EndAt {
-    End(OptionalPosition, usize),
-    Wrong,
-}
-
-fn end_line(s: &[u8], at: usize) -> EndAt
+// END in an `end` line, if one is given, and where the line ends.
+fn end_line(s: &[u8], at: usize) -> Option<(Option<GenomePosition>, usize)>
     ensures { LineReads s.now at (key_of "end") (or_missing number) (end_found result) }
 {
-    let line = kv_text::optional_number_line(s, at, b"end=");
-    match line {
-        OptionalAt::Missing(e) => EndAt::End(OptionalPosition::Missing, e),
-        OptionalAt::Found(n, e) => {
-            let end = GenomePosition::new_1based(n as u64);
-            EndAt::End(OptionalPosition::At(end), e)
-        }
-        OptionalAt::Wrong => EndAt::Wrong,
-    }
+    let (number, e) = kv_text::optional_number_line(s, at, b"end=")?;
+    let end = number.map(|n| GenomePosition::new_1based(n as u64));
+    Some((end, e))
 }
 
-// The first five lines of a record group. `next` of the alleles is where the first sample begins.
+// The first five lines of a record group; END may be missing. `next` of the alleles is where the first sample begins.
 #[derive(Clone, Copy)]
 struct RecordHead {
     contig: Part,
     pos: GenomePosition,
-    end: OptionalPosition,
+    end: Option<GenomePosition>,
     alleles: SiteAlleles,
 }
 
-#[derive(Clone, Copy)]
-enum HeadAt {
-    Head(RecordHead),
-    Wrong,
-}
-
-fn record_head(s: &[u8], at: usize) -> HeadAt
+fn record_head(s: &[u8], at: usize) -> Option<RecordHead>
     ensures { HeadRead s.now at result }
 {
-    let name = kv_text::name_line(s, at, b"contig=");
-    let ValueAt::At(a0, e0) = name else {
-        return HeadAt::Wrong;
-    };
-    let first = kv_text::number_line(s, e0 + 1, b"pos=");
-    let NumberAt::Found(pos, e1) = first else {
-        return HeadAt::Wrong;
-    };
-    let last = end_line(s, e1 + 1);
-    let EndAt::End(end, e2) = last else {
-        return HeadAt::Wrong;
-    };
-    let reference = kv_text::value_line(s, e2 + 1, b"ref=");
-    let ValueAt::At(a3, e3) = reference else {
-        return HeadAt::Wrong;
-    };
-    let alternate = kv_text::value_line(s, e3 + 1, b"alt=");
-    let ValueAt::At(a4, e4) = alternate else {
-        return HeadAt::Wrong;
-    };
-    let contig = Part { at: a0, end: e0 };
-    let refs = Part { at: a3, end: e3 };
-    let alts = Part { at: a4, end: e4 };
-    let next = e4 + 1;
-    let alleles = SiteAlleles { refs, alts, next };
-    HeadAt::Head(RecordHead {
+    let contig = kv_text::name_line(s, at, b"contig=")?;
+    let (pos, e1) = kv_text::number_line(s, contig.end + 1, b"pos=")?;
+    let (end, e2) = end_line(s, e1 + 1)?;
+    let refs = kv_text::value_line(s, e2 + 1, b"ref=")?;
+    let alts = kv_text::value_line(s, refs.end + 1, b"alt=")?;
+    let next = alts.end + 1;
+    Some(RecordHead {
         contig,
         pos: GenomePosition::new_1based(pos as u64),
         end,
-        alleles,
+        alleles: SiteAlleles { refs, alts, next },
     })
 }
 
@@ -258,152 +170,138 @@ struct SamplesRead {
     next: usize,
 }
 
-#[derive(Clone, Copy)]
-enum TextAt {
-    Text(RecordHead, SamplesRead),
-    Wrong,
-}
-
 // The lines of the record group at an offset: a row of the table for each sample. (Nobody reads the sample, the start and the end of a row.)
-fn record_text(s: &[u8], at: usize, samples: usize, rows: &mut [usize]) -> TextAt
+fn record_text(
+    s: &[u8],
+    at: usize,
+    samples: usize,
+    rows: &mut [usize],
+) -> Option<(RecordHead, SamplesRead)>
     requires { samples * row_length ≤ length rows.old }
     ensures { TextRead s.now at samples rows.old rows.new result }
 {
-    let first = record_head(s, at);
-    let HeadAt::Head(head) = first else {
-        return TextAt::Wrong;
-    };
-    let contig = head.contig;
+    let head = record_head(s, at)?;
     let alleles = head.alleles;
     let alts = kv_text::count_fields(tables::part(s, alleles.alts.at, alleles.alts.end), b',');
     let mut next = alleles.next;
-    let pos = head.pos;
     let place = SitePlace {
         sample: SampleIndex::new(0),
-        contig,
-        start: pos,
-        end: pos,
+        contig: head.contig,
+        start: head.pos,
+        end: head.pos,
         next,
     };
     let mut has_pl = false;
     let mut fit = true;
     for i in 0..samples {
-        let lines = sample_lines(s, next, alts);
-        let SampleAt::Sample(values) = lines else {
-            return TextAt::Wrong;
-        };
+        let values = sample_lines(s, next, alts)?;
         cohort::put_site(rows, i, place, 0, alleles, values, false);
         has_pl = some_pl(has_pl, values.pl.count);
         fit = counts_fit(fit, alts, values.pl.count, values.ad.count);
         next = values.next;
     }
-    TextAt::Text(head, SamplesRead { has_pl, fit, next })
+    Some((head, SamplesRead { has_pl, fit, next }))
 }
 
 // ---- rows 4 to 8
 
-// What the record before this one left: none, or its contig and its last position.
+// What the record before this one left: its contig and its last position.
 #[derive(Clone, Copy)]
-pub enum Previous {
-    None,
-    Last(Part, GenomePosition),
+pub struct PreviousRecord {
+    pub contig: Part,
+    pub end: GenomePosition,
 }
 
-// Row 4: whether a record at this position of this contig comes after the one before it.
-pub fn comes_after(s: &[u8], previous: Previous, contig: &[u8], pos: GenomePosition) -> bool
+// Row 4: whether a record at this position of this contig comes after the one before it, if there is one.
+pub fn comes_after(
+    s: &[u8],
+    previous: Option<PreviousRecord>,
+    contig: &[u8],
+    pos: GenomePosition,
+) -> bool
     ensures { result ≡ comes_after_last s.now previous contig.now pos.0 }
 {
-    let Previous::Last(part, last) = previous else {
+    let Some(last) = previous else {
         return true;
     };
-    let order = kv_text::compare_bytes(tables::part(s, part.at, part.end), contig);
-    match order {
-        Order::Less => true,
-        Order::Same => last.get() < pos.get(),
-        Order::Greater => false,
+    let name = tables::part(s, last.contig.at, last.contig.end);
+    match kv_text::compare_bytes(name, contig) {
+        Ordering::Less => true,
+        Ordering::Equal => last.end.get() < pos.get(),
+        Ordering::Greater => false,
     }
 }
 
 // Row 4: END, if there is one, is past POS.
-fn end_past(pos: GenomePosition, end: OptionalPosition) -> bool
+fn end_past(pos: GenomePosition, end: Option<GenomePosition>) -> bool
     ensures { result ≡ missing_or (ltb pos.0) (end_option end) }
 {
     match end {
-        OptionalPosition::Missing => true,
-        OptionalPosition::At(last) => pos.get() < last.get(),
+        Some(last) => pos.get() < last.get(),
+        None => true,
     }
 }
 
 // Row 7: an END only for a block, which has two alleles and one letter in REF.
-fn end_allowed(end: OptionalPosition, alleles: usize, letters: usize) -> bool
+fn end_allowed(end: Option<GenomePosition>, alleles: usize, letters: usize) -> bool
     ensures { result ≡ not (is_there (end_option end)) || (eqb alleles 2 && eqb letters 1) }
 {
     match end {
-        OptionalPosition::Missing => true,
-        OptionalPosition::At(_) => alleles == 2 && letters == 1,
+        Some(_) => alleles == 2 && letters == 1,
+        None => true,
     }
 }
 
-// How many alleles there are; or the row, 4 to 8, that refuses the record.
-#[derive(Clone, Copy)]
-enum RecordCheck {
-    Right(usize),
-    Refused(usize),
-}
-
-// Rows 4 to 8 of a record whose lines are spelled right: the lowest that applies decides.
-fn check_record(s: &[u8], head: RecordHead, previous: Previous, fit: bool) -> RecordCheck
+// Rows 4 to 8 of a record whose lines are spelled right: the lowest that applies decides. How many alleles there are.
+fn check_record(
+    s: &[u8],
+    head: RecordHead,
+    previous: Option<PreviousRecord>,
+    fit: bool,
+) -> Result<usize, Refusal>
     ensures { RecordChecked s.now head previous fit result }
 {
     let pos = head.pos;
     let end = head.end;
     if pos.get() < 1 {
-        return RecordCheck::Refused(4);
+        return Err(Refusal::Position);
     }
     if !end_past(pos, end) {
-        return RecordCheck::Refused(4);
+        return Err(Refusal::Position);
     }
     let contig = tables::part(s, head.contig.at, head.contig.end);
     if !comes_after(s, previous, contig, pos) {
-        return RecordCheck::Refused(4);
+        return Err(Refusal::Position);
     }
     let reference = tables::part(s, head.alleles.refs.at, head.alleles.refs.end);
     let alts = tables::part(s, head.alleles.alts.at, head.alleles.alts.end);
-    let read = alleles::check_alleles(reference, alts, 255, 16);
-    let AllelesRead::Alleles(n, non_ref) = read else {
-        return RecordCheck::Refused(5);
-    };
-    if !non_ref {
-        return RecordCheck::Refused(6);
+    let read = alleles::check_alleles(reference, alts, 255, 16).ok_or(Refusal::Alleles)?;
+    if !read.has_non_ref {
+        return Err(Refusal::NonRefAbsent);
     }
+    let n = read.count;
     if !end_allowed(end, n, reference.len()) {
-        return RecordCheck::Refused(7);
+        return Err(Refusal::End);
     }
     if !fit {
-        return RecordCheck::Refused(8);
+        return Err(Refusal::Counts);
     }
-    RecordCheck::Right(n)
+    Ok(n)
 }
 
 // ---- the record
 
-// A record of the list: where its contig and its alleles stand, POS, END, how many alleles it has with REF,
+// A record of the list: where its contig and its alleles stand, POS, END if it is given, how many alleles it has with REF,
 // whether some sample has PL, and where the next group begins.
 #[derive(Clone, Copy)]
 pub struct RecordPlace {
     pub contig: Part,
     pub pos: GenomePosition,
-    pub end: OptionalPosition,
+    pub end: Option<GenomePosition>,
     pub alleles: SiteAlleles,
     pub count: usize,
     pub has_pl: bool,
     pub next: usize,
-}
-
-#[derive(Clone, Copy)]
-pub enum RecordAt {
-    Record(RecordPlace),
-    Refused(usize),
 }
 
 // The record group at an offset, of a list with so many samples, after the record before it; what stands in the table after a refusal
@@ -412,33 +310,23 @@ fn read_record(
     s: &[u8],
     at: usize,
     samples: usize,
-    previous: Previous,
+    previous: Option<PreviousRecord>,
     rows: &mut [usize],
-) -> RecordAt
+) -> Result<RecordPlace, Refusal>
     requires { samples * row_length ≤ length rows.old }
     ensures { RecordFound s.now at samples previous rows.old rows.new result }
 {
-    let text = record_text(s, at, samples, rows);
-    let TextAt::Text(head, read) = text else {
-        return RecordAt::Refused(1);
-    };
-    let check = check_record(s, head, previous, read.fit);
-    let contig = head.contig;
-    let pos = head.pos;
-    let end = head.end;
-    let alleles = head.alleles;
-    match check {
-        RecordCheck::Refused(row) => RecordAt::Refused(row),
-        RecordCheck::Right(count) => RecordAt::Record(RecordPlace {
-            contig,
-            pos,
-            end,
-            alleles,
-            count,
-            has_pl: read.has_pl,
-            next: read.next,
-        }),
-    }
+    let (head, read) = record_text(s, at, samples, rows).ok_or(Refusal::Spelling)?;
+    let count = check_record(s, head, previous, read.fit)?;
+    Ok(RecordPlace {
+        contig: head.contig,
+        pos: head.pos,
+        end: head.end,
+        alleles: head.alleles,
+        count,
+        has_pl: read.has_pl,
+        next: read.next,
+    })
 }
 
 // The record group at an offset, of a list with so many samples, after the record before it: a row of the table for each sample,
@@ -448,18 +336,15 @@ pub fn record_at(
     s: &[u8],
     at: usize,
     samples: usize,
-    previous: Previous,
+    previous: Option<PreviousRecord>,
     rows: &mut [usize],
-) -> RecordAt
+) -> Result<RecordPlace, Refusal>
     requires { samples * row_length ≤ length rows.old }
     ensures { RecordRead s.now at samples previous rows.old rows.new result }
 {
-    let found = read_record(s, at, samples, previous, rows);
-    match found {
-        RecordAt::Record(place) => RecordAt::Record(place),
-        RecordAt::Refused(row) => {
-            tables::clear(rows);
-            RecordAt::Refused(row)
-        }
+    let read = read_record(s, at, samples, previous, rows);
+    if read.is_err() {
+        slices::clear(rows, 0);
     }
+    read
 }

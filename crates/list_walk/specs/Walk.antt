@@ -1,6 +1,9 @@
 -- What the header of a combined list says, and what a cursor over its record groups stands for.
+use Rattle.std.specs.Prelude as std
 use Rattle.std.specs.Prelude.{◌*◌, ◌+◌, ◌-◌, ◌<◌, ◌≤◌, suc, ℕ, drop, length, List, [], ◌∷◌, ◌≡◌}
 use Rattle.std.proofs.Math.Option.{none}
+use Rattle.answers.specs.Answered.{row_of}
+use Rattle.answers.specs.declared.Refusal.{Refusal}
 use Rattle.definitions.specs.Answers.{scratch_after}
 use Rattle.definitions.specs.Checked.{Checked, ◌>>=◌, accepted, refused}
 use Rattle.definitions.specs.Cohort.{samples_of}
@@ -12,16 +15,11 @@ use Rattle.definitions.specs.Numbers.{number}
 use Rattle.definitions.specs.Records.{Record}
 use Rattle.kv_text.specs.Lines.{LineTo, line_value}
 use Rattle.list_reader.specs.RecordGroups.{PreviousOf, RecordTo, group_lines, record_from, record_group}
-use Rattle.list_reader.specs.declared.Previous.TheVariants as previous
-use Rattle.list_reader.specs.declared.Previous.{Previous}
+use Rattle.list_reader.specs.declared.PreviousRecord.{PreviousRecord}
 use Rattle.list_reader.specs.declared.RecordPlace.{RecordPlace}
 use Rattle.tables.specs.Tables.{names_in}
-use Rattle.list_walk.specs.declared.HeaderAt.{HeaderAt}
-use Rattle.list_walk.specs.declared.HeaderAt.TheVariants as header
 use Rattle.list_walk.specs.declared.ListCursor.{ListCursor}
 use Rattle.list_walk.specs.declared.ListHeader.{ListHeader}
-use Rattle.list_walk.specs.declared.Stepped.{Stepped}
-use Rattle.list_walk.specs.declared.Stepped.TheVariants as stepped
 
 -- ---- the header
 
@@ -50,9 +48,9 @@ pub record FigureRefused (s : List ℕ) (at : ℕ) (names₀ names : List ℕ) (
   pub value : line_value s at (key_of "records") number ≡ none
   pub cleared : names ≡ scratch_after names₀
 
-unfoldable pub FigureRead : List ℕ → ℕ → ℕ → List ℕ → List ℕ → HeaderAt → Type 0
-FigureRead s samples at names₀ names (header.Header h) = FigureTo s samples at names₀ names h
-FigureRead s samples at names₀ names (header.Refused row) = FigureRefused s at names₀ names row
+unfoldable pub FigureRead : List ℕ → ℕ → ℕ → List ℕ → List ℕ → std.Result ListHeader Refusal → Type 0
+FigureRead s samples at names₀ names (std.Ok h) = FigureTo s samples at names₀ names h
+FigureRead s samples at names₀ names (std.Err r) = FigureRefused s at names₀ names (row_of r)
 
 -- the table has the names, and the record groups are the lines from `next` on; behind the names the table is as it was
 pub record HeaderTo (s names₀ names : List ℕ) (h : ListHeader) : Type 0 where
@@ -65,15 +63,15 @@ pub record HeaderRefused (s names₀ names : List ℕ) (row : ℕ) : Type 0 wher
   pub value : heading_of s ≡ refused row
   pub cleared : names ≡ scratch_after names₀
 
-unfoldable pub HeaderRead : List ℕ → List ℕ → List ℕ → HeaderAt → Type 0
-HeaderRead s names₀ names (header.Header h) = HeaderTo s names₀ names h
-HeaderRead s names₀ names (header.Refused row) = HeaderRefused s names₀ names row
+unfoldable pub HeaderRead : List ℕ → List ℕ → List ℕ → std.Result ListHeader Refusal → Type 0
+HeaderRead s names₀ names (std.Ok h) = HeaderTo s names₀ names h
+HeaderRead s names₀ names (std.Err r) = HeaderRefused s names₀ names (row_of r)
 
 -- ---- a cursor
 
 -- the cursor before the first record group
 abbrev pub start_of : ListHeader → ListCursor
-start_of h = record { next = h.next; read = 0; previous = previous.None }
+start_of h = record { next = h.next; read = 0; previous = std.None }
 
 -- the record groups at a cursor: as many as the header says and were not read, missing ones too, and those past its figure
 unfoldable pub groups_at : List ℕ → ListHeader → ListCursor → List (List Line)
@@ -87,7 +85,7 @@ pub record StandsBehind (s : List ℕ) (before : List Record) (c : ListCursor) :
 -- ---- a step
 
 -- the record at a place, whose samples' data stands in the table
-abbrev pub record_at : {s : List ℕ} {at samples : ℕ} {last : Previous} {rows₀ rows : List ℕ} {p : RecordPlace}
+abbrev pub record_at : {s : List ℕ} {at samples : ℕ} {last : std.Option PreviousRecord} {rows₀ rows : List ℕ} {p : RecordPlace}
     → RecordTo s at samples last rows₀ rows p → Record
 record_at {s} {p = p} to = record_from s p.contig p.pos p.end p.alleles to.sample_data
 
@@ -114,7 +112,7 @@ pub record LastStep (s : List ℕ) (h : ListHeader) (c : ListCursor) (rows₀ ro
   pub groups : groups_at s h c ≡ []
   pub same : rows ≡ rows₀
 
-unfoldable pub SteppedFrom : List ℕ → ListHeader → ListCursor → List ℕ → List ℕ → Stepped → Type 0
-SteppedFrom s h c rows₀ rows (stepped.Record p c') = RecordStep s h c rows₀ rows p c'
-SteppedFrom s h c rows₀ rows (stepped.Refused row) = RefusedStep s h c rows₀ rows row
-SteppedFrom s h c rows₀ rows stepped.End = LastStep s h c rows₀ rows
+unfoldable pub SteppedFrom : List ℕ → ListHeader → ListCursor → List ℕ → List ℕ → std.Result (std.Option (RecordPlace × ListCursor)) Refusal → Type 0
+SteppedFrom s h c rows₀ rows (std.Ok (std.Some (p, c'))) = RecordStep s h c rows₀ rows p c'
+SteppedFrom s h c rows₀ rows (std.Err r) = RefusedStep s h c rows₀ rows (row_of r)
+SteppedFrom s h c rows₀ rows (std.Ok std.None) = LastStep s h c rows₀ rows

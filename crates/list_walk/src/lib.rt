@@ -7,9 +7,9 @@ ghost use Rattle.definitions.specs.Limits.{max_samples};
 ghost use Rattle.list_reader.specs.RecordGroups.{end_option};
 ghost use Rattle.list_walk.specs.Walk.{FigureRead, HeaderRead, SteppedFrom, start_of};
 
+use answers::{LoadError, Refusal};
 use bio_ids::GenomePosition;
-use kv_text::NumberAt;
-use list_reader::{OptionalPosition, Previous, RecordAt, RecordPlace};
+use list_reader::{PreviousRecord, RecordPlace};
 
 // ---- the header
 
@@ -21,23 +21,21 @@ pub struct ListHeader {
     pub next: usize,
 }
 
-#[derive(Clone, Copy)]
-pub enum HeaderAt {
-    Header(ListHeader),
-    Refused(usize),
-}
-
 // The line `records` at an offset, behind the names of so many samples. If it is wrong, the names are cleared.
-fn records_line(list: &[u8], samples: usize, at: usize, names: &mut [usize; 128]) -> HeaderAt
+fn records_line(
+    list: &[u8],
+    samples: usize,
+    at: usize,
+    names: &mut [usize; 128],
+) -> Result<ListHeader, Refusal>
     ensures { FigureRead list.now samples at names.old names.new result }
 {
-    let line = kv_text::number_line(list, at, b"records=");
-    let NumberAt::Found(records, end) = line else {
-        tables::clear(names);
-        return HeaderAt::Refused(1);
+    let Some((records, end)) = kv_text::number_line(list, at, b"records=") else {
+        slices::clear(names, 0);
+        return Err(Refusal::Spelling);
     };
     let next = end + 1;
-    HeaderAt::Header(ListHeader {
+    Ok(ListHeader {
         samples,
         records,
         next,
@@ -45,25 +43,24 @@ fn records_line(list: &[u8], samples: usize, at: usize, names: &mut [usize; 128]
 }
 
 // The header of a list. Where the names stand goes into `names`, two numbers each; or the row that refuses it, 1 to 3, and zeros.
-pub fn read_header(list: &[u8], names: &mut [usize; 128]) -> HeaderAt
+pub fn read_header(list: &[u8], names: &mut [usize; 128]) -> Result<ListHeader, Refusal>
     ensures { HeaderRead list.now names.old names.new result }
 {
-    let read = sample_names::read_samples(list, names);
-    match read {
-        sample_names::HeaderRead::NoRoom => HeaderAt::Refused(2),
-        sample_names::HeaderRead::Refused(row) => HeaderAt::Refused(row),
-        sample_names::HeaderRead::Samples(samples, at) => records_line(list, samples, at, names),
+    match sample_names::read_samples(list, names) {
+        Ok(lines) => records_line(list, lines.count, lines.next, names),
+        Err(LoadError::Refused(refusal)) => Err(refusal),
+        Err(LoadError::NoRoom) => Err(Refusal::Size),
     }
 }
 
 // ---- the record groups
 
-// Where the next record group begins, how many were read, and the contig and last position of the record before.
+// Where the next record group begins, how many were read, and the contig and last position of the record before, if there is one.
 #[derive(Clone, Copy)]
 pub struct ListCursor {
     pub next: usize,
     pub read: u32,
-    pub previous: Previous,
+    pub previous: Option<PreviousRecord>,
 }
 
 // Before the first record group.
@@ -73,65 +70,47 @@ pub fn first_group(header: ListHeader) -> ListCursor
     ListCursor {
         next: header.next,
         read: 0,
-        previous: Previous::None,
+        previous: None,
     }
 }
 
 // The last position of a record: END, or POS if END is missing.
-pub fn record_end(pos: GenomePosition, end: OptionalPosition) -> GenomePosition
+pub fn record_end(pos: GenomePosition, end: Option<GenomePosition>) -> GenomePosition
     ensures { result.0 ≡ get_or (end_option end) pos.0 }
 {
-    match end {
-        OptionalPosition::At(last) => last,
-        OptionalPosition::Missing => pos,
-    }
+    end.unwrap_or(pos)
 }
 
-// A record, and the cursor behind its group; or the list ends; or the row that refuses the group, 1 or 4 to 8.
-#[derive(Clone, Copy)]
-pub enum Stepped {
-    Record(RecordPlace, ListCursor),
-    End,
-    Refused(usize),
-}
-
-// The record group at a cursor. The table takes a row for each sample of the record, as list_reader::record_at says; it is zero after a
-// refusal, and as it was at the list's end.
+// The record group at a cursor: a record, and the cursor behind its group; or none, where the list ends; or the row that refuses the group,
+// 1 or 4 to 8. The table takes a row for each sample of the record, as list_reader::record_at says; it is zero after a refusal, and as it was
+// at the list's end.
 pub fn step(
     list: &[u8],
     header: ListHeader,
     cursor: ListCursor,
     rows: &mut [usize; 1408],
-) -> Stepped
+) -> Result<Option<(RecordPlace, ListCursor)>, Refusal>
     requires { header.samples ≤ max_samples }
     ensures { SteppedFrom list.now header cursor rows.old rows.new result }
 {
     let next = cursor.next;
     let read = cursor.read;
-    let previous = cursor.previous;
     if header.records <= read {
         if next < list.len() {
-            tables::clear(rows);
-            return Stepped::Refused(1);
+            slices::clear(rows, 0);
+            return Err(Refusal::Spelling);
         }
-        return Stepped::End;
+        return Ok(None);
     }
-    let found = list_reader::record_at(list, next, header.samples, previous, rows);
-    match found {
-        RecordAt::Refused(row) => Stepped::Refused(row),
-        RecordAt::Record(place) => {
-            let pos = place.pos;
-            let end = place.end;
-            let contig = place.contig;
-            let last = record_end(pos, end);
-            Stepped::Record(
-                place,
-                ListCursor {
-                    next: place.next,
-                    read: read + 1,
-                    previous: Previous::Last(contig, last),
-                },
-            )
-        }
-    }
+    let place = list_reader::record_at(list, next, header.samples, cursor.previous, rows)?;
+    let previous = PreviousRecord {
+        contig: place.contig,
+        end: record_end(place.pos, place.end),
+    };
+    let behind = ListCursor {
+        next: place.next,
+        read: read + 1,
+        previous: Some(previous),
+    };
+    Ok(Some((place, behind)))
 }
