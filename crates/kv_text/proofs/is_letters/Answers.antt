@@ -25,5 +25,5 @@ pub returns : goal.returns
 returns c =
     all_answer is_either c.args.s.now c.all.result
     (cases_from_all _ _ _ (Passes is_either) (Fails is_either) c.all.ensures.ran (YieldsList-from_slice c.args.s.now cc)
-     (λ x q k. search (rules, tests)) (λ x q k. search (rules, tests)))
+    (λ x q k. search (rules, tests)) (λ x q k. search (rules, tests)))
     ∙ sym (passed_start is_either c.args.most c.args.s.now c.if-s-lt1.false c.if-most-s.false) ∙ sym (are_letters _ _)

@@ -21,5 +21,5 @@ unfolding name
 returns c =
     all_answer is_name_byte c.args.s.now c.all.result
     (cases_from_all _ _ _ (Passes is_name_byte) (Fails is_name_byte) c.all.ensures.ran (YieldsList-from_slice c.args.s.now cc)
-     (λ x q k. search (rules, tests)) (λ x q k. search (rules, tests)))
+    (λ x q k. search (rules, tests)) (λ x q k. search (rules, tests)))
     ∙ sym (passed_start is_name_byte 32 c.args.s.now c.if-s-lt1.false c.if-s-gt32.false)

@@ -26,7 +26,7 @@ unfolding text
 returns-in_err-n c =
     rw c.from_residual-in_err-n.ensures
     (read_wrong _ _ _ (or_missing number) _ _ c.in_ok-value.ensures.0
-     (missing_none number _ (sym c.same_bytes.ensures ∙ c.if-same_bytes.false) (sym c.in_err-n.ensures)))
+    (missing_none number _ (sym c.same_bytes.ensures ∙ c.if-same_bytes.false) (sym c.in_err-n.ensures)))
 
 pub returns : goal.returns
 unfolding text

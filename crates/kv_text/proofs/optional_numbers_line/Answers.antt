@@ -20,7 +20,7 @@ pub returns-then-same_bytes : goal.returns-then-same_bytes
 unfolding text
 returns-then-same_bytes c = (
   read_right _ _ _ (or_missing number_list) _ _ _ c.in_ok-value.ensures.0
-  (missing_dot number_list _ (sym c.same_bytes.ensures ∙ c.if-same_bytes.true)),
+      (missing_dot number_list _ (sym c.same_bytes.ensures ∙ c.if-same_bytes.true)),
   tt,
   refl,
 )
@@ -34,7 +34,7 @@ returns-in_err-count c =
     let l = c.in_ok-value.ensures.0 in
     rw c.from_residual-in_err-count.ensures (
       read_wrong _ _ _ (or_missing number_list) _ _ l
-      (missing_none number_list _ (sym c.same_bytes.ensures ∙ c.if-same_bytes.false) c.in_err-count.ensures.0),
+          (missing_none number_list _ (sym c.same_bytes.ensures ∙ c.if-same_bytes.false) c.in_err-count.ensures.0),
       tt,
       rw (numbers_there _ _ _ _ _ l) c.in_err-count.ensures.1,
     )
@@ -45,7 +45,7 @@ returns c =
     let l = c.in_ok-value.ensures in
     let q = c.in_ok-count.ensures.0 in (
       read_right _ _ _ (or_missing number_list) _ _ _ l.0
-      (missing_some number_list _ _ (sym c.same_bytes.ensures ∙ c.if-same_bytes.false) q.0),
+          (missing_some number_list _ _ (sym c.same_bytes.ensures ∙ c.if-same_bytes.false) q.0),
       (l.1.forward, q.0, q.1),
       rw q.0 c.in_ok-count.ensures.1,
     )

@@ -36,8 +36,8 @@ pub returns-then-a-b : goal.returns-then-a-b
 returns-then-a-b c =
     all_answer alike (zip c.args.a.now c.args.b.now) c.all.result
     (cases_from_all c.all.new.self _ _ (Passes alike) (Fails alike) c.all.ensures.ran
-     (YieldsList-from_zip (YieldsList-from_slice c.args.a.now cc) (YieldsList-from_slice c.args.b.now cc))
-     (λ x q k. search (rules, tests)) (λ x q k. search (rules, tests)))
+    (YieldsList-from_zip (YieldsList-from_slice c.args.a.now cc) (YieldsList-from_slice c.args.b.now cc))
+    (λ x q k. search (rules, tests)) (λ x q k. search (rules, tests)))
     ∙ pairs _ _ c.if-a-b.true
 
 pub returns-else-a-b : goal.returns-else-a-b
