@@ -255,9 +255,9 @@ fn word_of(numbers: &[u32], j: usize) -> usize
     requires { j < 4611686018427387904 }
     ensures { result ≡ word_of numbers.now j }
 {
-    let low = slices::value_or(numbers, 2 * j, 0) as usize;
-    let high = slices::value_or(numbers, 2 * j + 1, 0) as usize;
-    low + high * 4294967296
+    let low = slices::value_or(numbers, 2 * j, 0);
+    let high = slices::value_or(numbers, 2 * j + 1, 0);
+    low as usize + high as usize * 4294967296
 }
 
 // Stores a list of numbers from the offset of its column on: how many they are, and two in each of so many columns behind it.

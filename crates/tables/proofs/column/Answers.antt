@@ -11,9 +11,6 @@ returns-then-site-ge-TOO_MANY_ROWS c = column_past c.args.k _ c.args.site (omega
 pub returns-then-k-ge-TOO_MANY_NUMBERS : goal.returns-then-k-ge-TOO_MANY_NUMBERS
 returns-then-k-ge-TOO_MANY_NUMBERS c = column_past c.args.k _ c.args.site (omega arith)
 
-pub returns-then-rows-at : goal.returns-then-rows-at
-returns-then-rows-at c = column_past c.args.k _ c.args.site (omega arith)
-
 pub returns : goal.returns
 unfolding column
-returns c = search rules
+returns c = c.value_or.ensures

@@ -1,12 +1,19 @@
 -- A missing or faulty list counts none.
-use borrow.Author.Rules.{rules}
+use Prim.Native.Nat.{ℕ}
+use lib.ListN.{length}
+use mathlib.Core.List.{List, []}
+use mathlib.Core.Option.{get_or}
+use mathlib.Core.Path.{◌∙◌, ◌≡◌}
+use Rattle.core.specs.Option.{unwrap_or}
+use Rattle.std.specs.Prelude.{None, Option, Some}
+use Rattle.definitions.specs.Numbers.{number_list}
 use Rattle.kv_text.specs.Fields.{numbers_read}
 use Rattle.tables.proofs.numbers_in.Goals as goal
 
-pub returns-in-Count : goal.returns-in-Count
+count_is : (read : Option ℕ) (s : List ℕ) (n : ℕ) → numbers_read read s → n ≡ unwrap_or read 0 → n ≡ length (get_or (number_list s) [])
 unfolding numbers_read
-returns-in-Count c = let h = rw (c.in-Count.is) at (c.read_numbers-numbers.ensures) in record { count = rw h.0.0 h.0.1; values = h.1 }
+count_is (Some m) s n h e = rw h.0 (e ∙ h.1)
+count_is None s n h e = rw h e
 
-pub returns-in-Fault : goal.returns-in-Fault
-unfolding numbers_read
-returns-in-Fault c = let h = rw (c.in-Fault.is) at (c.read_numbers-numbers.ensures) in record { count = rw h.0; values = h.1 }
+pub returns : goal.returns
+returns c = record { count = count_is c.read_numbers.result c.args.list.now _ c.read_numbers.ensures.0 c.unwrap_or.ensures; values = c.read_numbers.ensures.1 }

@@ -17,4 +17,4 @@ returns-then-k-ge-TOO_MANY_NUMBERS c = sym (get_d_past (c.args.rows.now) (90112 
 
 pub returns : goal.returns
 unfolding segment_column
-returns c = c.number_at.ensures
+returns c = c.value_or.ensures
