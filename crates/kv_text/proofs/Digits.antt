@@ -2,7 +2,7 @@
 use Prim.Native.Nat.{◌*◌, ◌+◌, ◌-◌, ◌<◌, ◌≤◌, ℕ}
 use borrow.Author.Tests.{le-leb, leb-true, lt-leb, ne_eqb}
 use lib.Dec.{leb}
-use mathlib.Core.Bool.{◌&&◌, and-false, and-true, false, not, true}
+use mathlib.Core.Bool.{◌&&◌, and-false, and-true, false, true}
 use mathlib.Core.List.{List, [], ◌∷◌, foldl}
 use mathlib.Core.Logic.{◌≢◌}
 use mathlib.Core.Option.{Option, none, some}

@@ -1,6 +1,5 @@
 -- The loop's invariant: what is counted, and the fields behind the one that ends here, are all.
-use Prim.Native.Nat.{◌+◌, ◌-◌, ◌<◌, ◌≤◌, ℕ}
-use borrow.Author.Rules.{rules}
+use Prim.Native.Nat.{◌+◌, ◌<◌, ◌≤◌, ℕ}
 use lib.ListN.{drop, length}
 use mathlib.Core.List.{List}
 use mathlib.Core.Path.{◌≡◌, ap}

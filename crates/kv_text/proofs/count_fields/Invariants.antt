@@ -1,12 +1,9 @@
 -- The loop's invariant: what is counted, and the fields behind the one that ends here, are all.
-use Prim.Native.Nat.{◌+◌, ◌-◌, ◌<◌, ◌≤◌, ℕ}
-use borrow.Author.Rules.{rules}
+use Prim.Native.Nat.{◌+◌, ◌-◌, ◌≤◌, ℕ}
 use lib.ListN.{drop, length}
 use mathlib.Core.List.{List}
-use mathlib.Core.Path.{◌≡◌, ap}
-use native.Mathlib.Omega.{arith}
+use mathlib.Core.Path.{◌≡◌}
 use Rattle.definitions.specs.Bytes.{fields_of}
-use Rattle.kv_text.proofs.Fields.{field_first, field_forward, field_last}
 use Rattle.kv_text.specs.Fields.{field_length}
 use Rattle.kv_text.proofs.count_fields.Given as goal
 

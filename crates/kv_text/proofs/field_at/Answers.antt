@@ -1,6 +1,5 @@
 -- The loop's invariant: the field that is looked for is the one with `left` before it of those from `at` on.
 use Prim.Native.Nat.{◌+◌, ◌-◌, ◌<◌, ◌≤◌, suc, ℕ}
-use borrow.Author.Rules.{rules}
 use lib.ListN.{drop, get_or, length, length-drop, length-take, take}
 use mathlib.Core.List.{List, [], ◌∷◌}
 use mathlib.Core.Path.{◌∙◌, ◌≡◌, ap, refl}

@@ -1,16 +1,10 @@
 -- The loop's invariant: the field that is looked for is the one with so many before it of those from `at` on as turns are left.
-use Prim.Native.Nat.{◌+◌, ◌-◌, ◌<◌, ◌≤◌, suc, ℕ}
-use borrow.Author.Rules.{rules}
-use lib.ListN.{drop, get_or, length, length-drop, length-take, take}
-use mathlib.Core.List.{List, [], ◌∷◌}
-use mathlib.Core.Path.{◌∙◌, ◌≡◌, ap, refl}
-use native.Mathlib.Decide.{dec_lt}
-use native.Mathlib.Nat.{zero-add}
-use native.Mathlib.Omega.{arith}
+use Prim.Native.Nat.{◌+◌, ◌-◌, ◌≤◌, ℕ}
+use lib.ListN.{drop, get_or, length, take}
+use mathlib.Core.List.{List, []}
+use mathlib.Core.Path.{◌≡◌}
 use Rattle.definitions.specs.Bytes.{fields_of}
-use Rattle.kv_text.proofs.Fields.{field_first, field_forward, field_last, field_within}
-use Rattle.kv_text.specs.Fields.{FieldFound, between, field_length, field_start, separated_length}
-use Rattle.std.specs.Prelude as std
+use Rattle.kv_text.specs.Fields.{field_length, field_start, separated_length}
 use Rattle.kv_text.proofs.field_at.Given as goal
 
 pub record Turn (s : List ℕ) (separator n left at end : ℕ) : Type 0 where

@@ -1,18 +1,18 @@
 -- `position` counts the bytes before the first separator.
-use Prim.Native.Nat.{◌+◌, ◌-◌, ◌<◌, ◌≤◌, ℕ}
+use Prim.Native.Nat.{◌-◌, ◌<◌, ℕ}
 use borrow.Author.Rules.{rules}
 use borrow.Author.Tests.{tests}
 use lib.ListN.{drop, drop_of_length-le, length, length-drop}
 use lib.Seq.{take_all}
 use mathlib.Core.List.{List}
 use mathlib.Core.Logic.{◌≢◌}
-use mathlib.Core.Path.{◌∙◌, ◌≡◌, refl, sym}
+use mathlib.Core.Path.{◌∙◌, ◌≡◌, sym}
 use native.Mathlib.Numerals.{add-one}
 use native.Mathlib.Omega.{arith}
 use Rattle.std.proofs.lemmas.Iterator.{IsFirst-from_position, YieldsList-from_slice, index_from_first}
 use Rattle.std.specs.List.{AllWithin, HoldsAt}
 use Rattle.std.specs.Option.{MatchOption, unwrap_or}
-use Rattle.std.specs.Prelude.{Option, None, Some}
+use Rattle.std.specs.Prelude.{Option}
 use Rattle.kv_text.proofs.Fields.{field_more, field_none, field_stop}
 use Rattle.kv_text.specs.Fields.{field_length}
 use Rattle.kv_text.proofs.field_end.Goals as goal

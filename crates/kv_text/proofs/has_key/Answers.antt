@@ -4,7 +4,7 @@ use lib.ListN.{length, take}
 use lib.Dec.{eqb}
 use mathlib.Core.Bool.{Bool, ◌&&◌, cond, false, true}
 use mathlib.Core.List.{List, [], ◌∷◌}
-use mathlib.Core.Option.{Option, none}
+use mathlib.Core.Option.{none}
 use mathlib.Core.Path.{◌∙◌, ◌≡◌, refl}
 use Rattle.std.specs.Str.{bytes_eq}
 use Rattle.definitions.specs.Bytes.{strip_prefix}

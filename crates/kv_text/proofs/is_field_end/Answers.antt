@@ -1,6 +1,5 @@
 -- The field at an offset is empty where a comma or nothing stands.
 use Prim.Native.Nat.{◌<◌, ◌≤◌, suc, ℕ}
-use borrow.Author.Rules.{rules}
 use borrow.Author.Tests.{eq-eqb, ne_eqb}
 use lib.Dec.{eqb}
 use lib.ListN.{drop, drop_of_length-le, get_or, length}

@@ -5,7 +5,6 @@ use mathlib.Core.Bool.{true}
 use mathlib.Core.List.{List}
 use mathlib.Core.Option.{some}
 use mathlib.Core.Path.{◌∙◌, ◌≡◌, sym}
-use native.Mathlib.Omega.{arith}
 use Rattle.definitions.specs.Lists.{is_there}
 use Rattle.definitions.specs.Numbers.{name}
 use Rattle.laws.proofs.Tests.{not_there, only_if_there}

@@ -1,6 +1,5 @@
 -- `*` and `<NON_REF>` by their spelling, else letters.
 use Prim.Native.Nat.{ℕ}
-use borrow.Author.Rules.{rules}
 use mathlib.Core.Bool.{false, true}
 use mathlib.Core.List.{List, map}
 use mathlib.Core.Option.{none, some}

@@ -1,7 +1,6 @@
 -- The loop's invariant: the field's number is that of its bytes left, after the number so far, and the field ends where they do.
 use Prim.Native.Nat.{◌*◌, ◌+◌, ◌-◌, ◌<◌, ◌≤◌, ℕ}
-use borrow.Author.Rules.{rules}
-use borrow.Author.Tests.{eqb-false, eqb-true, not-false, not-true}
+use borrow.Author.Tests.{eqb-false, eqb-true}
 use lib.ListN.{drop, drop_of_length-le, get_or, length}
 use lib.Seq.{drop-cons}
 use mathlib.Core.Bool.{false, true}
@@ -14,7 +13,7 @@ use native.Mathlib.Numerals.{add-one}
 use native.Mathlib.Omega.{arith}
 use Rattle.definitions.specs.Bytes.{comma}
 use Rattle.definitions.specs.Numbers.{is_digit, number}
-use Rattle.kv_text.proofs.Digits.{digit_is, number_digit, number_leading_zero, number_none, number_other, number_zero, rest_digit, rest_none, rest_other, rest_too_great, rest_from}
+use Rattle.kv_text.proofs.Digits.{digit_is, number_digit, number_leading_zero, number_none, number_other, number_zero, rest_digit, rest_none, rest_other, rest_too_great}
 use Rattle.kv_text.proofs.Fields.{field_more, field_none, field_stop, first_more, first_none, first_stop}
 use Rattle.kv_text.specs.Fields.{digits_read, field_length, first_field}
 use Rattle.std.specs.Prelude as std

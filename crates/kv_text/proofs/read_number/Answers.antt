@@ -1,6 +1,5 @@
 -- A text with a comma is no number, and one without is its own first field.
 use Prim.Native.Nat.{◌<◌, ◌≤◌, ℕ}
-use borrow.Author.Rules.{rules}
 use lib.ListN.{length}
 use mathlib.Core.Bool.{and-false, false}
 use mathlib.Core.List.{List, [], ◌∷◌}
@@ -12,8 +11,7 @@ use Rattle.definitions.specs.Bytes.{comma}
 use Rattle.definitions.specs.Lists.{all_of, only_if}
 use Rattle.definitions.specs.Numbers.{is_digit, number}
 use Rattle.kv_text.proofs.Fields.{field_more, first_whole}
-use Rattle.kv_text.specs.Fields.{digits_read, field_length, first_field}
-use Rattle.answers.specs.Options.{option_of}
+use Rattle.kv_text.specs.Fields.{digits_read, field_length}
 use Rattle.std.specs.Prelude.{None, Some}
 use Rattle.kv_text.proofs.read_number.Goals as goal
 

@@ -1,17 +1,16 @@
 -- The loop's invariant: storing the first numbers from here on gives what storing all of them was to give.
 use Prim.Native.Nat.{◌+◌, ◌-◌, ◌<◌, ◌≤◌, ℕ}
-use borrow.Author.Rules.{rules}
 use lib.ListN.{drop, length, set}
 use lib.Seq.{sets}
 use mathlib.Core.List.{List, [], ◌∷◌}
-use mathlib.Core.Option.{none, some}
+use mathlib.Core.Option.{some}
 use mathlib.Core.Path.{◌∙◌, ◌≡◌, ap, refl, sym}
 use native.Mathlib.Numerals.{add-one}
 use native.Mathlib.Omega.{arith}
 use Rattle.definitions.specs.Bytes.{comma, fields_of}
 use Rattle.definitions.specs.Numbers.{number, number_list}
 use Rattle.kv_text.proofs.Fields.{field_first, field_forward, field_last, first_between, first_of}
-use Rattle.kv_text.proofs.Numbers.{all_fault, all_later_fault, all_number, all_nothing, all_numbers, first_fault, first_number}
+use Rattle.kv_text.proofs.Numbers.{all_fault, all_later_fault, all_number, all_nothing, first_fault, first_number}
 use Rattle.kv_text.specs.Fields.{between, digits_read, field_length, first_numbers, numbers_read}
 use Rattle.std.specs.Prelude as std
 use Rattle.kv_text.proofs.read_numbers.Invariants.{Turn, from}

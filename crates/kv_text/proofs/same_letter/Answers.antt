@@ -1,5 +1,4 @@
 -- Equal bytes have one capital.
-use borrow.Author.Rules.{rules}
 use borrow.Author.Tests.{eq-eqb}
 use lib.Dec.{eqb}
 use mathlib.Core.Path.{ap, ap₂, sym}

@@ -1,7 +1,5 @@
 -- The line at the offset is the first of the lines there.
-use Prim.Native.Nat.{◌+◌, ◌-◌, ◌<◌, ℕ}
-use borrow.Author.Rules.{rules}
-use borrow.Author.Tests.{not-false, not-true}
+use Prim.Native.Nat.{◌+◌, ◌<◌, ℕ}
 use lib.ListN.{drop, length}
 use mathlib.Core.Bool.{true}
 use mathlib.Core.List.{List}
