@@ -13,15 +13,15 @@ loop-at-init c = left_start span_of _
 
 pub returns-in_default : goal.returns-in_default
 unfolding SpanRead
-returns-in_default c = left_faulty span_of _ _ c.loop-at.invariant (rw c.in_default.is at c.span_at-group.ensures) c.loop-at-test.true
+returns-in_default c = left_faulty span_of _ _ c.loop-at.invariant c.in_default.ensures c.loop-at-test.true
 
 pub loop-at-smaller : goal.loop-at-smaller
 unfolding SpanRead
-loop-at-smaller c = let g = rw c.in-Span.is at c.span_at-group.ensures in omega (arith, g.0.forward, g.0.within)
+loop-at-smaller c = let g = c.in-Some.ensures.0 in omega (arith, g.forward, g.within)
 
 pub loop-at-preserved : goal.loop-at-preserved
 unfolding SpanRead
-loop-at-preserved c = let g = rw c.in-Span.is at c.span_at-group.ensures in left_next span_of _ _ c.loop-at.invariant _ _ g.0
+loop-at-preserved c = left_next span_of _ _ c.loop-at.invariant _ _ c.in-Some.ensures.0
 
 pub returns : goal.returns
 returns c = left_end span_of _ _ c.loop-at.invariant c.loop-at-test.false

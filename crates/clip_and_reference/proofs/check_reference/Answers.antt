@@ -13,15 +13,15 @@ loop-at-init c = left_start segment_of _
 
 pub returns-in_default : goal.returns-in_default
 unfolding SegmentRead
-returns-in_default c = left_faulty segment_of _ _ c.loop-at.invariant (rw c.in_default.is at c.segment_at-group.ensures) c.loop-at-test.true
+returns-in_default c = left_faulty segment_of _ _ c.loop-at.invariant c.in_default.ensures c.loop-at-test.true
 
 pub loop-at-smaller : goal.loop-at-smaller
 unfolding SegmentRead
-loop-at-smaller c = let g = rw c.in-Segment.is at c.segment_at-group.ensures in omega (arith, g.0.forward, g.0.within)
+loop-at-smaller c = let g = c.in-Some.ensures.0 in omega (arith, g.forward, g.within)
 
 pub loop-at-preserved : goal.loop-at-preserved
 unfolding SegmentRead
-loop-at-preserved c = let g = rw c.in-Segment.is at c.segment_at-group.ensures in left_next segment_of _ _ c.loop-at.invariant _ _ g.0
+loop-at-preserved c = left_next segment_of _ _ c.loop-at.invariant _ _ c.in-Some.ensures.0
 
 pub returns : goal.returns
 returns c = left_end segment_of _ _ c.loop-at.invariant c.loop-at-test.false

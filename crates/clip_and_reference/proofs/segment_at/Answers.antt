@@ -40,58 +40,55 @@ module _ (s : List ℕ) (at : ℕ) (key : List ℕ) (a e : ℕ) (l : LineReads s
   unfolding max_number
   not-past first k = omega (arith, long)
 
-pub returns-in_default : goal.returns-in_default
+pub returns-in_err-contig : goal.returns-in_err-contig
 unfolding key_of text SegmentRead segment_of three_lines
-returns-in_default c = first_unread reference_group _ _ (rw c.in_default.is at c.name_line-name.ensures).0
+returns-in_err-contig c = rw c.from_residual.ensures (first_unread reference_group _ _ c.in_err-contig.ensures.0)
 
-pub overflow_add-contig_end : goal.overflow_add-contig_end
-overflow_add-contig_end c = let l = rw c.in-At.is at c.name_line-name.ensures in omega (arith, line_within _ _ _ name _ _ l.0)
+pub overflow_add-contig : goal.overflow_add-contig
+overflow_add-contig c = omega (arith, line_within _ _ _ name _ _ c.in_ok-contig.ensures.0)
 
-pub returns-in_default-from : goal.returns-in_default-from
+pub returns-in_err-number : goal.returns-in_err-number
 unfolding key_of text SegmentRead segment_of three_lines
-returns-in_default-from c = let l = rw c.in-At.is at c.name_line-name.ensures in
-    second_unread reference_group _ _ _ _ l.0 (rw c.in_default-from.is at c.number_line-from.ensures)
+returns-in_err-number c =
+    rw c.from_residual-in_err-number.ensures (second_unread reference_group _ _ _ _ c.in_ok-contig.ensures.0 c.in_err-number.ensures)
 
 pub overflow_add-first_end : goal.overflow_add-first_end
-overflow_add-first_end c = let m = rw c.in-Found.is at c.number_line-from.ensures in omega (arith, line_within _ _ _ number _ _ m)
+overflow_add-first_end c = omega (arith, line_within _ _ _ number _ _ c.in_ok-number.ensures)
 
-pub returns-in_default-letters : goal.returns-in_default-letters
+pub returns-in_err-bases : goal.returns-in_err-bases
 unfolding key_of text SegmentRead segment_of three_lines
-returns-in_default-letters c = let l = rw c.in-At.is at c.name_line-name.ensures in
-    let m = rw c.in-Found.is at c.number_line-from.ensures in
-    third_unread reference_group _ _ _ _ l.0 _ _ m (rw c.in_default-letters.is at c.letters_line-letters.ensures).0
+returns-in_err-bases c =
+    rw c.from_residual-in_err-bases.ensures
+    (third_unread reference_group _ _ _ _ c.in_ok-contig.ensures.0 _ _ c.in_ok-number.ensures c.in_err-bases.ensures.0)
 
 pub returns-then-number-lt1 : goal.returns-then-number-lt1
 unfolding key_of text SegmentRead segment_of three_lines
-returns-then-number-lt1 c = let l = rw c.in-At.is at c.name_line-name.ensures in
-    let m = rw c.in-Found.is at c.number_line-from.ensures in
-    let n = rw c.in-At-letters.is at c.letters_line-letters.ensures in
-    number_zero reference_group _ _ _ _ l.0 _ _ m _ _ n.0 (omega (arith, c.if-number-lt1.true))
-
-pub overflow_sub-bases_end : goal.overflow_sub-bases_end
-overflow_sub-bases_end c = let n = rw c.in-At-letters.is at c.letters_line-letters.ensures in omega (arith, n.1)
+returns-then-number-lt1 c =
+    number_zero reference_group _ _ _ _ c.in_ok-contig.ensures.0 _ _ c.in_ok-number.ensures _ _ c.in_ok-bases.ensures.0
+    (omega (arith, c.if-number-lt1.true))
 
 pub overflow_add-number : goal.overflow_add-number
-overflow_add-number c = let n = rw c.in-At-letters.is at c.letters_line-letters.ensures in omega (arith, few _ _ _ _ _ n.0 n.1.forward)
+overflow_add-number c = let n = c.in_ok-bases.ensures in omega (arith, few _ _ _ _ _ n.0 n.1.forward)
 
-pub returns-then-number-bases_end-gt2147483648 : goal.returns-then-number-bases_end-gt2147483648
+pub returns-then-number-bases-gt2147483648 : goal.returns-then-number-bases-gt2147483648
 unfolding key_of text SegmentRead segment_of three_lines
-returns-then-number-bases_end-gt2147483648 c = let l = rw c.in-At.is at c.name_line-name.ensures in
-    let m = rw c.in-Found.is at c.number_line-from.ensures in
-    let n = rw c.in-At-letters.is at c.letters_line-letters.ensures in
-    out_of_order reference_group _ _ _ _ l.0 _ _ m _ _ n.0 (past_the_end _ _ _ _ _ n.0 n.1.forward _ (omega (arith, c.if-number-bases_end-gt2147483648.true)))
+returns-then-number-bases-gt2147483648 c =
+    let n = c.in_ok-bases.ensures in
+    out_of_order reference_group _ _ _ _ c.in_ok-contig.ensures.0 _ _ c.in_ok-number.ensures _ _ n.0
+    (past_the_end _ _ _ _ _ n.0 n.1.forward _ (omega (arith, c.if-number-bases-gt2147483648.true)))
 
 pub overflow_add-next : goal.overflow_add-next
-overflow_add-next c = let n = rw c.in-At-letters.is at c.letters_line-letters.ensures in
-    omega (arith, line_within _ _ _ (letters_of max_number) _ _ n.0)
+overflow_add-next c = omega (arith, line_within _ _ _ (letters_of max_number) _ _ c.in_ok-bases.ensures.0)
 
 pub returns : goal.returns
 unfolding key_of text SegmentRead segment_of three_lines
-returns c = let l = rw c.in-At.is at c.name_line-name.ensures in
-    let m = rw c.in-Found.is at c.number_line-from.ensures in
-    let n = rw c.in-At-letters.is at c.letters_line-letters.ensures in
-    let read = group_read reference_group _ _ _ _ l.0 _ _ m _ _ n.0 (omega (arith, c.if-number-lt1.false))
-    (not-past _ _ _ _ _ n.0 n.1.forward _ (omega (arith, c.if-number-bases_end-gt2147483648.false))) in (
+returns c =
+    let l = c.in_ok-contig.ensures in
+    let m = c.in_ok-number.ensures in
+    let n = c.in_ok-bases.ensures in
+    let read =
+    group_read reference_group _ _ _ _ l.0 _ _ m _ _ n.0 (omega (arith, c.if-number-lt1.false))
+    (not-past _ _ _ _ _ n.0 n.1.forward _ (omega (arith, c.if-number-bases-gt2147483648.false))) in (
       rw c.new_1based-first.ensures read,
       part_read _ _ _ name _ _ _ l.0 l.1,
       rw (← third_start reference_group _ _ _ _ l.0 _ _ m) (part_read _ _ _ (letters_of max_number) _ _ _ n.0 n.1),
