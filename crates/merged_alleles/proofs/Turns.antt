@@ -1,14 +1,16 @@
 -- What the functions that lay letter ALTs do to the list: one candidate, the fields of a site, the sites.
 use Prim.Native.Nat.{◌+◌, ◌-◌, ◌<◌, ◌≤◌, suc, ℕ}
+use denote.Ref.{Bor}
 use lib.Dec.{eqb}
 use lib.ListN.{drop, get_or, length, length-append, length-drop, length-map, length-take, take}
-use lib.Seq.{drop_at, take_all, take-suc, take-take}
+use lib.Seq.{drop_at, drop-cons, take_all, take-take}
 use mathlib.Core.Bool.{Bool, cond, false, true}
-use mathlib.Core.List.{List, [], ◌++◌, ◌∷◌, append_assoc, flat_map, foldl-append, map, reverse, reverse-append}
+use mathlib.Core.List.{List, [], ◌++◌, ◌∷◌, append_assoc, append-nil, flat_map, foldl-append, map, map-append}
 use mathlib.Core.Path.{◌∙◌, ◌≡◌, ap, refl, subst, sym}
 use native.Mathlib.Decide.{dec_lt}
 use native.Mathlib.Nat.{min-eq_left}
 use native.Mathlib.Omega.{arith}
+use Rattle.std.proofs.lemmas.List.{take-append-drop}
 use Rattle.definitions.specs.Alleles.{capital, non_ref, span_del, spelled}
 use Rattle.definitions.specs.Bytes.{comma, fields_of, same_bytes}
 use Rattle.definitions.specs.Limits.{max_site_letters}
@@ -20,12 +22,16 @@ use Rattle.kv_write.specs.Laid.{Laid}
 use Rattle.laws.proofs.Capitals.{comma_no_letter, free_capitals}
 use Rattle.laws.proofs.Every.{Every, every_append, every_drop, every_uncons}
 use Rattle.laws.proofs.Fields.{Free}
+use Rattle.laws.proofs.Members.{flat_map_append}
 use Rattle.tables.specs.Tables.{column, part_at}
 use Rattle.merged_alleles.proofs.Adding.{add_fresh, add_old, none_removed}
 use Rattle.merged_alleles.proofs.Listing.{added_too, inside, laid_behind, listed_before, listed_behind, listed_same, not_added}
-use Rattle.merged_alleles.specs.Alts.{Added, Listed, add_all, add_new, comma_behind, extended_letters, listed, site_letters}
+use Rattle.merged_alleles.specs.Alts.{Listed, add_all, add_new, comma_behind, extended_letters, listed, site_letters}
 use Rattle.merged_alleles.specs.SoundSites.{ShortField}
-use Rattle.merged_alleles.specs.declared.AltsAt.TheVariants.{Alts, TooMany}
+
+-- these ALTs were added behind others, and the list is so long
+abbrev pub AddedTo : List (List ℕ) → List (List ℕ) → List ℕ → ℕ → ℕ → Type 0
+AddedTo alts fs d len n = Listed d len n × (listed d len n ≡ add_all alts fs)
 
 -- ---- a candidate
 
@@ -83,26 +89,22 @@ module _ {d d₁ d₂ d₃ : List ℕ} {len n from middle next : ℕ} (h : Liste
     among = ap (λ (x : List ℕ). any_of (same_bytes x) (listed d len n)) (sym candidate)
         ∙ ap (any_of (same_bytes (drop from (take next d₃)))) (sym the_list) ∙ sym test
 
-    pub adds_old : b ≡ true → Added (listed d len n) (alt ∷ []) d₃ (Alts len n)
-    unfolding Added
+    pub adds_old : b ≡ true → AddedTo (listed d len n) (alt ∷ []) d₃ len n
     adds_old t = (not_added h alt all_laid alt_short, listed_before h alt all_laid alt_short ∙ sym (add_old (listed d len n) alt (among ∙ t)))
 
-    pub adds_fresh : b ≡ false → n < 14 → Added (listed d len n) (alt ∷ []) d₃ (Alts next (n + 1))
-    unfolding Added
+    pub adds_fresh : b ≡ false → n < 14 → AddedTo (listed d len n) (alt ∷ []) d₃ next (n + 1)
     adds_fresh t few = (
       added_too h alt all_laid alt_short alt_free few,
       listed_behind h alt all_laid alt_short alt_free ∙ sym (add_fresh (listed d len n) alt (among ∙ t)),
     )
 
-    pub adds_no_more : b ≡ false → 14 ≤ n → Added (listed d len n) (alt ∷ []) d₃ TooMany
-    unfolding Added
+    pub adds_no_more : b ≡ false → 14 ≤ n → 14 < length (add_all (listed d len n) (alt ∷ []))
     adds_no_more t many =
         rw (add_fresh (listed d len n) alt (among ∙ t)) (omega (arith, length-append (listed d len n) (alt ∷ []), h.count))
 
 -- ---- a field
 
-pub adds_nothing : {d : List ℕ} {len n : ℕ} → Listed d len n → Added (listed d len n) [] d (Alts len n)
-unfolding Added
+pub adds_nothing : {d : List ℕ} {len n : ℕ} → Listed d len n → AddedTo (listed d len n) [] d len n
 adds_nothing h = (h, refl)
 
 module _ (end f : List ℕ) where
@@ -176,9 +178,8 @@ module _ (list end : List ℕ) (whole : List (List ℕ)) where
         already_too_many (listed d len n) (extended_letters end (between list at stop)) (flat_map (extended_letters end) fs) whole
         (from_here fs e) many
 
-    module _ {d' : List ℕ} {len' n' : ℕ} (added : Added (listed d len n) (extended_letters end (between list at stop)) d' (Alts len' n')) where
+    module _ {d' : List ℕ} {len' n' : ℕ} (added : AddedTo (listed d len n) (extended_letters end (between list at stop)) d' len' n') where
       pub fields_more : stop < length list → length d' ≡ length d → FieldsLeft d₀ d' len' n' (stop + 1)
-      unfolding Added
       fields_more l sized = record {
         listing = added.0;
         within = omega arith;
@@ -189,7 +190,7 @@ module _ (list end : List ℕ) (whole : List (List ℕ)) where
       }
 
       pub fields_done : length list ≤ stop → Listed d' len' n' × (listed d' len' n' ≡ whole)
-      unfolding Added flat_map
+      unfolding flat_map
       fields_done l = (
         added.0,
         more_left (listed d len n) (extended_letters end (between list at stop)) [] whole
@@ -221,58 +222,42 @@ module _ (s rows ref : List ℕ) (position site : ℕ) where
 
 -- ---- the sites, last sample first
 
-module _ (s rows ref : List ℕ) (position : ℕ) (found : List ℕ) (whole : List (List ℕ)) where
+-- those that were yielded, by their numbers
+abbrev pub seen : List (Bor ℕ) → List ℕ
+seen = map (λ y. y.now)
+
+pub none_added : (d : List ℕ) → 4096 ≤ length d → AddedTo [] [] d 0 0
+unfolding listed
+none_added d room = (record { room = room; few = omega arith; small = omega arith; count = refl }, refl)
+
+module _ (s rows ref : List ℕ) (position : ℕ) (ys : List (Bor ℕ)) (x : Bor ℕ) {d : List ℕ} {len n : ℕ}
+    (so_far : AddedTo [] (flat_map (site_letters s rows ref position) (seen ys)) d len n) where
   abbrev letters : ℕ → List (List ℕ)
   letters = site_letters s rows ref position
 
-  pub record SitesLeft (d₀ d : List ℕ) (len n left : ℕ) : Type 0 where
-    pub listing : Listed d len n
-    pub within : left ≤ length found
-    pub same : add_all (listed d len n) (flat_map letters (reverse (take left found))) ≡ whole
-    pub sized : length d ≡ length d₀
+  from_first : (rest : List (List ℕ)) → add_all (listed d len n) rest ≡ add_all [] (flat_map letters (seen ys) ++ rest)
+  from_first rest = ap (λ (l : List (List ℕ)). add_all l rest) so_far.1 ∙ sym (foldl-append add_new [] (flat_map letters (seen ys)) rest)
 
-  module _ {d₀ d : List ℕ} {len n left : ℕ} (sites : SitesLeft d₀ d len n left) (some : 0 < left) where
-    abbrev site : ℕ
-    site = get_or found (left - 1) 0
-
-    last_first : reverse (take left found) ≡ site ∷ reverse (take (left - 1) found)
-    last_first =
-        ap (λ (k : ℕ). reverse (take k found)) (let z : left ≡ suc (left - 1) = omega arith in z)
-        ∙ ap reverse (take-suc found (left - 1) 0 (omega (arith, sites.within)))
-        ∙ reverse-append (take (left - 1) found) (site ∷ [])
-
-    from_last : add_all (listed d len n) (letters site ++ flat_map letters (reverse (take (left - 1) found))) ≡ whole
-    unfolding flat_map
-    from_last = ap (λ (l : List ℕ). add_all (listed d len n) (flat_map letters l)) (sym last_first) ∙ sites.same
-
-    pub sites_too_many : 14 < length (add_all (listed d len n) (letters site)) → 14 < length whole
-    sites_too_many =
-        already_too_many (listed d len n) (letters site) (flat_map letters (reverse (take (left - 1) found))) whole from_last
-
-    pub sites_more : {d' : List ℕ} {len' n' : ℕ} → Added (listed d len n) (letters site) d' (Alts len' n') → length d' ≡ length d
-        → SitesLeft d₀ d' len' n' (left - 1)
-    unfolding Added
-    sites_more added sized = record {
-      listing = added.0;
-      within = omega (arith, sites.within);
-      same = more_left (listed d len n) (letters site) (flat_map letters (reverse (take (left - 1) found))) whole from_last added.1;
-      sized = sized ∙ sites.sized;
-    }
-
-  pub sites_done : {d₀ d : List ℕ} {len n left : ℕ} → SitesLeft d₀ d len n left → left ≤ 0
-      → Listed d len n × (listed d len n ≡ whole)
+  one_more : flat_map letters (seen (ys ++ (x ∷ []))) ≡ flat_map letters (seen ys) ++ letters x.now
   unfolding flat_map
-  sites_done {d = d} {len = len} {n = n} {left = left} sites none = (
-    sites.listing,
-    ap (λ (k : ℕ). add_all (listed d len n) (flat_map letters (reverse (take k found)))) (let z : 0 ≡ left = omega arith in z) ∙ sites.same,
-  )
+  one_more =
+      ap (flat_map letters) (map-append (λ (y : Bor ℕ). y.now) ys (x ∷ []))
+      ∙ flat_map_append letters (seen ys) (x.now ∷ [])
+      ∙ ap (λ (l : List (List ℕ)). flat_map letters (seen ys) ++ l) (append-nil (letters x.now))
 
-pub sites_start : (s rows ref : List ℕ) (position : ℕ) (found d : List ℕ) → 4096 ≤ length d
-    → SitesLeft s rows ref position found (add_all [] (flat_map (site_letters s rows ref position) (reverse found))) d d 0 0 (length found)
-unfolding listed
-sites_start s rows ref position found d room = record {
-  listing = record { room = room; few = omega arith; small = omega arith; count = refl };
-  within = omega arith;
-  same = ap (λ (l : List ℕ). add_all [] (flat_map (site_letters s rows ref position) (reverse l))) (take_all (length found) found (omega arith));
-  sized = refl;
-}
+  pub sites_more : {d' : List ℕ} {len' n' : ℕ} → AddedTo (listed d len n) (letters x.now) d' len' n'
+      → AddedTo [] (flat_map letters (seen (ys ++ (x ∷ [])))) d' len' n'
+  sites_more added = (added.0, rw one_more (added.1 ∙ from_first (letters x.now)))
+
+  pub sites_too_many : {all : List ℕ} → seen ys ≡ take (length ys) all → length ys < length all → x.now ≡ get_or all (length ys) x.now
+      → 14 < length (add_all (listed d len n) (letters x.now)) → 14 < length (add_all [] (flat_map letters all))
+  unfolding flat_map
+  sites_too_many {all} before below this many =
+      let rest = flat_map letters (drop (suc (length ys)) all) in
+      let parts : all ≡ seen ys ++ (x.now ∷ drop (suc (length ys)) all) =
+      sym (take-append-drop (length ys) all)
+      ∙ rw (← before, drop-cons all (length ys) x.now below, ← this) in
+      let whole : add_all [] (flat_map letters (seen ys) ++ (letters x.now ++ rest)) ≡ add_all [] (flat_map letters all) =
+      ap (add_all []) (sym (ap (flat_map letters) parts ∙ flat_map_append letters (seen ys) (x.now ∷ drop (suc (length ys)) all))) in
+      already_too_many (listed d len n) (letters x.now) rest (add_all [] (flat_map letters all))
+      (from_first (letters x.now ++ rest) ∙ whole) many

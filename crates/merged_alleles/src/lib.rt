@@ -63,19 +63,18 @@ fn add_allele(field: &[u8], end: &[u8], alts: &mut [u8], so_far: AltList) -> Opt
         ((map capital field.now ++ map capital end.now) ∷ [])
         alts.new result }
 {
-    let AltList { len, count } = so_far;
-    let from = put_comma(alts, len, count);
+    let from = put_comma(alts, so_far.len, so_far.count);
     let middle = kv_write::put_letters(alts, from, field);
     let next = kv_write::put_letters(alts, middle, end);
-    if is_listed(&alts[..next], len, count, from) {
+    if is_listed(&alts[..next], so_far.len, so_far.count, from) {
         return Some(so_far);
     }
-    if 14 <= count {
+    if 14 <= so_far.count {
         return None;
     }
     Some(AltList {
         len: next,
-        count: count + 1,
+        count: so_far.count + 1,
     })
 }
 
@@ -197,22 +196,21 @@ fn put_ends(alts: &mut [u8], letters: AltList, shown: bool) -> Option<AltList>
     requires { Listed alts.old letters.len letters.count }
     ensures { AltsLaid (with_ends (listed alts.old letters.len letters.count) shown) alts.new result }
 {
-    let AltList { len, count } = letters;
     if !shown {
-        let last = put_alt(alts, len, count, b"<NON_REF>");
+        let last = put_alt(alts, letters.len, letters.count, b"<NON_REF>");
         return Some(AltList {
             len: last,
-            count: count + 1,
+            count: letters.count + 1,
         });
     }
-    if 14 <= count {
+    if 14 <= letters.count {
         return None;
     }
-    let next = put_alt(alts, len, count, b"*");
-    let last = put_alt(alts, next, count + 1, b"<NON_REF>");
+    let next = put_alt(alts, letters.len, letters.count, b"*");
+    let last = put_alt(alts, next, letters.count + 1, b"<NON_REF>");
     Some(AltList {
         len: last,
-        count: count + 2,
+        count: letters.count + 2,
     })
 }
 

@@ -3,16 +3,17 @@ use borrow.Author.Rules.{rules}
 use native.Mathlib.Omega.{arith}
 use Rattle.merged_alleles.proofs.Listing.{comma_short}
 use Rattle.merged_alleles.proofs.Turns.{adds_fresh, adds_no_more, adds_old, from_before, list_before, next_length, next_within, short_capitals}
+use Rattle.merged_alleles.specs.Alts.{Added}
 use Rattle.merged_alleles.proofs.add_allele.Goals as goal
 
 pub put_comma-from-requires : goal.put_comma-from-requires
 put_comma-from-requires c = omega (arith, c.requires.0.small, c.requires.0.few)
 
 pub put_letters-middle-requires : goal.put_letters-middle-requires
-put_letters-middle-requires c = omega (arith, c.put_comma-from.ensures.next, comma_short c.args.n, c.requires.0.small, c.requires.0.few, (short_capitals c.requires.1).short)
+put_letters-middle-requires c = omega (arith, c.put_comma-from.ensures.next, comma_short c.args.so_far.count, c.requires.0.small, c.requires.0.few, (short_capitals c.requires.1).short)
 
 pub put_letters-next-requires : goal.put_letters-next-requires
-put_letters-next-requires c = omega (arith, c.put_comma-from.ensures.next, c.put_letters-middle.ensures.next, comma_short c.args.n, c.requires.0.small, c.requires.0.few, (short_capitals c.requires.1).short, (short_capitals c.requires.2).short)
+put_letters-next-requires c = omega (arith, c.put_comma-from.ensures.next, c.put_letters-middle.ensures.next, comma_short c.args.so_far.count, c.requires.0.small, c.requires.0.few, (short_capitals c.requires.1).short, (short_capitals c.requires.2).short)
 
 pub slice_bounds-is_listed-end : goal.slice_bounds-is_listed-end
 slice_bounds-is_listed-end c = next_within (c.requires.0) _ _ ((short_capitals c.requires.1)) ((short_capitals c.requires.2)) (c.put_comma-from.ensures) (c.put_letters-middle.ensures) (c.put_letters-next.ensures)
@@ -25,10 +26,13 @@ is_listed-requires c = let long = next_length (c.requires.0) _ _ ((short_capital
     (rw (← long) (list_before (c.requires.0) _ _ ((short_capitals c.requires.1)) ((short_capitals c.requires.2)) (c.put_comma-from.ensures) (c.put_letters-middle.ensures) (c.put_letters-next.ensures)), rw (← long) (from_before (c.requires.0) _ _ ((short_capitals c.requires.1)) ((short_capitals c.requires.2)) (c.put_comma-from.ensures) (c.put_letters-middle.ensures) (c.put_letters-next.ensures)))
 
 pub returns-then-is_listed : goal.returns-then-is_listed
+unfolding Added
 returns-then-is_listed c = adds_old (c.requires.0) _ _ ((short_capitals c.requires.1)) ((short_capitals c.requires.2)) (c.put_comma-from.ensures) (c.put_letters-middle.ensures) (c.put_letters-next.ensures) (c.is_listed.ensures) c.if-is_listed.true
 
-pub returns-then-n-ge14 : goal.returns-then-n-ge14
-returns-then-n-ge14 c = adds_no_more (c.requires.0) _ _ ((short_capitals c.requires.1)) ((short_capitals c.requires.2)) (c.put_comma-from.ensures) (c.put_letters-middle.ensures) (c.put_letters-next.ensures) (c.is_listed.ensures) c.if-is_listed.false c.if-n-ge14.true
+pub returns-then-count-ge14 : goal.returns-then-count-ge14
+unfolding Added
+returns-then-count-ge14 c = adds_no_more (c.requires.0) _ _ ((short_capitals c.requires.1)) ((short_capitals c.requires.2)) (c.put_comma-from.ensures) (c.put_letters-middle.ensures) (c.put_letters-next.ensures) (c.is_listed.ensures) c.if-is_listed.false c.if-count-ge14.true
 
 pub returns : goal.returns
-returns c = adds_fresh (c.requires.0) _ _ ((short_capitals c.requires.1)) ((short_capitals c.requires.2)) (c.put_comma-from.ensures) (c.put_letters-middle.ensures) (c.put_letters-next.ensures) (c.is_listed.ensures) c.if-is_listed.false c.if-n-ge14.false
+unfolding Added
+returns c = adds_fresh (c.requires.0) _ _ ((short_capitals c.requires.1)) ((short_capitals c.requires.2)) (c.put_comma-from.ensures) (c.put_letters-middle.ensures) (c.put_letters-next.ensures) (c.is_listed.ensures) c.if-is_listed.false c.if-count-ge14.false

@@ -14,8 +14,8 @@ use Rattle.merged_alleles.proofs.extend_alleles.Given as goal
 abbrev pub whole : List ℕ → List ℕ → List ℕ → ℕ → ℕ → List (List ℕ)
 whole list end alts len n = add_all (listed alts len n) (flat_map (extended_letters end) (fields_of comma list))
 
-abbrev pub invariant-loop-next : goal.invariant-loop-next
-invariant-loop-next l = FieldsLeft l.list l.end (whole l.list l.end l.initial.alts l.initial.written l.initial.count) l.initial.alts l.alts l.written l.count l.at
+abbrev pub invariant-loop-laid : goal.invariant-loop-laid
+invariant-loop-laid l = FieldsLeft l.list l.end (whole l.list l.end l.initial.alts l.initial.laid.len l.initial.laid.count) l.initial.alts l.alts l.laid.len l.laid.count l.at
 
-abbrev pub decreases-loop-next : goal.decreases-loop-next
-decreases-loop-next l = length l.list - l.at
+abbrev pub decreases-loop-laid : goal.decreases-loop-laid
+decreases-loop-laid l = length l.list - l.at

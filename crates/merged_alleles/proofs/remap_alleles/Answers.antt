@@ -3,9 +3,11 @@ use borrow.Author.Rules.{rules}
 use borrow.Author.Tests.{not-false, not-true}
 use mathlib.Core.Path.{◌∙◌, sym}
 use Rattle.merged_alleles.proofs.Turns.{adds_nothing, end_short, letters_there, no_letters_earlier}
+use Rattle.merged_alleles.specs.Alts.{Added}
 use Rattle.merged_alleles.proofs.remap_alleles.Goals as goal
 
 pub returns-then-not-starts_at : goal.returns-then-not-starts_at
+unfolding Added
 returns-then-not-starts_at c = rw (no_letters_earlier _ _ _ _ _ (sym (c.starts_at.ensures) ∙ c.if-not-starts_at.true)) (adds_nothing (c.requires.0))
 
 pub extend_alleles-requires : goal.extend_alleles-requires
