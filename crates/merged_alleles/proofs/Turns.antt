@@ -249,10 +249,10 @@ module _ (s rows ref : List ℕ) (position : ℕ) (ys : List (Bor ℕ)) (x : Bor
       → AddedTo [] (flat_map letters (seen (ys ++ (x ∷ [])))) d' len' n'
   sites_more added = (added.0, rw one_more (added.1 ∙ from_first (letters x.now)))
 
-  pub sites_too_many : {all : List ℕ} → seen ys ≡ take (length ys) all → length ys < length all → x.now ≡ get_or all (length ys) x.now
+  pub sites_too_many : (all : List ℕ) → seen ys ≡ take (length ys) all → length ys < length all → x.now ≡ get_or all (length ys) x.now
       → 14 < length (add_all (listed d len n) (letters x.now)) → 14 < length (add_all [] (flat_map letters all))
   unfolding flat_map
-  sites_too_many {all} before below this many =
+  sites_too_many all before below this many =
       let rest = flat_map letters (drop (suc (length ys)) all) in
       let parts : all ≡ seen ys ++ (x.now ∷ drop (suc (length ys)) all) =
       sym (take-append-drop (length ys) all)

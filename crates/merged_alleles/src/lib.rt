@@ -172,8 +172,8 @@ fn letter_alts(
 // Whether a site shows `*`, whatever REF is: it starts here and has it, or it starts earlier and is no block.
 // (No ALT of a block reads as `*`.)
 fn shows_span_del(s: &[u8], rows: &[usize], site: usize, position: GenomePosition) -> bool
-    requires { SoundRow s.now rows.now site }
-    ensures { (ref : List ℕ) → result ≡ shows_span_del ref position.0 (site_at s.now rows.now site) }
+    ensures { SoundRow s.now rows.now site
+        → (ref : List ℕ) → result ≡ shows_span_del ref position.0 (site_at s.now rows.now site) }
 {
     if starts_at(rows, site, position) {
         return alleles::among_fields(b"*", tables::alternate_alleles(s, rows, site));

@@ -29,10 +29,10 @@ pub returns-then-is_listed : goal.returns-then-is_listed
 unfolding Added
 returns-then-is_listed c = adds_old (c.requires.0) _ _ ((short_capitals c.requires.1)) ((short_capitals c.requires.2)) (c.put_comma-from.ensures) (c.put_letters-middle.ensures) (c.put_letters-next.ensures) (c.is_listed.ensures) c.if-is_listed.true
 
-pub returns-then-count-ge14 : goal.returns-then-count-ge14
+pub returns-then-so_far-ge14 : goal.returns-then-so_far-ge14
 unfolding Added
-returns-then-count-ge14 c = adds_no_more (c.requires.0) _ _ ((short_capitals c.requires.1)) ((short_capitals c.requires.2)) (c.put_comma-from.ensures) (c.put_letters-middle.ensures) (c.put_letters-next.ensures) (c.is_listed.ensures) c.if-is_listed.false c.if-count-ge14.true
+returns-then-so_far-ge14 c = adds_no_more (c.requires.0) _ _ ((short_capitals c.requires.1)) ((short_capitals c.requires.2)) (c.put_comma-from.ensures) (c.put_letters-middle.ensures) (c.put_letters-next.ensures) (c.is_listed.ensures) c.if-is_listed.false c.if-so_far-ge14.true
 
 pub returns : goal.returns
 unfolding Added
-returns c = adds_fresh (c.requires.0) _ _ ((short_capitals c.requires.1)) ((short_capitals c.requires.2)) (c.put_comma-from.ensures) (c.put_letters-middle.ensures) (c.put_letters-next.ensures) (c.is_listed.ensures) c.if-is_listed.false c.if-count-ge14.false
+returns c = adds_fresh (c.requires.0) _ _ ((short_capitals c.requires.1)) ((short_capitals c.requires.2)) (c.put_comma-from.ensures) (c.put_letters-middle.ensures) (c.put_letters-next.ensures) (c.is_listed.ensures) c.if-is_listed.false c.if-so_far-ge14.false

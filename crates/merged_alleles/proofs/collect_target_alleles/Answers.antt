@@ -6,7 +6,7 @@ use Rattle.merged_alleles.proofs.collect_target_alleles.Goals as goal
 
 pub returns-in_err-letters : goal.returns-in_err-letters
 unfolding AltsLaid Added
-returns-in_err-letters c = merged_too_many _ _ _ _ c.args.found.now c.in_err-letters.ensures
+returns-in_err-letters c = rw c.from_residual.ensures (merged_too_many _ _ _ _ c.args.found.now c.in_err-letters.ensures)
 
 pub put_ends-requires : goal.put_ends-requires
 unfolding Added

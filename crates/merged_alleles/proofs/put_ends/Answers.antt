@@ -18,16 +18,16 @@ pub returns-then-not-shown : goal.returns-then-not-shown
 unfolding AltsLaid spelled text
 returns-then-not-shown c = rw (c.if-not-shown.true) (ended (c.requires) (c.put_alt-last.ensures))
 
-pub returns-then-count-ge14 : goal.returns-then-count-ge14
+pub returns-then-letters-ge14 : goal.returns-then-letters-ge14
 unfolding AltsLaid
-returns-then-count-ge14 c = rw (c.if-not-shown.false) (one_too_many (c.requires) c.if-count-ge14.true)
+returns-then-letters-ge14 c = rw (c.if-not-shown.false) (one_too_many (c.requires) c.if-letters-ge14.true)
 
 pub put_alt-next-requires : goal.put_alt-next-requires
 put_alt-next-requires c = omega (arith, c.requires.small, c.requires.few)
 
 pub put_alt-last-requires-2 : goal.put_alt-last-requires-2
-put_alt-last-requires-2 c = omega (arith, c.put_alt-next.ensures.next, length-append (comma_behind c.args.letters.count) (42 ∷ []), comma_short c.args.n, c.requires.small, c.requires.few)
+put_alt-last-requires-2 c = omega (arith, c.put_alt-next.ensures.next, length-append (comma_behind c.args.letters.count) (42 ∷ []), comma_short c.args.letters.count, c.requires.small, c.requires.few)
 
 pub returns : goal.returns
 unfolding AltsLaid spelled text
-returns c = rw (c.if-not-shown.false) (ended_shown (c.requires) c.if-count-ge14.false (c.put_alt-next.ensures) (c.put_alt-last-2.ensures))
+returns c = rw (c.if-not-shown.false) (ended_shown (c.requires) c.if-letters-ge14.false (c.put_alt-next.ensures) (c.put_alt-last-2.ensures))
