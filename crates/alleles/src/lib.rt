@@ -27,34 +27,16 @@ pub fn is_span_del(allele: &[u8]) -> bool
 pub fn among_fields(field: &[u8], list: &[u8]) -> bool
     ensures { result ≡ any_of (same_bytes field.now) (fields_of comma list.now) }
 {
-    let mut at = 0;
-    loop {
-        let end = kv_text::field_end(list, at, b',');
-        if kv_text::same_bytes(field, &list[at..end]) {
-            return true;
-        }
-        if list.len() <= end {
-            return false;
-        }
-        at = end + 1;
-    }
+    list.split(|b| *b == b',')
+        .any(|other| kv_text::same_bytes(field, other))
 }
 
 // Whether a field of a list with commas has the letters of an allele, in either case.
 pub fn among_alleles(allele: &[u8], list: &[u8]) -> bool
     ensures { result ≡ any_of (same_letters allele.now) (fields_of comma list.now) }
 {
-    let mut at = 0;
-    loop {
-        let end = kv_text::field_end(list, at, b',');
-        if kv_text::same_letters(allele, &list[at..end]) {
-            return true;
-        }
-        if list.len() <= end {
-            return false;
-        }
-        at = end + 1;
-    }
+    list.split(|b| *b == b',')
+        .any(|other| kv_text::same_letters(allele, other))
 }
 
 // Whether no two fields of a list have the same letters. Each is compared with those behind it.
@@ -84,17 +66,7 @@ fn is_allele(field: &[u8], most: usize) -> bool
 fn are_alleles(list: &[u8], most: usize) -> bool
     ensures { result ≡ all_of (λ f. is_there (allele_of most f)) (fields_of comma list.now) }
 {
-    let mut at = 0;
-    loop {
-        let end = kv_text::field_end(list, at, b',');
-        if !is_allele(&list[at..end], most) {
-            return false;
-        }
-        if list.len() <= end {
-            return true;
-        }
-        at = end + 1;
-    }
+    list.split(|b| *b == b',').all(|field| is_allele(field, most))
 }
 
 // How many alleles a REF and its ALTs are, and whether `<NON_REF>` is there.

@@ -5,3 +5,4 @@ pub mod Digits
 pub mod Lines
 pub mod Places
 pub mod Groups
+pub mod Split

@@ -1,35 +1,28 @@
--- Field by field, up to the first with the same letters.
-use Prim.Native.Nat.{◌-◌, ℕ}
+-- `any` tells whether a field has the same letters.
+use Prim.Native.Nat.{ℕ}
 use borrow.Author.Rules.{rules}
-use lib.ListN.{length}
+use borrow.Author.Tests.{tests}
+use lib.Dec.{eqb}
 use mathlib.Core.Bool.{Bool}
 use mathlib.Core.List.{List}
-use mathlib.Core.Path.{◌∙◌, sym}
-use native.Mathlib.Omega.{arith}
-use Rattle.alleles.proofs.FieldLoop.{FieldsLeft, field_decides, field_ends, field_passed, fields_start}
+use mathlib.Core.Path.{◌∙◌, ap}
+use Rattle.std.proofs.lemmas.Iterator.{cases_from_any}
+use Rattle.std.proofs.lemmas.Iterator.Splits.{YieldsList-from_slice_split}
+use Rattle.std.specs.List.{slice_split}
+use Rattle.answers.proofs.Chains.{Fails, Passes, any_answer}
+use Rattle.definitions.specs.Bytes.{comma}
 use Rattle.definitions.specs.Lists.{any_of}
 use Rattle.laws.proofs.Capitals.{same_letters}
-use Rattle.kv_text.proofs.Fields.{field_within}
-use Rattle.alleles.proofs.among_alleles.Invariants.{among}
+use Rattle.kv_text.proofs.Split.{fields_split}
 use Rattle.alleles.proofs.among_alleles.Goals as goal
 
-pub loop-at-init : goal.loop-at-init
-loop-at-init c = fields_start (among c.args.allele.now) _
-
-pub slice_bounds-same_letters-end : goal.slice_bounds-same_letters-end
-slice_bounds-same_letters-end c = let h = field_within _ _ _ _ (c.field_end-end.ensures) (c.loop-at.invariant.within) in search rules
-
-pub returns-then-same_letters : goal.returns-then-same_letters
-unfolding any_of
-returns-then-same_letters c = field_decides (among c.args.allele.now) _ _ _ c.loop-at.invariant (c.field_end-end.ensures) _ (λ fs. rw (sym (c.same_letters.ensures) ∙ c.if-same_letters.true))
-
-pub returns-then-list-end : goal.returns-then-list-end
-unfolding any_of
-returns-then-list-end c = rw (sym (c.same_letters.ensures) ∙ c.if-same_letters.false) at (field_ends (among c.args.allele.now) _ _ _ c.loop-at.invariant (c.field_end-end.ensures) c.if-list-end.true)
-
-pub loop-at-smaller : goal.loop-at-smaller
-loop-at-smaller c = omega (arith, c.field_end-end.ensures)
-
-pub loop-at-preserved : goal.loop-at-preserved
-unfolding any_of
-loop-at-preserved c = field_passed (among c.args.allele.now) _ _ _ c.loop-at.invariant (c.field_end-end.ensures) (omega arith) (rw (sym (c.same_letters.ensures) ∙ c.if-same_letters.false))
+pub returns : goal.returns
+unfolding comma
+returns c =
+    let passes : List ℕ → Bool = same_letters c.args.allele.now in
+    any_answer passes (slice_split (λ b. eqb b 44) c.args.list.now) c.any.result
+    (cases_from_any _ _ _ (Passes passes) (Fails passes) c.any.ensures.ran
+    (YieldsList-from_slice_split _ (λ b. eqb b 44) c.args.list.now c.split.ensures.rest c.split.ensures.done c.split.ensures.closure
+    (λ x b q k. search (rules, tests)))
+    (λ x q k. search (rules, tests)) (λ x q k. search (rules, tests)))
+    ∙ ap (any_of passes) (fields_split 44 c.args.list.now)

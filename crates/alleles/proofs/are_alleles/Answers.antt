@@ -1,36 +1,29 @@
--- Field by field, up to the first that is no allele.
-use Prim.Native.Nat.{◌-◌, ℕ}
+-- `all` tells whether every field spells an allele.
+use Prim.Native.Nat.{ℕ}
 use borrow.Author.Rules.{rules}
-use borrow.Author.Tests.{not-false, not-true}
-use lib.ListN.{length}
+use borrow.Author.Tests.{tests}
+use lib.Dec.{eqb}
 use mathlib.Core.Bool.{Bool}
 use mathlib.Core.List.{List}
-use mathlib.Core.Path.{◌∙◌, sym}
-use native.Mathlib.Omega.{arith}
-use Rattle.alleles.proofs.FieldLoop.{FieldsLeft, field_decides, field_ends, field_passed, fields_start}
+use mathlib.Core.Path.{◌∙◌, ap}
+use Rattle.std.proofs.lemmas.Iterator.{cases_from_all}
+use Rattle.std.proofs.lemmas.Iterator.Splits.{YieldsList-from_slice_split}
+use Rattle.std.specs.List.{slice_split}
+use Rattle.answers.proofs.Chains.{Fails, Passes, all_answer}
+use Rattle.definitions.specs.Bytes.{comma}
+use Rattle.definitions.specs.Lists.{all_of}
 use Rattle.definitions.specs.Alleles.{allele_of}
-use Rattle.definitions.specs.Lists.{all_of, is_there}
-use Rattle.kv_text.proofs.Fields.{field_forward, field_within}
-use Rattle.alleles.proofs.are_alleles.Invariants.{all}
+use Rattle.definitions.specs.Lists.{is_there}
+use Rattle.kv_text.proofs.Split.{fields_split}
 use Rattle.alleles.proofs.are_alleles.Goals as goal
 
-pub loop-most-init : goal.loop-most-init
-loop-most-init c = fields_start (all _) _
-
-pub slice_bounds-is_allele-end : goal.slice_bounds-is_allele-end
-slice_bounds-is_allele-end c = let h = field_within _ _ _ _ (c.field_end-end.ensures) (c.loop-most.invariant.within) in search rules
-
-pub returns-then-not-is_allele : goal.returns-then-not-is_allele
-unfolding all_of
-returns-then-not-is_allele c = field_decides (all _) _ _ _ c.loop-most.invariant (c.field_end-end.ensures) _ (λ fs. rw (sym (c.is_allele.ensures) ∙ c.if-not-is_allele.true))
-
-pub returns-then-list-end : goal.returns-then-list-end
-unfolding all_of
-returns-then-list-end c = rw (sym (c.is_allele.ensures) ∙ c.if-not-is_allele.false) at (field_ends (all _) _ _ _ c.loop-most.invariant (c.field_end-end.ensures) c.if-list-end.true)
-
-pub loop-most-smaller : goal.loop-most-smaller
-loop-most-smaller c = omega (arith, c.field_end-end.ensures)
-
-pub loop-most-preserved : goal.loop-most-preserved
-unfolding all_of
-loop-most-preserved c = field_passed (all _) _ _ _ c.loop-most.invariant (c.field_end-end.ensures) (omega arith) (rw (sym (c.is_allele.ensures) ∙ c.if-not-is_allele.false))
+pub returns : goal.returns
+unfolding comma
+returns c =
+    let passes : List ℕ → Bool = λ f. is_there (allele_of c.args.most f) in
+    all_answer passes (slice_split (λ b. eqb b 44) c.args.list.now) c.all.result
+    (cases_from_all _ _ _ (Passes passes) (Fails passes) c.all.ensures.ran
+    (YieldsList-from_slice_split _ (λ b. eqb b 44) c.args.list.now c.split.ensures.rest c.split.ensures.done c.split.ensures.closure
+    (λ x b q k. search (rules, tests)))
+    (λ x q k. search (rules, tests)) (λ x q k. search (rules, tests)))
+    ∙ ap (all_of passes) (fields_split 44 c.args.list.now)

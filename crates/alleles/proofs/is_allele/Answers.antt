@@ -1,20 +1,21 @@
--- By what the field spells.
-use borrow.Author.Rules.{rules}
+-- A field that spells an allele is of one of the three kinds.
+use Prim.Native.Nat.{ℕ}
+use mathlib.Core.List.{List}
+use mathlib.Core.Path.{◌∙◌, ◌≡◌, ap, refl}
+use Rattle.std.specs.Option.{is_some}
+use Rattle.std.specs.Prelude.{None, Option, Some}
 use Rattle.definitions.specs.Lists.{is_there}
+use Rattle.kv_text.specs.Fields.{allele_read}
+use Rattle.kv_text.specs.declared.AlleleKind.{AlleleKind}
+use Rattle.kv_text.specs.declared.AlleleKind.TheVariants.{Letters, NonRef, SpanDel}
 use Rattle.alleles.proofs.is_allele.Goals as goal
 
-pub returns-in-Letters : goal.returns-in-Letters
+told : (kind : Option AlleleKind) (s : List ℕ) → is_some kind ≡ is_there (allele_read kind s)
 unfolding is_there
-returns-in-Letters c = rw (← (rw (c.in-Letters.is) at (c.read_allele-allele.ensures)))
+told None s = refl
+told (Some Letters) s = refl
+told (Some SpanDel) s = refl
+told (Some NonRef) s = refl
 
-pub returns-in-SpanDel : goal.returns-in-SpanDel
-unfolding is_there
-returns-in-SpanDel c = rw (← (rw (c.in-SpanDel.is) at (c.read_allele-allele.ensures)))
-
-pub returns-in-NonRef : goal.returns-in-NonRef
-unfolding is_there
-returns-in-NonRef c = rw (← (rw (c.in-NonRef.is) at (c.read_allele-allele.ensures)))
-
-pub returns-in-Fault : goal.returns-in-Fault
-unfolding is_there
-returns-in-Fault c = rw (← (rw (c.in-Fault.is) at (c.read_allele-allele.ensures)))
+pub returns : goal.returns
+returns c = c.is_some.ensures ∙ told c.read_allele.result _ ∙ ap is_there c.read_allele.ensures
