@@ -11,18 +11,12 @@ use Rattle.definitions.specs.Checked.{Checked, ◌>>=◌, accepted, refused}
 use Rattle.definitions.specs.CombinedList.{Texts, combined_list}
 use Rattle.definitions.specs.Limits.{program_bytes, program_scratch}
 use Rattle.files.proofs.FileTexts.{taken_long, taken_whole, text_or_empty}
-use Rattle.files.specs.FileTexts.{has_text, read_text, text_length, too_long}
-use Rattle.files.specs.declared.FileRead.{FileRead}
-use Rattle.files.specs.declared.FileRead.TheVariants.{Absent, Failed, Text, TooLong}
+use Rattle.files.specs.FileTexts.{ReadAnswer, has_text, read_text, text_length, too_long}
+use Rattle.files.specs.declared.ReadError.TheVariants.{Failed, TooLong}
 use Rattle.programs.specs.Programs.{any_too_long}
+use Rattle.std.specs.Prelude.{Err, None, Ok, Some}
 
--- tests one after the other
-pub or_first : (p q : Bool) → p ≡ true → true ≡ (p || q)
-or_first p q e = rw e
-
-pub or_later : (p q : Bool) {r : Bool} → p ≡ false → r ≡ q → r ≡ (p || q)
-or_later p q e k = rw e k
-
+-- one test or the other
 or_left : (p q : Bool) → (p || q) ≡ false → p ≡ false
 or_left true q e = e
 or_left false q e = refl
@@ -50,29 +44,29 @@ by_texts (accepted c) (accepted l) (refused n) = refl
 by_texts (accepted c) (accepted l) (accepted r) = refl
 
 -- one of them is too long
-third_long : (c l : Option (List ℕ)) (third : FileRead) (buffer : List ℕ) → too_long third ≡ true
+third_long : (c l : Option (List ℕ)) (third : ReadAnswer) (buffer : List ℕ) → too_long third ≡ true
     → taken_texts (accepted c) (accepted l) (read_text third buffer) ≡ refused 2
 unfolding taken_texts ◌>>=◌
 third_long c l third buffer e = rw (taken_long third buffer e)
 
-later_long : (c : Option (List ℕ)) (second third : FileRead) (s t : List ℕ) → (too_long second || too_long third) ≡ true
+later_long : (c : Option (List ℕ)) (second third : ReadAnswer) (s t : List ℕ) → (too_long second || too_long third) ≡ true
     → taken_texts (accepted c) (read_text second s) (read_text third t) ≡ refused 2
 unfolding taken_texts ◌>>=◌
-later_long c (Text n) third s t e = third_long c (some (take n s)) third t e
-later_long c Absent third s t e = third_long c none third t e
-later_long c TooLong third s t e = refl
-later_long c Failed third s t e = third_long c none third t e
+later_long c (Ok (Some n)) third s t e = third_long c (some (take n s)) third t e
+later_long c (Ok None) third s t e = third_long c none third t e
+later_long c (Err TooLong) third s t e = refl
+later_long c (Err Failed) third s t e = third_long c none third t e
 
-pub texts_long : (first second third : FileRead) (r s t : List ℕ) → any_too_long first second third ≡ true
+pub texts_long : (first second third : ReadAnswer) (r s t : List ℕ) → any_too_long first second third ≡ true
     → taken_texts (read_text first r) (read_text second s) (read_text third t) ≡ refused 2
 unfolding taken_texts ◌>>=◌
-texts_long (Text n) second third r s t e = later_long (some (take n r)) second third s t e
-texts_long Absent second third r s t e = later_long none second third s t e
-texts_long TooLong second third r s t e = refl
-texts_long Failed second third r s t e = later_long none second third s t e
+texts_long (Ok (Some n)) second third r s t e = later_long (some (take n r)) second third s t e
+texts_long (Ok None) second third r s t e = later_long none second third s t e
+texts_long (Err TooLong) second third r s t e = refl
+texts_long (Err Failed) second third r s t e = later_long none second third s t e
 
 -- none of them is
-pub texts_taken : (first second third : FileRead) (r s t : List ℕ) → any_too_long first second third ≡ false
+pub texts_taken : (first second third : ReadAnswer) (r s t : List ℕ) → any_too_long first second third ≡ false
     → taken_texts (read_text first r) (read_text second s) (read_text third t)
     ≡ accepted (texts_of (take (text_length first) r) (has_text second) (take (text_length second) s) (has_text third) (take (text_length third) t))
 unfolding taken_texts ◌>>=◌

@@ -8,6 +8,9 @@ use mathlib.Core.Option.{Option, get_or, none}
 use mathlib.Core.Path.{◌∙◌, ◌≡◌, ap, refl, sym}
 use native.Mathlib.Decide.{dec_lt}
 use native.Mathlib.Omega.{arith}
+use Rattle.answers.specs.Answered.{checked_of}
+use Rattle.answers.specs.declared.Refusal.{Refusal}
+use Rattle.answers.specs.declared.Refusal.TheVariants.{Size, Spelling}
 use Rattle.combine_gvcfs.specs.Combined.{texts_of}
 use Rattle.definitions.specs.Answers.{asked_contig, looks_files, printed_looks, scratch_after}
 use Rattle.definitions.specs.Bytes.{line_feed}
@@ -17,9 +20,8 @@ use Rattle.definitions.specs.Lines.{key_of, line_at, lines_of}
 use Rattle.definitions.specs.Looks.{looks_of}
 use Rattle.definitions.specs.Numbers.{name}
 use Rattle.files.proofs.FileTexts.{taken_long, taken_whole, text_or_empty}
-use Rattle.files.specs.FileTexts.{has_text, read_text, text_length, too_long}
+use Rattle.files.specs.FileTexts.{ReadAnswer, has_text, read_text, text_length, too_long}
 use Rattle.files.specs.Printing.{Printed}
-use Rattle.files.specs.declared.FileRead.{FileRead}
 use Rattle.kv_text.proofs.Lines.{the_lines, unended}
 use Rattle.kv_text.specs.Fields.{field_length}
 use Rattle.kv_text.specs.Lines.{LineTo, line_end, line_value}
@@ -27,9 +29,8 @@ use Rattle.laws.proofs.Checked.{not_required, required, then, then_refused}
 use Rattle.laws.proofs.Lines.{lines_end}
 use Rattle.programs.proofs.FilesTaken.{taken_texts, texts_long, texts_taken}
 use Rattle.programs.specs.Programs.{FilesLooked, LooksPrinted, TextsLooked, any_too_long}
-use Rattle.search_looks.specs.Looked.{LooksAnswered, looked_answer}
-use Rattle.search_looks.specs.declared.Looked.TheVariants as looked
-use Rattle.search_looks.specs.declared.Looked.{Looked}
+use Rattle.search_looks.specs.Looked.{LooksAnswered}
+use Rattle.std.specs.Prelude.{Err, Result}
 
 -- ---- contig.kv
 
@@ -82,25 +83,25 @@ by_texts (accepted c) (refused n) reference asked = refl
 by_texts (accepted c) (accepted l) (refused n) asked = refl
 by_texts (accepted c) (accepted l) (accepted r) asked = refl
 
-module _ (first second third : FileRead) (r s t : List ℕ) where
+module _ (first second third : ReadAnswer) (r s t : List ℕ) where
   -- one of the three texts is too long
   pub texts_refused : (asked : Checked (Option (List ℕ))) {scratch scratch' : List ℕ} → any_too_long first second third ≡ true
       → scratch' ≡ scratch_after scratch
-      → FilesLooked (read_text first r) (read_text second s) (read_text third t) asked scratch scratch' (looked.Refused 2)
+      → FilesLooked (read_text first r) (read_text second s) (read_text third t) asked scratch scratch' (Err Size)
   texts_refused asked e cleared =
       record { answered = sym (by_texts _ _ _ asked ∙ then_refused _ _ (texts_long first second third r s t e)); cleared = cleared }
 
   module _ (none-long : any_too_long first second third ≡ false) where
     -- contig.kv is
-    pub asked_long : (fourth : FileRead) (u : List ℕ) {scratch scratch' : List ℕ} → too_long fourth ≡ true → scratch' ≡ scratch_after scratch
-        → FilesLooked (read_text first r) (read_text second s) (read_text third t) (read_text fourth u) scratch scratch' (looked.Refused 2)
+    pub asked_long : (fourth : ReadAnswer) (u : List ℕ) {scratch scratch' : List ℕ} → too_long fourth ≡ true → scratch' ≡ scratch_after scratch
+        → FilesLooked (read_text first r) (read_text second s) (read_text third t) (read_text fourth u) scratch scratch' (Err Size)
     asked_long fourth u e cleared =
         let taken = texts_taken first second third r s t none-long in
         record { answered = sym (by_texts _ _ _ _ ∙ then _ _ taken (then_refused _ _ (taken_long fourth u e))); cleared = cleared }
 
     -- it is out of order
     pub asked_refused : {asked scratch scratch' : List ℕ} → asked_contig asked ≡ refused 1 → scratch' ≡ scratch_after scratch
-        → TextsLooked (read_text first r) (read_text second s) (read_text third t) asked scratch scratch' (looked.Refused 1)
+        → TextsLooked (read_text first r) (read_text second s) (read_text third t) asked scratch scratch' (Err Spelling)
     asked_refused e cleared =
         let taken = texts_taken first second third r s t none-long in
         record {
@@ -108,7 +109,7 @@ module _ (first second third : FileRead) (r s t : List ℕ) where
           cleared = cleared;
         }
 
-    pub asked_looked : {asked name cohort clip reference scratch scratch' : List ℕ} {clipped referenced : Bool} {o : Looked}
+    pub asked_looked : {asked name cohort clip reference scratch scratch' : List ℕ} {clipped referenced : Bool} {o : Result ℕ Refusal}
         → asked_contig asked ≡ accepted name → cohort ≡ take (text_length first) r
         → clipped ≡ has_text second → clip ≡ take (text_length second) s → referenced ≡ has_text third → reference ≡ take (text_length third) t
         → length scratch ≡ program_scratch → LooksAnswered (texts_of cohort clipped clip referenced reference) name scratch scratch' o
@@ -124,7 +125,7 @@ module _ (first second third : FileRead) (r s t : List ℕ) where
         }
 
 -- the text of contig.kv is what was read of it
-pub files_looked : (cohort clip reference : Checked (Option (List ℕ))) (fourth : FileRead) (u : List ℕ) {asked scratch scratch' : List ℕ} {o : Looked}
+pub files_looked : (cohort clip reference : Checked (Option (List ℕ))) (fourth : ReadAnswer) (u : List ℕ) {asked scratch scratch' : List ℕ} {o : Result ℕ Refusal}
     → too_long fourth ≡ false → asked ≡ take (text_length fourth) u → TextsLooked cohort clip reference asked scratch scratch' o
     → FilesLooked cohort clip reference (read_text fourth u) scratch scratch' o
 files_looked cohort clip reference fourth u e text l =
@@ -134,8 +135,8 @@ files_looked cohort clip reference fourth u e text l =
     }
 
 -- what is printed
-pub looks_printed : (cohort clip reference contig : Checked (Option (List ℕ))) {scratch scratch' line line' : List ℕ} (o : Looked) {n : ℕ}
-    → FilesLooked cohort clip reference contig scratch scratch' o → Printed (printed_looks (looked_answer o)) line line' n
+pub looks_printed : (cohort clip reference contig : Checked (Option (List ℕ))) {scratch scratch' line line' : List ℕ} (o : Result ℕ Refusal) {n : ℕ}
+    → FilesLooked cohort clip reference contig scratch scratch' o → Printed (printed_looks (checked_of o)) line line' n
     → LooksPrinted cohort clip reference contig scratch scratch' line line' n
 looks_printed cohort clip reference contig {line = line} {line' = line'} o {n} l p =
     record { printed = rw l.answered at p; cleared = l.cleared }

@@ -7,8 +7,8 @@ use mathlib.Core.Option.{Option}
 use mathlib.Core.Path.{◌∙◌, ◌≡◌}
 use Rattle.answers.proofs.Answers.{answered_refused}
 use Rattle.answers.specs.Answered.{Answered}
-use Rattle.answers.specs.declared.Outcome.{Outcome}
-use Rattle.answers.specs.declared.Outcome.TheVariants as outcome
+use Rattle.answers.specs.declared.Refusal.{Refusal}
+use Rattle.answers.specs.declared.Refusal.TheVariants.{Size}
 use Rattle.combine_gvcfs.specs.Combined.{Combined, texts_of}
 use Rattle.definitions.specs.Answers.{called_file, combined_files, printed_answer, scratch_after}
 use Rattle.definitions.specs.CalledList.{called_list}
@@ -17,24 +17,24 @@ use Rattle.definitions.specs.CombinedList.{combined_list}
 use Rattle.definitions.specs.Limits.{program_bytes, program_scratch}
 use Rattle.files.proofs.FileTexts.{taken_long, taken_whole, text_or_empty}
 use Rattle.files.proofs.Printing.{answered_printed}
-use Rattle.files.specs.FileTexts.{has_text, read_text, text_length, too_long}
+use Rattle.files.specs.FileTexts.{ReadAnswer, has_text, read_text, text_length, too_long}
 use Rattle.files.specs.Printing.{Printed, written_values}
-use Rattle.files.specs.declared.FileRead.{FileRead}
 use Rattle.laws.proofs.Checked.{then, then_refused}
 use Rattle.programs.proofs.FilesTaken.{by_texts, taken_texts, texts_long, texts_taken}
 use Rattle.programs.specs.Programs.{CombinePrinted, FilesCombined, any_too_long}
+use Rattle.std.specs.Prelude.{Err, Result}
 
 -- ---- combine
 
-pub files_refused : (first second third : FileRead) (r s t : List ℕ) {scratch scratch' list list' : List ℕ}
+pub files_refused : (first second third : ReadAnswer) (r s t : List ℕ) {scratch scratch' list list' : List ℕ}
     → any_too_long first second third ≡ true → list' ≡ list → scratch' ≡ scratch_after scratch
-    → FilesCombined (read_text first r) (read_text second s) (read_text third t) scratch scratch' list list' (outcome.Refused 2)
+    → FilesCombined (read_text first r) (read_text second s) (read_text third t) scratch scratch' list list' (Err Size)
 files_refused first second third r s t e same cleared =
     let long = texts_long first second third r s t e in
     record { answered = answered_refused (by_texts _ _ _ ∙ then_refused _ _ long) same; cleared = cleared }
 
-module _ (first second third : FileRead) (r s t : List ℕ) where
-  pub files_combined : {cohort clip reference scratch scratch' list list' : List ℕ} {clipped referenced : Bool} {o : Outcome}
+module _ (first second third : ReadAnswer) (r s t : List ℕ) where
+  pub files_combined : {cohort clip reference scratch scratch' list list' : List ℕ} {clipped referenced : Bool} {o : Result ℕ Refusal}
       → any_too_long first second third ≡ false → cohort ≡ take (text_length first) r
       → clipped ≡ has_text second → clip ≡ take (text_length second) s → referenced ≡ has_text third → reference ≡ take (text_length third) t
       → length scratch ≡ program_scratch → length list ≡ program_bytes
@@ -52,7 +52,7 @@ module _ (first second third : FileRead) (r s t : List ℕ) where
       same = by_texts _ _ _ ∙ then _ _ whole (rw (places, bytes))
 
 -- what it prints
-pub combine_printed : (cohort clip reference : Checked (Option (List ℕ))) {scratch scratch' list list' list'' : List ℕ} (o : Outcome) {r : ℕ}
+pub combine_printed : (cohort clip reference : Checked (Option (List ℕ))) {scratch scratch' list list' list'' : List ℕ} (o : Result ℕ Refusal) {r : ℕ}
     → FilesCombined cohort clip reference scratch scratch' list list' o → Printed (printed_answer (written_values o list')) list' list'' r
     → CombinePrinted cohort clip reference scratch scratch' list list'' r
 combine_printed cohort clip reference o m p =
@@ -60,12 +60,12 @@ combine_printed cohort clip reference o m p =
 
 -- ---- call
 
-pub file_refused : (read : FileRead) (buffer : List ℕ) {list list' : List ℕ} → too_long read ≡ true → list' ≡ list
-    → Answered (called_file (read_text read buffer)) list list' (outcome.Refused 2)
+pub file_refused : (read : ReadAnswer) (buffer : List ℕ) {list list' : List ℕ} → too_long read ≡ true → list' ≡ list
+    → Answered (called_file (read_text read buffer)) list list' (Err Size)
 unfolding called_file
 file_refused read buffer e same = answered_refused (then_refused _ _ (taken_long read buffer e)) same
 
-pub file_called : (read : FileRead) (buffer : List ℕ) {s list list' : List ℕ} {o : Outcome} → too_long read ≡ false
+pub file_called : (read : ReadAnswer) (buffer : List ℕ) {s list list' : List ℕ} {o : Result ℕ Refusal} → too_long read ≡ false
     → s ≡ take (text_length read) buffer → length list ≡ program_bytes → Answered (called_list s (length list)) list list' o
     → Answered (called_file (read_text read buffer)) list list' o
 unfolding called_file

@@ -9,20 +9,17 @@ use Rattle.programs.proofs.Looks.{more_lines, not_named, one_line}
 use borrow.Author.Rules.{rules}
 use Rattle.programs.proofs.asked_contig.Goals as goal
 
-pub returns-in_default : goal.returns-in_default
+pub returns-in_err-name : goal.returns-in_err-name
 unfolding key_of text LineReads
-returns-in_default c = not_named _ (rw c.in_default.is at c.name_line-line.ensures).0
+returns-in_err-name c = not_named _ c.in_err-name.ensures.0
 
-pub overflow_add-e : goal.overflow_add-e
-overflow_add-e c = let l = rw c.in-At.is at c.name_line-line.ensures in
-    omega (arith, line_within _ _ _ name _ _ l.0)
+pub overflow_add-name : goal.overflow_add-name
+overflow_add-name c = omega (arith, line_within _ _ _ name _ _ c.in_ok-name.ensures.0)
 
-pub returns-then-e-s : goal.returns-then-e-s
+pub returns-then-name-s : goal.returns-then-name-s
 unfolding key_of text LineReads
-returns-then-e-s c = let l = rw c.in-At.is at c.name_line-line.ensures in
-    more_lines _ l.0 (omega (arith, c.if-e-s.true))
+returns-then-name-s c = more_lines _ c.in_ok-name.ensures.0 (omega (arith, c.if-name-s.true))
 
 pub returns : goal.returns
 unfolding key_of text LineReads
-returns c = let l = rw c.in-At.is at c.name_line-line.ensures in
-    one_line _ l.0 (omega (arith, c.if-e-s.false))
+returns c = one_line _ c.in_ok-name.ensures.0 (omega (arith, c.if-name-s.false))
