@@ -11,10 +11,7 @@ use Rattle.definitions.specs.Alleles.{genotype_count}
 use Rattle.definitions.specs.Genotypes.{AllelePair, genotype_index, genotype_pairs}
 use Rattle.laws.proofs.Genotypes.{genotype_pairs_append, genotype_pairs_at_lem, genotype_pairs_length}
 use Rattle.laws.proofs.Members.{below_at, past_at}
-use Rattle.laws.proofs.Tests.{not_none, some_same}
-use Rattle.bio_ids.specs.declared.AlleleIndex.{AlleleIndex}
-use Rattle.diploid_pairs.specs.Pairs.{pair_of}
-use Rattle.diploid_pairs.specs.declared.PairAt.TheVariants.{NoPair, Pair}
+use Rattle.laws.proofs.Tests.{some_same}
 
 -- a pair of n alleles, and its place
 pub record PairAtPlace (n place : ℕ) : Type 0 where
@@ -61,13 +58,3 @@ pub fewer_pairs : (n m : ℕ) → n ≤ m → genotype_pairs n ≡ take (genotyp
 fewer_pairs n m l =
     let e : m ≡ n + (m - n) = omega arith in
     rw (e, genotype_pairs_append n (m - n)) (sym (take_at (genotype_pairs n) _ (genotype_count n) (genotype_pairs_length n)))
-
--- what `pair_at` answers at a place of n alleles
-pub pair_answered : (n place : ℕ) (low high : AlleleIndex) → n ≤ 16 → place < genotype_count n
-    → pair_of (Pair low high) ≡ get_elem? (genotype_pairs 16) place → get_elem? (genotype_pairs n) place ≡ some (record { low = low.0; high = high.0 })
-unfolding pair_of
-pair_answered n place low high l h e = same_pair n 16 place l h ∙ sym e
-
-pub always_answered : (place : ℕ) → place < 136 → pair_of NoPair ≡ get_elem? (genotype_pairs 16) place → ⊥
-unfolding pair_of
-always_answered place h e = not_none (e ∙ pair_there 16 (pair_of_16 place h))

@@ -1,18 +1,28 @@
 -- `diploid_pairs::pair_at` meets its contract.
 -- Assumes nothing.
-use borrow.Author.Rules.{rules}
-use mathlib.Core.Path.{sym}
+use Prim.Native.Nat.{◌<◌, ◌≤◌, ℕ}
+use lib.ListN.{get_elem?, get_or, length}
+use mathlib.Core.Bool.{true}
+use mathlib.Core.List.{List}
+use mathlib.Core.Path.{◌≡◌, sym}
 use native.Mathlib.Omega.{arith}
+use Rattle.core.specs.Option.{option_copied}
+use Rattle.core.specs.Slice.{IsItemAt}
+use Rattle.std.specs.Borrow.{Bor}
+use Rattle.std.specs.Prelude.{None, Option, Some}
 use Rattle.definitions.specs.Alleles.{genotype_count}
-use Rattle.diploid_pairs.specs.Pairs.{pair_of}
+use Rattle.definitions.specs.Genotypes.{genotype_pairs}
+use Rattle.diploid_pairs.specs.Pairs.{in_place, pair_of, passes_from}
+use Rattle.diploid_pairs.specs.declared.AllelePair.{AllelePair}
 use Rattle.diploid_pairs.proofs.Entries.{entry_pair}
 use Rattle.diploid_pairs.proofs.Places.{no_pair_lem}
 use Rattle.diploid_pairs.proofs.pair_at.Goals as goal
 
-pub returns-then-place-lt136 : goal.returns-then-place-lt136
-unfolding pair_of
-returns-then-place-lt136 c = rw (c.new.ensures, c.new-then-place-lt136.ensures) (sym (entry_pair _ _ _ c.table-pairs.ensures (omega arith)))
-
-pub returns-else-place-lt136 : goal.returns-else-place-lt136
+found : (table : List AllelePair) (place : ℕ) (r : Option (Bor AllelePair)) → length table ≡ 136 → passes_from 0 in_place table ≡ true
+    → IsItemAt table place r → pair_of (option_copied r) ≡ get_elem? (genotype_pairs 16) place
 unfolding pair_of genotype_count
-returns-else-place-lt136 c = sym (no_pair_lem 16 _ (omega arith))
+found table place (Some p) l t h = sym (rw (← h.1) at (entry_pair table p.now place t h.3.0))
+found table place None l t h = sym (no_pair_lem 16 place (omega (arith, h.3, l)))
+
+pub returns : goal.returns
+returns c = let l : length c.table.result ≡ 136 = omega arith in rw c.copied.ensures (found c.table.result c.args.place c.get.result l c.table.ensures c.get.ensures.lookup)
