@@ -96,12 +96,18 @@ next_other best v i x xs h = rw (← e) (go (dec_le v (least_of v xs)))
         let less : least_of v xs < x = omega arith in
         rw (lt-leb v (least_of v xs) below, index_later i (least_of v xs) x xs less (least_below v xs below))
 
-pub place_start : (pl : List ℕ) → place_from 0 (get_or pl 0 0) 1 (drop 1 pl) ≡ least_place pl
+first_place : (pl : List ℕ) → place_from 0 (get_or pl 0 0) 1 (drop 1 pl) ≡ least_place pl
 unfolding least_place least
-place_start [] = unfold place_from index_where in refl
-place_start (x ∷ xs) = sym (head_best 0 x xs) ∙ omega arith
+first_place [] = unfold place_from index_where in refl
+first_place (x ∷ xs) = sym (head_best 0 x xs) ∙ omega arith
 
 -- the next number x of pl is less than the least so far, or it is not
+
+-- a loop over all, with the first as the best so far
+pub place_start : (pl : List ℕ) → place_from 0 (get_or pl 0 0) 0 pl ≡ least_place pl
+place_start [] = unfold place_from least_place index_where in refl
+place_start (x ∷ xs) = sym (next_other 0 x 0 x xs (omega arith)) ∙ first_place (x ∷ xs)
+
 module _ (pl : List ℕ) (best v i : ℕ) {x : ℕ} (h : i < length pl) (e : x ≡ get_or pl i 0) where
   pub place_less : x < v → place_from i x (i + 1) (drop (i + 1) pl) ≡ place_from best v i (drop i pl)
   place_less l = rw (add-one, drop-cons pl i 0, ← e) (next_less best v i x (drop (suc i) pl) l)

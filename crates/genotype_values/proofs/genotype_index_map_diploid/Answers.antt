@@ -1,30 +1,27 @@
 -- By whether the place has a pair.
 use Prim.Native.Nat.{ℕ}
-use borrow.Author.Rules.{rules}
 use mathlib.Core.List.{List}
 use mathlib.Core.Option
-use mathlib.Core.Option.{Option}
+use mathlib.Core.Option.{Option, none, some}
 use mathlib.Core.Path.{◌≡◌}
-use Rattle.bio_ids.specs.declared.AlleleIndex.{AlleleIndex}
+use Rattle.std.specs.Prelude as std
 use Rattle.definitions.specs.Genotypes.{AllelePair}
 use Rattle.diploid_pairs.specs.Pairs.{pair_of}
-use Rattle.diploid_pairs.specs.declared.PairAt.TheVariants as pair_at
-use Rattle.genotype_values.specs.Remapped.{place_of}
+use Rattle.diploid_pairs.specs.declared.AllelePair as source
 use Rattle.genotype_values.specs.Values.{mapped_place}
-use Rattle.genotype_values.specs.declared.MappedAt.TheVariants.{At, NoPair}
 use Rattle.genotype_values.proofs.genotype_index_map_diploid.Goals as goal
 
-found : (allele_map : List ℕ) (low high : AlleleIndex) {o : Option AllelePair} {r : ℕ} → pair_of (pair_at.Pair low high) ≡ o
-    → r ≡ mapped_place allele_map (record { low = low.0; high = high.0 }) → place_of (At r) ≡ Option.map (mapped_place allele_map) o
-unfolding pair_of place_of
-found allele_map low high e h = rw (← e, h)
+found : (allele_map : List ℕ) {pair : source.AllelePair} {low high r : ℕ} {o : Option AllelePair} → pair_of (std.Some pair) ≡ o → low ≡ pair.0 → high ≡ pair.1
+    → r ≡ mapped_place allele_map (record { low = low; high = high }) → some r ≡ Option.map (mapped_place allele_map) o
+unfolding pair_of
+found allele_map e p q h = rw (← e, h, p, q)
 
-missing : (allele_map : List ℕ) {o : Option AllelePair} → pair_of pair_at.NoPair ≡ o → place_of NoPair ≡ Option.map (mapped_place allele_map) o
-unfolding pair_of place_of
+missing : (allele_map : List ℕ) {o : Option AllelePair} → pair_of std.None ≡ o → none ≡ Option.map (mapped_place allele_map) o
+unfolding pair_of
 missing allele_map e = rw (← e)
 
-pub returns-in-Pair : goal.returns-in-Pair
-returns-in-Pair c = found c.args.map.now _ _ (rw c.in-Pair.is at c.pair_at.ensures) c.mapped_place.ensures
+pub returns : goal.returns
+returns c = found c.args.map.now c.in_ok-pair.ensures c.low.ensures c.high.ensures c.mapped_place.ensures
 
-pub returns-in-NoPair : goal.returns-in-NoPair
-returns-in-NoPair c = missing c.args.map.now (rw c.in-NoPair.is at c.pair_at.ensures)
+pub returns-in_err-pair : goal.returns-in_err-pair
+returns-in_err-pair c = rw c.from_residual.ensures (missing c.args.map.now c.in_err-pair.ensures)

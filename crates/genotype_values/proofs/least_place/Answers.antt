@@ -9,7 +9,7 @@ use Rattle.genotype_values.proofs.least_place.Goals as goal
 use Rattle.genotype_values.proofs.least_place.Goals.{then-x-least, else-x-least}
 
 pub loop-i-init : goal.loop-i-init
-loop-i-init c = rw c.value_at-least.ensures (place_start c.args.pl.now)
+loop-i-init c = rw c.value_or-least.ensures (place_start c.args.pl.now)
 
 pub loop-i-preserved : goal.loop-i-preserved
 loop-i-preserved c =

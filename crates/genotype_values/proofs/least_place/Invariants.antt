@@ -10,6 +10,3 @@ use Rattle.genotype_values.proofs.least_place.Given as goal
 
 abbrev pub invariant-loop-i : goal.invariant-loop-i
 invariant-loop-i l = place_from l.best l.least l.i (drop l.i l.pl) ≡ least_place l.pl
-
-abbrev pub decreases-loop-i : goal.decreases-loop-i
-decreases-loop-i l = l.i-end - l.i

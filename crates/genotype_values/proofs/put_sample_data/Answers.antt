@@ -2,7 +2,7 @@
 use borrow.Author.Rules.{rules}
 use Rattle.genotype_values.proofs.Filled.{few_ad, few_pl, filled_front, filled_length, filled_within}
 use Rattle.genotype_values.proofs.Said.{fronts_printed}
-use Rattle.kv_write.specs.Optional.{option_of}
+use Rattle.answers.specs.Options.{option_of}
 use Rattle.genotype_values.proofs.put_sample_data.Goals as goal
 
 pub slice_bounds-record_ad-end : goal.slice_bounds-record_ad-end

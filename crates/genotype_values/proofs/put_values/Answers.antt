@@ -2,7 +2,7 @@
 use borrow.Author.Rules.{rules}
 use native.Mathlib.Omega.{arith}
 use Rattle.genotype_values.proofs.Lines.{said_laid, said_length}
-use Rattle.kv_write.specs.Optional.{option_of}
+use Rattle.answers.specs.Options.{option_of}
 use Rattle.genotype_values.proofs.put_values.Goals as goal
 
 pub put_genotype_line-behind_gt-requires : goal.put_genotype_line-behind_gt-requires

@@ -14,8 +14,8 @@ loop-i-init c = all_left refl
 
 pub loop-i-preserved : goal.loop-i-preserved
 loop-i-preserved c = let args = c.args in
-    let value = c.value_at-x.ensures ∙ ap (λ a. get_or args.ad.now a 0) (c.get.ensures ∙ c.new.ensures) in
-    next_stored (λ a. get_or args.ad.now a 0) args.map.now 0 c.loop-i-test.true value c.put_value.ensures c.loop-i.invariant
+    let value = c.value_or.ensures ∙ ap (λ a. get_or args.ad.now a 0) (c.get.ensures ∙ c.new-own.ensures) in
+    next_stored (λ a. get_or args.ad.now a 0) args.map.now 0 c.loop-i-test.true value c.store.ensures c.loop-i.invariant
 
 pub shape_of-out : goal.shape_of-out
 shape_of-out c = unstored_length c.loop-i.invariant

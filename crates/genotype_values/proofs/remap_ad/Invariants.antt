@@ -10,6 +10,3 @@ use Rattle.genotype_values.proofs.remap_ad.Given as goal
 
 abbrev pub invariant-loop-i : goal.invariant-loop-i
 invariant-loop-i l = Unstored l.initial.out (remapped_ad l.map l.ad) l.out l.i (map (λ a. get_or l.ad a 0) (drop l.i l.map))
-
-abbrev pub decreases-loop-i : goal.decreases-loop-i
-decreases-loop-i l = l.i-end - l.i

@@ -8,6 +8,3 @@ use Rattle.genotype_values.proofs.remap_pl_row.Given as goal
 
 abbrev pub invariant-loop-low : goal.invariant-loop-low
 invariant-loop-low l = RowLeft l.map l.pl l.last l.initial.out l.at l.out l.low
-
-abbrev pub decreases-loop-low : goal.decreases-loop-low
-decreases-loop-low l = l.room - l.low
