@@ -16,6 +16,7 @@ use Rattle.definitions.specs.LookUp.{Place, follows, max_places, not_after, plac
 use Rattle.definitions.specs.Numbers.{name, number}
 use Rattle.kv_text.proofs.Groups.{FromHere, behind_next, behind_start, continued, continued_end, continued_next, continued_refused, continued_start, group_accepted, group_refused, groups_ended, line_read, line_unread}
 use Rattle.kv_text.specs.Fields.{between}
+use Rattle.kv_text.specs.declared.Part.{Part}
 use Rattle.kv_text.specs.Lines.{Behind, LineReads, read_to, unread}
 use Rattle.laws.proofs.Checked.{not_required, required, then, then_refused}
 use Rattle.laws.proofs.Orders.{compare_eq, compare_gt, compare_lt}
@@ -48,7 +49,7 @@ module _ (s : List ℕ) (at : ℕ) where
       second_read : line_at (pair_lines s at) 1 "pos" number ≡ accepted n
       second_read = line_read one "pos" number 2 (omega arith) n e₂ l₂
 
-      pub pair_read : (p : Pair) → contig ≡ between s p.at p.end → n ≡ p.position.0 → p.next ≡ e₂ + 1 → PairTo s at p
+      pub pair_read : (p : Pair) → contig ≡ between s p.contig.at p.contig.end → n ≡ p.position.0 → p.next ≡ e₂ + 1 → PairTo s at p
       unfolding place_of LineReads
       pair_read p on here behind-it = record {
         value = λ before. then _ _ first_read (then _ _ second_read (rw (on, here)));
@@ -71,11 +72,11 @@ not_greater a b = go (compare a b) refl
 -- ---- the pairs of a text
 
 -- the pairs from an offset on are left, behind so many, of which the nearest is this
-pub record Counting (s : List ℕ) (at count begin end : ℕ) (position : GenomePosition) : Type 0 where
+pub record Counting (s : List ℕ) (at count : ℕ) (last : Part) (position : GenomePosition) : Type 0 where
   pub before : List Place
   pub left_is : continued before (FromHere 2 (omega arith) place_of before s at) ≡ places_of s
   pub count_is : count ≡ length before
-  pub follows_is : (p : Place) → follows before p ≡ not_after (place_with (between s begin end) position) p
+  pub follows_is : (p : Place) → follows before p ≡ not_after (place_with (between s last.at last.end) position) p
 
 -- every place stands after the empty name at 0
 empty_first : (p : Place) → not_after (record { contig = []; position = 0 }) p ≡ true
@@ -86,7 +87,7 @@ empty_first p = go p.contig
     go [] = sym (not_greater 0 p.position) ∙ le-leb 0 p.position (omega arith)
     go (x ∷ c) = refl
 
-pub counting_start : (s : List ℕ) (position : GenomePosition) → position.0 ≡ 0 → Counting s 0 0 0 0 position
+pub counting_start : (s : List ℕ) (position : GenomePosition) → position.0 ≡ 0 → Counting s 0 0 (record { at = 0; end = 0 }) position
 unfolding places_of follows
 counting_start s position zero_is = record {
   before = [];
@@ -95,7 +96,7 @@ counting_start s position zero_is = record {
   follows_is = λ p. rw zero_is (sym (empty_first p));
 }
 
-module _ {s : List ℕ} {at count begin end : ℕ} {position : GenomePosition} (k : Counting s at count begin end position) where
+module _ {s : List ℕ} {at count : ℕ} {last : Part} {position : GenomePosition} (k : Counting s at count last position) where
   refused_left : (row : ℕ) → FromHere 2 (omega arith) place_of k.before s at ≡ refused row → places_of s ≡ refused row
   refused_left row e = sym k.left_is ∙ ap (continued k.before) e ∙ continued_refused k.before row
 
@@ -120,11 +121,11 @@ module _ {s : List ℕ} {at count begin end : ℕ} {position : GenomePosition} (
       pub counting_many : max_places ≤ count → places_of s ≡ refused 18
       counting_many h = not_in_order (rw (le-ltb (length k.before) max_places (omega (arith, k.count_is))))
 
-      pub counting_unordered : not_after (place_with (between s begin end) position) (place_in s p) ≡ false → places_of s ≡ refused 18
+      pub counting_unordered : not_after (place_with (between s last.at last.end) position) (place_in s p) ≡ false → places_of s ≡ refused 18
       counting_unordered e = not_in_order (rw (k.follows_is (place_in s p), e, and-false))
 
-      pub counting_next : count < max_places → not_after (place_with (between s begin end) position) (place_in s p) ≡ true
-          → Counting s p.next (count + 1) p.at p.end p.position
+      pub counting_next : count < max_places → not_after (place_with (between s last.at last.end) position) (place_in s p) ≡ true
+          → Counting s p.next (count + 1) p.contig p.position
       unfolding follows
       counting_next few e =
           let t = both (lt-ltb (length k.before) max_places (omega (arith, k.count_is))) (k.follows_is (place_in s p) ∙ e) in

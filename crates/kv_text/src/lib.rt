@@ -79,13 +79,7 @@ pub fn field_at(s: &[u8], separator: u8, number: usize) -> Option<Part>
 pub fn count_fields(s: &[u8], separator: u8) -> usize
     ensures { result ≡ length (fields_of separator s.now) }
 {
-    let mut count = 1;
-    let mut end = field_end(s, 0, separator);
-    while end < s.len() {
-        count += 1;
-        end = field_end(s, end + 1, separator);
-    }
-    count
+    s.split(|b| *b == separator).count()
 }
 
 // ---- numbers

@@ -14,30 +14,30 @@ loop-at-init c = counting_start _ _ c.new_1based-position.ensures
 
 pub returns-in_default : goal.returns-in_default
 unfolding PairRead PlacesRead
-returns-in_default c = counting_wrong c.loop-at.invariant c.loop-at-test.true (rw c.in_default.is at c.pair_at-found.ensures)
+returns-in_default c = counting_wrong c.loop-at.invariant c.loop-at-test.true c.in_default.ensures
 
 pub returns-then-count-ge1024 : goal.returns-then-count-ge1024
 unfolding PairRead PlacesRead
-returns-then-count-ge1024 c = counting_many c.loop-at.invariant c.loop-at-test.true (rw c.in-Pair.is at c.pair_at-found.ensures) c.if-count-ge1024.true
+returns-then-count-ge1024 c = counting_many c.loop-at.invariant c.loop-at-test.true c.in-Some.ensures c.if-count-ge1024.true
 
 pub returns-then-not-not_after : goal.returns-then-not-not_after
 unfolding PairRead PlacesRead
-returns-then-not-not_after c = let told = rw (c.part-before.ensures, c.part-contig.ensures) at (sym c.not_after.ensures) in
-    counting_unordered c.loop-at.invariant c.loop-at-test.true (rw c.in-Pair.is at c.pair_at-found.ensures)
-    (told ∙ c.if-not-not_after.true)
+returns-then-not-not_after c =
+    let told = rw (c.part-before.ensures, c.part-contig.ensures) at (sym c.not_after.ensures) in
+    counting_unordered c.loop-at.invariant c.loop-at-test.true c.in-Some.ensures (told ∙ c.if-not-not_after.true)
 
 pub overflow_add-count : goal.overflow_add-count
 overflow_add-count c = omega (arith, c.if-count-ge1024.false)
 
 pub loop-at-smaller : goal.loop-at-smaller
 unfolding PairRead
-loop-at-smaller c = let to = rw c.in-Pair.is at c.pair_at-found.ensures in omega (arith, to.forward, to.within)
+loop-at-smaller c = let to = c.in-Some.ensures in omega (arith, to.forward, to.within)
 
 pub loop-at-preserved : goal.loop-at-preserved
 unfolding PairRead
-loop-at-preserved c = let told = rw (c.part-before.ensures, c.part-contig.ensures) at (sym c.not_after.ensures) in
-    counting_next c.loop-at.invariant c.loop-at-test.true (rw c.in-Pair.is at c.pair_at-found.ensures)
-    c.if-count-ge1024.false (told ∙ c.if-not-not_after.false)
+loop-at-preserved c =
+    let told = rw (c.part-before.ensures, c.part-contig.ensures) at (sym c.not_after.ensures) in
+    counting_next c.loop-at.invariant c.loop-at-test.true c.in-Some.ensures c.if-count-ge1024.false (told ∙ c.if-not-not_after.false)
 
 pub returns : goal.returns
 unfolding PlacesRead

@@ -8,13 +8,12 @@ use Rattle.asked_places.proofs.not_after.Goals as goal
 
 pub returns-in-Less : goal.returns-in-Less
 unfolding not_after by_order and_then
-returns-in-Less c = rw (← c.compare_bytes-order.ensures, c.in-Less.is)
+returns-in-Less c = rw (← c.in-Less.ensures)
 
-pub returns-in-Same : goal.returns-in-Same
+pub returns-in-Equal : goal.returns-in-Equal
 unfolding not_after by_order and_then
-returns-in-Same c = rw (← c.compare_bytes-order.ensures, c.in-Same.is, c.get.ensures, c.get-in-Same.ensures)
-    (not_greater (c.args.position.0) (c.args.last.0))
+returns-in-Equal c = rw (← c.in-Equal.ensures, c.get.ensures, c.get-in-Equal.ensures) (not_greater (c.args.position.0) (c.args.last.0))
 
 pub returns-in-Greater : goal.returns-in-Greater
 unfolding not_after by_order and_then
-returns-in-Greater c = rw (← c.compare_bytes-order.ensures, c.in-Greater.is)
+returns-in-Greater c = rw (← c.in-Greater.ensures)

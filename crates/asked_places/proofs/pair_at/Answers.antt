@@ -10,23 +10,20 @@ use mathlib.Core.Path.{refl, sym}
 use native.Mathlib.Omega.{arith}
 use Rattle.asked_places.proofs.pair_at.Goals as goal
 
-pub returns-in_default : goal.returns-in_default
+pub returns-in_err-contig : goal.returns-in_err-contig
 unfolding key_of text PairRead
-returns-in_default c = first_unread _ _ (rw c.in_default.is at c.name_line-name.ensures).0
+returns-in_err-contig c = rw c.from_residual.ensures (first_unread _ _ c.in_err-contig.ensures.0)
 
-pub overflow_add-end : goal.overflow_add-end
-overflow_add-end c = let l = rw c.in-At.is at c.name_line-name.ensures in omega (arith, line_within _ _ _ name _ _ l.0)
+pub overflow_add-contig : goal.overflow_add-contig
+overflow_add-contig c = omega (arith, line_within _ _ _ name _ _ c.in_ok-contig.ensures.0)
 
-pub returns-in_default-number : goal.returns-in_default-number
+pub returns-in_err-number : goal.returns-in_err-number
 unfolding key_of text PairRead
-returns-in_default-number c = let l = rw c.in-At.is at c.name_line-name.ensures in
-    second_unread _ _ _ _ l.0 (rw c.in_default-number.is at c.number_line-number.ensures)
+returns-in_err-number c = rw c.from_residual-in_err-number.ensures (second_unread _ _ _ _ c.in_ok-contig.ensures.0 c.in_err-number.ensures)
 
-pub overflow_add-next : goal.overflow_add-next
-overflow_add-next c = let l = rw c.in-Found.is at c.number_line-number.ensures in omega (arith, line_within _ _ _ number _ _ l, c.well_formed)
+pub overflow_add-result : goal.overflow_add-end
+overflow_add-result c = omega (arith, line_within _ _ _ number _ _ c.in_ok-number.ensures, c.well_formed)
 
 pub returns : goal.returns
 unfolding key_of text PairRead
-returns c = let l = rw c.in-At.is at c.name_line-name.ensures in
-    let m = rw c.in-Found.is at c.number_line-number.ensures in
-    pair_read _ _ _ _ l.0 _ _ m _ refl (sym c.new_1based-position.ensures) refl
+returns c = pair_read _ _ _ _ c.in_ok-contig.ensures.0 _ _ c.in_ok-number.ensures _ refl (sym c.new_1based-position.ensures) refl

@@ -12,34 +12,26 @@ use Rattle.indexed_groups.proofs.store_segments.Goals as goal
 pub loop-count-init : goal.loop-count-init
 loop-count-init c = none_stored _ _
 
-pub shape_of-rows-in_default : goal.shape_of-rows-in_default
-shape_of-rows-in_default c = c.loop-count.invariant.only.long
-
 pub returns-in_default : goal.returns-in_default
 unfolding SegmentRead
-returns-in_default c = let inv = c.loop-count.invariant in
-    let ended = placed_faulty _ _ (rw c.in_default.is at c.segment_at-group.ensures) in
-    record { stored = inv; counted = counted_all _ inv.in_rows ended }
+returns-in_default c =
+    let inv = c.loop-count.invariant in
+    record { stored = inv; counted = counted_all _ inv.in_rows (placed_faulty _ _ c.in_default.ensures) }
 
 pub store_row-requires : goal.store_row-requires
 store_row-requires c = omega (arith, c.requires, c.loop-count.invariant.only.long, c.loop-count-test.true)
 
-pub overflow_add-count-in-loop-count : goal.overflow_add-count-in-loop-count
-overflow_add-count-in-loop-count c = omega (arith, c.loop-count-test.true)
-
-pub loop-count-smaller : goal.loop-count-smaller
-loop-count-smaller c = omega (arith, c.loop-count-test.true)
-
 pub loop-count-preserved : goal.loop-count-preserved
 unfolding SegmentRead
-loop-count-preserved c = let inv = c.loop-count.invariant in
-    let g = rw c.in-Segment.is at c.segment_at-group.ensures in
-    let group = rw (← c.get-position.ensures) at g.0 in
+loop-count-preserved c =
+    let inv = c.loop-count.invariant in
+    let g = c.in-Some.ensures in
+    let group = rw (← c.get-first.ensures) at g.0 in
     let room : 95234 ≤ length c.loop-count.rows = omega (arith, c.requires, inv.only.long) in
     rw c.store_row.ensures (segment_stored _ _ _ _ _ _ _ _ c.loop-count-test.true room inv group g.2)
 
-pub shape_of-rows : goal.shape_of-rows
-shape_of-rows c = c.loop-count.invariant.only.long
-
 pub returns : goal.returns
-returns c = let inv = c.loop-count.invariant in record { stored = inv; counted = counted_most _ inv.in_rows c.loop-count-test.false }
+returns c =
+    let all : c.loop-count.count ≡ 1024 = omega arith in
+    let inv = rw all at c.loop-count.invariant in
+    record { stored = inv; counted = counted_most _ inv.in_rows (omega arith) }

@@ -11,6 +11,3 @@ use Rattle.indexed_groups.proofs.store_segments.Given as goal
 
 abbrev pub invariant-loop-count : goal.invariant-loop-count
 invariant-loop-count l = SegmentsStored l.reference l.initial.rows l.rows l.count l.at
-
-abbrev pub decreases-loop-count : goal.decreases-loop-count
-decreases-loop-count l = 1024 - l.count
