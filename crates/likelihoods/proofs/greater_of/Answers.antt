@@ -6,6 +6,6 @@ pub returns-then-first-second : goal.returns-then-first-second
 unfolding greater
 returns-then-first-second c = rw c.if-first-second.true
 
-pub returns : goal.returns
+pub returns-else-first-second : goal.returns-else-first-second
 unfolding greater
-returns c = rw c.if-first-second.false
+returns-else-first-second c = rw c.if-first-second.false

@@ -1,26 +1,17 @@
 -- The greatest so far, and what is left to compare with it.
-use Prim.Native.Nat.{◌-◌}
-use borrow.Author.Rules.{rules}
 use lib.Ieee.{nan}
-use lib.ListN.{drop, length}
-use mathlib.Core.List.{foldl}
-use mathlib.Core.Path.{◌∙◌, ◌≡◌, refl, sym}
-use Rattle.definitions.specs.AlleleSubset.{greater, greatest}
-use Rattle.likelihoods.proofs.Greatest.{greatest_first}
+use mathlib.Core.Path.{◌∙◌, sym}
+use Rattle.definitions.specs.AlleleSubset.{greater}
+use Rattle.likelihoods.proofs.Greatest.{greatest_first, others}
 use Rattle.likelihoods.proofs.Loops.{fold_end, fold_next}
 use Rattle.likelihoods.proofs.greatest_of.Goals as goal
 
-pub loop-i-init : goal.loop-i-init
-loop-i-init c = (refl, sym (greatest_first c.args.values.now c.requires))
+pub loop-v-init : goal.loop-v-init
+loop-v-init c = sym (greatest_first c.args.values.now c.requires)
 
-pub loop-i-preserved : goal.loop-i-preserved
-loop-i-preserved c = (
-  c.loop-i.invariant.0,
-  rw c.greater_of-best.ensures (sym
-      (fold_next greater c.args.values.now nan c.loop-i.i c.loop-i.best c.loop-i-test.true) ∙
-      c.loop-i.invariant.1),
-)
+pub loop-v-preserved : goal.loop-v-preserved
+loop-v-preserved c = rw c.greater_of-best.ensures
+    (sym (fold_next greater (others c.args.values.now) nan c.loop-v.v-index c.loop-v.best c.loop-v-test.true) ∙ c.loop-v.invariant)
 
 pub returns : goal.returns
-returns c = sym (fold_end greater c.args.values.now nan c.loop-i.i c.loop-i.best c.loop-i-test.false) ∙
-    c.loop-i.invariant.1
+returns c = sym (fold_end greater (others c.args.values.now) nan c.loop-v.v-index c.loop-v.best c.loop-v-test.false) ∙ c.loop-v.invariant

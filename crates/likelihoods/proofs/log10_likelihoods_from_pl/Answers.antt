@@ -22,5 +22,5 @@ returns c = let pl = c.args.pl.now in
     let values = map log10_from_pl pl in
     let room : length values ≤ length out = omega (arith, length-map pl log10_from_pl, c.if-out-count.false) in
     let stored = c.put_log10_from_pl.ensures ∙ sets_front out values room in
-    let small : (k : ℕ) → get_or pl k 0 < 2 ^ 32 = λ k. omega (arith, c.shared_slice_known-1.given k) in
+    let small : (k : ℕ) → get_or pl k 0 < 2 ^ 32 = λ k. omega (arith, c.type_inv.pl k) in
     record { answered = answered_written (is_within values room) (sym (length-map pl log10_from_pl)) stored; near = rw stored (near_each pl _ small) }

@@ -13,7 +13,7 @@ loop-i-init c = all_left refl
 
 pub loop-i-preserved : goal.loop-i-preserved
 loop-i-preserved c = next_stored log10_from_pl c.args.pl.now 0 c.loop-i-test.true
-    c.log10_from_pl-x.ensures.rounded c.put_value.ensures c.loop-i.invariant
+    c.log10_from_pl-x.ensures.rounded c.store.ensures c.loop-i.invariant
 
 pub shape_of-out : goal.shape_of-out
 shape_of-out c = unstored_length c.loop-i.invariant

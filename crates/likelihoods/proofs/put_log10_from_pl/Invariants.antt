@@ -10,6 +10,3 @@ use Rattle.likelihoods.proofs.put_log10_from_pl.Given as goal
 
 abbrev pub invariant-loop-i : goal.invariant-loop-i
 invariant-loop-i l = Unstored l.initial.out (map log10_from_pl l.pl) l.out l.i (map log10_from_pl (drop l.i l.pl))
-
-abbrev pub decreases-loop-i : goal.decreases-loop-i
-decreases-loop-i l = l.i-end - l.i

@@ -24,7 +24,7 @@ pub loop-i-preserved : goal.loop-i-preserved
 loop-i-preserved c = let values = c.args.values.now in (
   c.loop-i.invariant.0,
   next_stored (λ x. sub binary64 x (greatest values)) values nan c.loop-i-test.true
-      (rw c.loop-i.invariant.0) c.put_value.ensures c.loop-i.invariant.1,
+      (rw c.loop-i.invariant.0) c.store.ensures c.loop-i.invariant.1,
 )
 
 pub shape_of-out : goal.shape_of-out

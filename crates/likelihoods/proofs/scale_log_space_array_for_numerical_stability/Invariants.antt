@@ -13,6 +13,3 @@ use Rattle.likelihoods.proofs.scale_log_space_array_for_numerical_stability.Give
 
 abbrev pub invariant-loop-i : goal.invariant-loop-i
 invariant-loop-i l = (l.best ≡ greatest l.values) × Unstored l.initial.out (less_greatest l.values) l.out l.i (map (λ x. sub binary64 x (greatest l.values)) (drop l.i l.values))
-
-abbrev pub decreases-loop-i : goal.decreases-loop-i
-decreases-loop-i l = l.i-end - l.i
