@@ -8,9 +8,11 @@ use mathlib.Core.List.{List, []}
 use mathlib.Core.Option.{Option, get_or, none, some}
 use mathlib.Core.Path.{◌∙◌, ◌≡◌, ap, refl, sym}
 use native.Mathlib.Omega.{arith}
+use Rattle.std.specs.Prelude as std
+use Rattle.answers.specs.declared.Refusal.TheVariants as refusal
 use Rattle.definitions.specs.Alleles.{RefAlts, capital, genotype_count, has_non_ref, is_block, only_non_ref, ref_alts_of}
 use Rattle.definitions.specs.Bytes.{comma, fields_of}
-use Rattle.definitions.specs.Checked.{Checked, accepted, or_refuse, refused}
+use Rattle.definitions.specs.Checked.{accepted, or_refuse, refused}
 use Rattle.definitions.specs.Cohort.{Site, SiteText, ad_fits, checked_site, end_fits, pl_fits}
 use Rattle.definitions.specs.Limits.{max_site_alleles, max_site_letters, max_sites}
 use Rattle.definitions.specs.Lists.{missing_or}
@@ -22,7 +24,6 @@ use Rattle.laws.proofs.AllelesAsRead.{allele_as_read, ref_alts_as_read}
 use Rattle.alleles.specs.Alleles.{AllelesRight}
 use Rattle.site_groups.specs.SiteGroups.{Counted, SiteChecked, bytes_of, numbers_of, site_text_at}
 use Rattle.site_groups.specs.declared.SiteAlleles.{SiteAlleles}
-use Rattle.site_groups.specs.declared.SiteCheck.TheVariants as check
 use Rattle.site_groups.specs.declared.SitePlace.{SitePlace}
 use Rattle.site_groups.specs.declared.SiteValues.{SiteValues}
 
@@ -170,22 +171,22 @@ module _ (s : List ℕ) (p : SitePlace) (a : SiteAlleles) (v : SiteValues) (samp
   abbrev text : SiteText
   text = site_text_at s p a v
 
-  pub too_many : 4096 ≤ before → SiteChecked s p a v samples before (check.Refused 2)
+  pub too_many : 4096 ≤ before → SiteChecked s p a v samples before (std.Err refusal.Size)
   unfolding SiteChecked
   too_many h ad pl = row_2 samples before text (le-ltb before 4096 h)
 
   module _ (few : before < 4096) where
-    pub no_sample : samples ≤ p.sample.0 → SiteChecked s p a v samples before (check.Refused 3)
+    pub no_sample : samples ≤ p.sample.0 → SiteChecked s p a v samples before (std.Err refusal.Sample)
     unfolding SiteChecked
     no_sample h ad pl = row_3 samples before text (lt-ltb before 4096 few) (le-ltb p.sample.0 samples h)
 
     module _ (known : p.sample.0 < samples) where
-      pub position_0 : p.start.0 < 1 → SiteChecked s p a v samples before (check.Refused 4)
+      pub position_0 : p.start.0 < 1 → SiteChecked s p a v samples before (std.Err refusal.Position)
       unfolding SiteChecked
       position_0 h ad pl = row_4 samples before text (lt-ltb before 4096 few) (lt-ltb p.sample.0 samples known) (rw (lt-leb 1 p.start.0 h))
 
       module _ (placed : 1 ≤ p.start.0) where
-        pub end_before : p.end.0 < p.start.0 → SiteChecked s p a v samples before (check.Refused 4)
+        pub end_before : p.end.0 < p.start.0 → SiteChecked s p a v samples before (std.Err refusal.Position)
         unfolding SiteChecked
         end_before h ad pl = row_4 samples before text (lt-ltb before 4096 few) (lt-ltb p.sample.0 samples known)
             (rw (le-leb 1 p.start.0 placed, lt-leb p.start.0 p.end.0 h))
@@ -195,12 +196,12 @@ module _ (s : List ℕ) (p : SitePlace) (a : SiteAlleles) (v : SiteValues) (samp
           in_place_lem = rw (le-leb 1 p.start.0 placed, le-leb p.start.0 p.end.0 ordered)
 
           pub allele_faulty : ref_alts_of 128 8 (bytes_of s a.refs) (bytes_of s a.alts) ≡ none
-              → SiteChecked s p a v samples before (check.Refused 5)
+              → SiteChecked s p a v samples before (std.Err refusal.Alleles)
           unfolding SiteChecked
           allele_faulty h ad pl = row_5 samples before text (lt-ltb before 4096 few) (lt-ltb p.sample.0 samples known) in_place_lem h
 
           module _ (n : ℕ) (has : Bool) (right : AllelesRight 128 8 (bytes_of s a.refs) (bytes_of s a.alts) n has) where
-            pub no_non_ref : has ≡ false → SiteChecked s p a v samples before (check.Refused 6)
+            pub no_non_ref : has ≡ false → SiteChecked s p a v samples before (std.Err refusal.NonRefAbsent)
             unfolding SiteChecked
             no_non_ref h ad pl = row_6 samples before text (lt-ltb before 4096 few) (lt-ltb p.sample.0 samples known) in_place_lem _ right.right
                 (sym right.has ∙ h)
@@ -215,7 +216,7 @@ module _ (s : List ℕ) (p : SitePlace) (a : SiteAlleles) (v : SiteValues) (samp
               ends : end_fits (ref_alts_as_read (bytes_of s a.refs) (fields_of comma (bytes_of s a.alts))) p.start.0 p.end.0 ≡ fits
               ends = end_by _ _ n right.number has_it p.start.0 p.end.0 ordered
 
-              pub end_wrong : fits ≡ false → SiteChecked s p a v samples before (check.Refused 7)
+              pub end_wrong : fits ≡ false → SiteChecked s p a v samples before (std.Err refusal.End)
               unfolding SiteChecked
               end_wrong h ad pl = row_7 samples before text (lt-ltb before 4096 few) (lt-ltb p.sample.0 samples known) in_place_lem _ right.right
                   has_it (ends ∙ h)
@@ -229,12 +230,12 @@ module _ (s : List ℕ) (p : SitePlace) (a : SiteAlleles) (v : SiteValues) (samp
                     && missing_or (ad_fits (ref_alts_as_read (bytes_of s a.refs) (fields_of comma (bytes_of s a.alts)))) (numbers_of s v.ad)) ≡ counts
                 counted ad pl = rw (pl_by (bytes_of s a.refs) _ n right.number _ _ pl, ad_by (bytes_of s a.refs) _ n right.number _ _ ad)
 
-                pub counts_wrong : counts ≡ false → SiteChecked s p a v samples before (check.Refused 8)
+                pub counts_wrong : counts ≡ false → SiteChecked s p a v samples before (std.Err refusal.Counts)
                 unfolding SiteChecked
                 counts_wrong h ad pl = row_8 samples before text (lt-ltb before 4096 few) (lt-ltb p.sample.0 samples known) in_place_lem _
                     right.right has_it (ends ∙ fitting) (counted ad pl ∙ h)
 
-                pub site_right : counts ≡ true → SiteChecked s p a v samples before (check.Right (eqb n 2))
+                pub site_right : counts ≡ true → SiteChecked s p a v samples before (std.Ok (eqb n 2))
                 unfolding SiteChecked
                 site_right h ad pl = record {
                   value = all_right samples before text (lt-ltb before 4096 few) (lt-ltb p.sample.0 samples known) in_place_lem _

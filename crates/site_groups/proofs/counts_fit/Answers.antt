@@ -1,6 +1,5 @@
 -- Test by test; n is a byte, so that the product does not wrap.
 use Prim.Native.Nat.{◌*◌, ◌+◌, ◌<◌, ◌≤◌, ℕ}
-use borrow.Author.Rules.{rules}
 use borrow.Author.Tests.{eq-eqb, le-leb, lt-leb, ne_eqb}
 use lib.Dec.{eqb}
 use mathlib.Core.Bool.{Bool, ◌&&◌, ◌||◌, false, true}

@@ -1,23 +1,24 @@
--- Row 1, then rows 2 to 8.
-use borrow.Author.Rules.{rules}
-use mathlib.Core.Path.{◌∙◌}
-use Rattle.definitions.specs.Cohort.{site_lines}
-use Rattle.laws.proofs.Checked.{then, then_refused}
+-- A refusal clears both slices.
+use mathlib.Core.Bool.{true}
+use mathlib.Core.Path.{◌∙◌, ◌≡◌}
+use Rattle.std.specs.Prelude as std
+use Rattle.std.specs.Result.{is_err}
+use Rattle.answers.specs.declared.Refusal.{Refusal}
 use Rattle.tables.proofs.Cleared.{scratch_same}
-use Rattle.site_groups.specs.SiteGroups.{SiteChecked, SiteRead, TextRead, site_group_of}
+use Rattle.site_groups.specs.SiteGroups.{NumbersFound, NumbersStored}
+use Rattle.site_groups.specs.declared.SiteGroup.{SiteGroup}
+use Rattle.definitions.specs.Answers.{scratch_after}
+use Rattle.site_groups.specs.SiteGroups.{SiteRead}
 use Rattle.site_groups.proofs.site_at.Goals as goal
 
-pub returns-in_default : goal.returns-in_default
-unfolding SiteRead TextRead site_group_of
-returns-in_default c = (then_refused _ _ (rw c.in_default.is at c.site_text-text.ensures).0, (c.clear_values.ensures.0 ∙ scratch_same _ _ c.site_text-text.auto.ad, c.clear_values.ensures.1 ∙ scratch_same _ _ c.site_text-text.auto.pl))
-
-pub returns-in-Right : goal.returns-in-Right
-unfolding SiteRead TextRead SiteChecked site_group_of site_lines
-returns-in-Right c = let t = rw c.in-Text.is at c.site_text-text.ensures in
-    let r = (rw c.in-Right.is at c.check_site-check.ensures) t.0.values.ad_count t.0.values.pl_count in
-    (record { value = then _ _ t.0.text r.value; is_block_lem = r.is_block_lem; dp_small = t.0.values.dp_small; ad_count = t.0.values.ad_count; pl_count = t.0.values.pl_count; behind = t.0.values.behind; forward = t.0.values.forward; within = t.0.values.within }, t.1)
-
-pub returns-in-Refused : goal.returns-in-Refused
-unfolding SiteRead TextRead SiteChecked site_group_of
-returns-in-Refused c = let t = rw c.in-Text.is at c.site_text-text.ensures in
-    (then _ _ t.0.text ((rw c.in-Refused.is at c.check_site-check.ensures) t.0.values.ad_count t.0.values.pl_count), (c.clear_values-in-Refused.ensures.0 ∙ scratch_same _ _ c.site_text-text.auto.ad, c.clear_values-in-Refused.ensures.1 ∙ scratch_same _ _ c.site_text-text.auto.pl))
+pub returns-then-is_err : goal.returns-then-is_err
+unfolding SiteRead scratch_after
+returns-then-is_err c = go c.read_site-read.result c.read_site-read.ensures c.if-is_err.ensures.value
+  where
+    go : (r : std.Result SiteGroup Refusal)
+        → SiteRead c.args.s.now c.args.at c.args.samples c.args.before r
+        × NumbersFound c.args.s.now c.args.ad.now c.read_site-read.new.ad c.args.pl.now c.read_site-read.new.pl r → true ≡ is_err r
+        → SiteRead c.args.s.now c.args.at c.args.samples c.args.before r
+        × NumbersStored c.args.s.now c.args.ad.now c.clear.new.values c.args.pl.now c.clear-then-is_err.new.values r
+    go (std.Ok g) h e = absurd cc
+    go (std.Err e) h _ = (h.0, (c.clear.ensures ∙ scratch_same _ _ c.read_site-read.auto.ad, c.clear-then-is_err.ensures ∙ scratch_same _ _ c.read_site-read.auto.pl))

@@ -1,5 +1,4 @@
 -- One line after the other, each behind the one before it.
-use borrow.Author.Rules.{rules}
 use native.Mathlib.Omega.{arith}
 use Rattle.definitions.specs.Bytes.{text}
 use Rattle.definitions.specs.Lines.{key_of}
@@ -8,42 +7,38 @@ use Rattle.kv_text.proofs.Lines.{line_within}
 use Rattle.site_groups.proofs.SiteLines.{contig_wrong, end_wrong, place_read, site_wrong, start_wrong}
 use Rattle.site_groups.proofs.site_place.Goals as goal
 
-pub returns-in_default : goal.returns-in_default
+pub returns-in_err-sample : goal.returns-in_err-sample
 unfolding key_of text
-returns-in_default c = site_wrong _ _ (rw c.in_default.is at c.number_line-site.ensures)
+returns-in_err-sample c = rw c.from_residual.ensures (site_wrong _ _ c.in_err-sample.ensures)
 
 pub overflow_add-e0 : goal.overflow_add-e0
-overflow_add-e0 c = let h = line_within _ _ _ number _ _ (rw c.in-Found.is at c.number_line-site.ensures) in omega arith
+overflow_add-e0 c = let h = line_within _ _ _ number _ _ c.in_ok-sample.ensures in omega arith
 
-pub returns-in_default-contig : goal.returns-in_default-contig
+pub returns-in_err-contig : goal.returns-in_err-contig
 unfolding key_of text
-returns-in_default-contig c = contig_wrong _ _ _ _ (rw c.in-Found.is at c.number_line-site.ensures)
-    (rw c.in_default-contig.is at c.name_line-contig.ensures).0
+returns-in_err-contig c = rw c.from_residual-in_err-contig.ensures (contig_wrong _ _ _ _ c.in_ok-sample.ensures c.in_err-contig.ensures.0)
 
-pub overflow_add-e1 : goal.overflow_add-e1
-overflow_add-e1 c = let h = line_within _ _ _ name _ _ (rw c.in-At.is at c.name_line-contig.ensures).0 in omega arith
+pub overflow_add-contig : goal.overflow_add-contig
+overflow_add-contig c = let h = line_within _ _ _ name _ _ c.in_ok-contig.ensures.0 in omega arith
 
-pub returns-in_default-from : goal.returns-in_default-from
+pub returns-in_err-start : goal.returns-in_err-start
 unfolding key_of text
-returns-in_default-from c = let contig = rw c.in-At.is at c.name_line-contig.ensures in
-    start_wrong _ _ _ _ (rw c.in-Found.is at c.number_line-site.ensures) _ _ contig.0 contig.1.forward
-    (rw c.in_default-from.is at c.number_line-from.ensures)
+returns-in_err-start c = rw c.from_residual-in_err-start.ensures
+    (start_wrong _ _ _ _ c.in_ok-sample.ensures _ c.in_ok-contig.ensures.0 c.in_ok-contig.ensures.1.forward c.in_err-start.ensures)
 
 pub overflow_add-e2 : goal.overflow_add-e2
-overflow_add-e2 c = let h = line_within _ _ _ number _ _ (rw c.in-Found-from.is at c.number_line-from.ensures) in omega arith
+overflow_add-e2 c = let h = line_within _ _ _ number _ _ c.in_ok-start.ensures in omega arith
 
-pub returns-in_default-to : goal.returns-in_default-to
+pub returns-in_err-end : goal.returns-in_err-end
 unfolding key_of text
-returns-in_default-to c = let contig = rw c.in-At.is at c.name_line-contig.ensures in
-    end_wrong _ _ _ _ (rw c.in-Found.is at c.number_line-site.ensures) _ _ contig.0 contig.1.forward
-    _ _ (rw c.in-Found-from.is at c.number_line-from.ensures) (rw c.in_default-to.is at c.number_line-to.ensures)
+returns-in_err-end c = rw c.from_residual-in_err-end.ensures
+    (end_wrong _ _ _ _ c.in_ok-sample.ensures _ c.in_ok-contig.ensures.0 c.in_ok-contig.ensures.1.forward
+    _ _ c.in_ok-start.ensures c.in_err-end.ensures)
 
 pub overflow_add-result : goal.overflow_add-result
-overflow_add-result c = let h = line_within _ _ _ number _ _ (rw c.in-Found-to.is at c.number_line-to.ensures) in omega (arith, h, c.well_formed)
+overflow_add-result c = let h = line_within _ _ _ number _ _ c.in_ok-end.ensures in omega (arith, h, c.well_formed)
 
 pub returns : goal.returns
 unfolding key_of text
-returns c = let contig = rw c.in-At.is at c.name_line-contig.ensures in
-    place_read _ _ _ _ (rw c.in-Found.is at c.number_line-site.ensures) _ _ contig.0 contig.1.forward
-    _ _ (rw c.in-Found-from.is at c.number_line-from.ensures) _ _
-    (rw c.in-Found-to.is at c.number_line-to.ensures) c.new.ensures c.new_1based.ensures c.new_1based-2.ensures
+returns c = place_read _ _ _ _ c.in_ok-sample.ensures _ c.in_ok-contig.ensures.0 c.in_ok-contig.ensures.1.forward
+    _ _ c.in_ok-start.ensures _ _ c.in_ok-end.ensures c.new.ensures c.new_1based.ensures c.new_1based-2.ensures
