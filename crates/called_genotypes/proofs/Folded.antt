@@ -22,7 +22,8 @@ use Rattle.definitions.specs.Genotypes.{AllelePair, genotype_index_any, genotype
 use Rattle.definitions.specs.Lists.{filter_by, numbers_from}
 use Rattle.diploid_pairs.proofs.Places.{pair_at_place, pair_there, same_pair, there_pair}
 use Rattle.diploid_pairs.specs.Pairs.{pair_of}
-use Rattle.diploid_pairs.specs.declared.PairAt.TheVariants.{NoPair, Pair}
+use Rattle.diploid_pairs.specs.declared.AllelePair as source
+use Rattle.std.specs.Prelude as std
 use Rattle.genotype_values.proofs.Mapped.{count_is, no_pair, product_bound}
 use Rattle.genotype_values.specs.Remapped.{Filled}
 use Rattle.kv_write.proofs.Laying.{laid_append}
@@ -139,23 +140,22 @@ least_below pl i h =
 -- ---- PL of one pair
 
 -- the alleles of a pair of the table
-pub few_alleles : (place : ℕ) (low high : AlleleIndex) → pair_of (Pair low high) ≡ get_elem? (genotype_pairs 16) place
-    → (low.0 < 255) × (high.0 < 255)
+pub few_alleles : (place : ℕ) (pair : source.AllelePair) → pair_of (std.Some pair) ≡ get_elem? (genotype_pairs 16) place → (pair.0 < 255) × (pair.1 < 255)
 unfolding pair_of
-few_alleles place low high e =
+few_alleles place pair e =
     let (q, same) = there_pair 16 place (sym e) in
     let l = ap (λ (p : AllelePair). p.low) same in
     let h = ap (λ (p : AllelePair). p.high) same in
     (omega (arith, q.ordered, q.below), omega (arith, q.below))
 
 -- what is at a place, by the alleles of its pair
-pub pair_folded : (pl : List ℕ) (x : ℕ) (low high : AlleleIndex) {o : Option AllelePair} {a b r : ℕ} → pair_of (Pair low high) ≡ o
-    → a ≡ retained_allele x low.0 → b ≡ retained_allele x high.0 → r ≡ pl_without_allele_at pl x a b
+pub pair_folded : (pl : List ℕ) (x : ℕ) (pair : source.AllelePair) {o : Option AllelePair} {a b r : ℕ} → pair_of (std.Some pair) ≡ o
+    → a ≡ retained_allele x pair.0 → b ≡ retained_allele x pair.1 → r ≡ pl_without_allele_at pl x a b
     → r ≡ Option.get_or (Option.map (retained_pl_at pl x) o) 0
 unfolding pair_of retained_pl_at
-pair_folded pl x low high e p q h = rw (← e) (h ∙ rw (p, q))
+pair_folded pl x pair e p q h = rw (← e) (h ∙ rw (p, q))
 
-pub no_pair_folded : (pl : List ℕ) (x : ℕ) {o : Option AllelePair} → pair_of NoPair ≡ o → 0 ≡ Option.get_or (Option.map (retained_pl_at pl x) o) 0
+pub no_pair_folded : (pl : List ℕ) (x : ℕ) {o : Option AllelePair} → pair_of std.None ≡ o → 0 ≡ Option.get_or (Option.map (retained_pl_at pl x) o) 0
 unfolding pair_of
 no_pair_folded pl x e = rw (← e)
 

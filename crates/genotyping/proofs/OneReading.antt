@@ -160,6 +160,13 @@ module _ (pl : List ℕ) (first i : ℕ) (alike : Alike pl first i) where
     told = inl (omega arith);
   }
 
+-- the first i PLs are alike if each equals the first
+pub alike_to : (pl : List ℕ) → 0 < length pl → (i : ℕ) → 0 < i → i ≤ length pl → ((k : ℕ) → k < i → get_or pl k 0 ≡ get_or pl 0 0) → Alike pl (get_or pl 0 0) i
+alike_to pl some zero h within same = absurd (omega arith)
+alike_to pl some (suc zero) h within same = alike_start pl some
+alike_to pl some (suc (suc i)) h within same =
+    rw add-one at (alike_again pl _ (suc i) (alike_to pl some (suc i) (omega arith) (omega arith) (λ k less. same k (omega arith))) (omega arith) (same (suc i) (omega arith)))
+
 -- one more PL behind the front
 pub read_later : (pl : List ℕ) {t r : LeastPls} (i : ℕ) → Read pl t i → i < length pl → r ≡ with_later_pl t (get_or pl i 0) → Read pl r (i + 1)
 unfolding count_held

@@ -8,7 +8,8 @@ use native.Mathlib.Nat.{zero-add}
 use native.Mathlib.Omega.{arith}
 use Rattle.answers.proofs.Answers.{answered_refused, answered_written, is_within, not_within}
 use Rattle.answers.specs.Answered.{Answered}
-use Rattle.answers.specs.declared.Outcome.TheVariants as outcome
+use Rattle.std.specs.Prelude.{Err, Ok}
+use Rattle.answers.specs.declared.Refusal.TheVariants as refusal
 use Rattle.definitions.specs.Alleles.{capital, written_alleles}
 use Rattle.definitions.specs.Bytes.{comma, fields_of}
 use Rattle.definitions.specs.Checked.{accepted, is_accepted, within}
@@ -56,7 +57,7 @@ alleles_read (ref ∷ alts) h = (in_order_lem ref alts h).read
 
 module _ (s out : List ℕ) where
   -- row 5
-  pub faulty_answered : is_accepted (alleles_from (fields_of comma s)) ≡ false → Answered (trimmed_alleles s (length out)) out out (outcome.Refused 5)
+  pub faulty_answered : is_accepted (alleles_from (fields_of comma s)) ≡ false → Answered (trimmed_alleles s (length out)) out out (Err refusal.Alleles)
   unfolding trimmed_alleles
   faulty_answered h = answered_refused (then_refused _ _ (not_in_order (fields_of comma s) h)) refl
 
@@ -76,13 +77,13 @@ module _ (s out : List ℕ) where
       length_is = measure.next ∙ zero-add _
 
       -- row 14
-      pub full_answered : length (part ++ out) < len → Answered (trimmed_alleles s (length out)) out (part ++ out) (outcome.Refused 14)
+      pub full_answered : length (part ++ out) < len → Answered (trimmed_alleles s (length out)) out (part ++ out) (Err refusal.Output)
       full_answered h =
           let few : length out < length trimmed = omega (arith, ap length same_out, length_is) in
           answered_refused (trimmed_is ∙ not_within trimmed few) same_out
 
       pub fitting_answered : {out' : List ℕ} {r : ℕ} → len ≤ length (part ++ out) → Laid (part ++ out) 0 trimmed out' r
-          → Answered (trimmed_alleles s (length out)) out out' (outcome.Written len)
+          → Answered (trimmed_alleles s (length out)) out out' (Ok len)
       fitting_answered h p =
           let room : length trimmed ≤ length out = omega (arith, ap length same_out, length_is) in
           answered_written (trimmed_is ∙ is_within trimmed room) length_is (p.laid ∙ rw same_out (sets_front out trimmed room))

@@ -37,17 +37,7 @@ fn is_letter_allele(field: &[u8]) -> bool
 fn has_letter_alt(alts: &[u8]) -> bool
     ensures { result ≡ any_of spells_letters (fields_of comma alts.now) }
 {
-    let mut at = 0;
-    loop {
-        let end = kv_text::field_end(alts, at, b',');
-        if is_letter_allele(&alts[at..end]) {
-            return true;
-        }
-        if alts.len() <= end {
-            return false;
-        }
-        at = end + 1;
-    }
+    alts.split(|b| *b == b',').any(|alt| is_letter_allele(alt))
 }
 
 // How many letters, in either case, REF and another allele end on alike, at most `most`, one letter of the other left.

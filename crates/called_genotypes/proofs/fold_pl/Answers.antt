@@ -27,7 +27,7 @@ pub loop-place-preserved : goal.loop-place-preserved
 loop-place-preserved c = let n = c.args.retained in
     let f = retained_pl_at (c.args.pl.now) (c.args.dropped.0) in
     let there = value_there f n (c.loop-place.place) (c.requires) (omega (arith, count_is n)) in
-    next_stored f (genotype_pairs n) no_pair (omega (arith, count_is n, genotype_pairs_length n)) ((c.folded_pl_at-x.ensures) ∙ there) (c.put_value.ensures) (c.loop-place.invariant)
+    next_stored f (genotype_pairs n) no_pair (omega (arith, count_is n, genotype_pairs_length n)) ((c.folded_pl_at-x.ensures) ∙ there) (c.store.ensures) (c.loop-place.invariant)
 
 pub shape_of-out : goal.shape_of-out
 shape_of-out c = unstored_length (c.loop-place.invariant)

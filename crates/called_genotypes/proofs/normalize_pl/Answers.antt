@@ -20,7 +20,7 @@ overflow_sub-x c = omega (arith, c.least_pl-least.ensures, least_below (c.args.p
 
 pub loop-i-preserved : goal.loop-i-preserved
 loop-i-preserved c = let pl = c.args.pl.now in
-    next_stored (λ p. p - least pl) pl 0 (c.loop-i-test.true) (ap (λ k. get_or pl (c.loop-i.i) 0 - k) (c.least_pl-least.ensures)) (c.put_value.ensures) (c.loop-i.invariant)
+    next_stored (λ p. p - least pl) pl 0 (c.loop-i-test.true) (ap (λ k. get_or pl (c.loop-i.i) 0 - k) (c.least_pl-least.ensures)) (c.store.ensures) (c.loop-i.invariant)
 
 pub shape_of-out : goal.shape_of-out
 shape_of-out c = unstored_length (c.loop-i.invariant)

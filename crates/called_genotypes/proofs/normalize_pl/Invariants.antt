@@ -13,6 +13,3 @@ use Rattle.called_genotypes.proofs.normalize_pl.Given as goal
 
 abbrev pub invariant-loop-i : goal.invariant-loop-i
 invariant-loop-i l = Unstored l.initial.out (normalized_pl l.pl) l.out l.i (map (λ p. p - least l.pl) (drop l.i l.pl))
-
-abbrev pub decreases-loop-i : goal.decreases-loop-i
-decreases-loop-i l = l.i-end - l.i

@@ -1,5 +1,5 @@
 -- What is left to store are the values from i on.
-use Prim.Native.Nat.{◌-◌}
+use Prim.Native.Nat.{◌+◌}
 use borrow.Author.Rules.{rules}
 use lib.ListN.{drop, drop_of_length-le}
 use native.Mathlib.Omega.{arith}
@@ -8,7 +8,4 @@ use Rattle.kv_write.proofs.Laying.{Left, done, left_length, one, recast, start}
 use Rattle.called_genotypes.proofs.store_values.Given as goal
 
 abbrev pub invariant-loop-i : goal.invariant-loop-i
-invariant-loop-i l = Left l.initial.out l.place l.values l.out l.next (drop l.i l.values)
-
-abbrev pub decreases-loop-i : goal.decreases-loop-i
-decreases-loop-i l = l.i-end - l.i
+invariant-loop-i l = Left l.initial.out l.place l.values l.out (l.place + l.i) (drop l.i l.values)

@@ -7,4 +7,4 @@ pub returns-then-second-eq0 : goal.returns-then-second-eq0
 returns-then-second-eq0 c = rw (eq-eqb _ 0 c.if-second-eq0.true)
 
 pub returns : goal.returns
-returns c = rw (ne_eqb _ 0 c.if-second-eq0.false) c.lesser.ensures
+returns c = rw (ne_eqb _ 0 c.if-second-eq0.false) c.min.ensures

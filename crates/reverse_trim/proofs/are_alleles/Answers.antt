@@ -1,22 +1,28 @@
 -- REF alone, or REF and a list of ALTs.
-use borrow.Author.Rules.{rules}
-use lib.ListN.{length-take}
-use mathlib.Core.Path.{◌∙◌}
-use native.Mathlib.Omega.{arith}
+use Prim.Native.Nat.{◌+◌, ◌<◌, ℕ}
+use lib.ListN.{drop, length, take}
+use mathlib.Core.Bool.{Bool}
+use mathlib.Core.List.{List}
+use mathlib.Core.Path.{◌∙◌, ◌≡◌}
+use Rattle.core.specs.Option.{is_some}
+use Rattle.std.specs.Prelude as std
 use Rattle.alleles.specs.Alleles.{AllelesFound}
-use Rattle.reverse_trim.proofs.InOrder.{alone_accepted, several_right, several_wrong}
+use Rattle.alleles.specs.declared.CheckedAlleles.{CheckedAlleles}
+use Rattle.definitions.specs.Bytes.{comma, fields_of}
+use Rattle.definitions.specs.Checked.{is_accepted}
+use Rattle.definitions.specs.ReverseTrim.{alleles_from}
+use Rattle.kv_text.specs.Fields.{field_length}
+use Rattle.reverse_trim.proofs.InOrder.{alone_accepted, rest_from, several_right, several_wrong}
 use Rattle.reverse_trim.proofs.are_alleles.Goals as goal
 
 pub returns-then-list-end : goal.returns-then-list-end
 returns-then-list-end c = c.is_letters.ensures ∙ alone_accepted _ _ (c.field_end-end.ensures) c.if-list-end.true
 
-pub slice_bounds-check_alleles-end : goal.slice_bounds-check_alleles-end
-slice_bounds-check_alleles-end c = simp length-take (omega arith)
-
-pub returns-in-Alleles : goal.returns-in-Alleles
+found : (s : List ℕ) {end : ℕ} (first : end ≡ 0 + field_length 44 (drop 0 s)) (h : end < length s) (r : std.Option CheckedAlleles) {b : Bool}
+    → AllelesFound 255 16 (take end s) (rest_from s (end + 1)) r → b ≡ is_some r → b ≡ is_accepted (alleles_from (fields_of comma s))
 unfolding AllelesFound
-returns-in-Alleles c = several_right _ _ (c.field_end-end.ensures) c.if-list-end.false (rw (c.in-Alleles.is) at (c.check_alleles-read.ensures)).right
+found s first h (std.Some x) f e = e ∙ several_right s _ first h f.right
+found s first h std.None f e = e ∙ several_wrong s _ first h f
 
-pub returns-in-Fault : goal.returns-in-Fault
-unfolding AllelesFound
-returns-in-Fault c = several_wrong _ _ (c.field_end-end.ensures) c.if-list-end.false (rw (c.in-Fault.is) at (c.check_alleles-read.ensures))
+pub returns : goal.returns
+returns c = found c.args.list.now c.field_end-end.ensures c.if-list-end.false c.check_alleles.result c.check_alleles.ensures c.is_some.ensures

@@ -7,15 +7,15 @@ use Rattle.kv_text.specs.Fields.{FieldFound}
 use Rattle.shown_alleles.proofs.Pairs.{field_number, past_fields}
 use Rattle.shown_alleles.proofs.allele_at.Goals as goal
 
-pub returns-in-At : goal.returns-in-At
+pub returns-in-Some : goal.returns-in-Some
 unfolding FieldFound comma
-returns-in-At c = let h = rw c.in-At.is at c.field_at-field.ensures in
+returns-in-Some c = let h = c.in-Some.ensures in
     c.part.ensures ∙ sym h.1 ∙ sym
     (field_number _ (fields_of comma c.args.alts.now) c.args.number (omega (arith, c.if-number-eq0.false)))
 
-pub returns-in-Absent : goal.returns-in-Absent
+pub returns-in-None : goal.returns-in-None
 unfolding FieldFound comma
-returns-in-Absent c = let h = rw c.in-Absent.is at c.field_at-field.ensures in
+returns-in-None c = let h = c.in-None.ensures in
     sym
     (field_number _ (fields_of comma c.args.alts.now) c.args.number (omega (arith, c.if-number-eq0.false)) ∙ past_fields
     (fields_of comma c.args.alts.now) _ h)

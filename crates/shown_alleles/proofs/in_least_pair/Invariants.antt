@@ -18,7 +18,4 @@ abbrev pub IsLeast : List ℕ → ℕ → ℕ → Bool
 IsLeast pl allele i = eqb (get_or pl i 0) (least pl) && pair_has allele (get_or (genotype_pairs 16) i no_pair)
 
 abbrev pub invariant-loop-i : goal.invariant-loop-i
-invariant-loop-i l = (any_of (IsLeast l.pl l.allele) (numbers_from 0 (length l.pl)) ≡ any_of (IsLeast l.pl l.allele) (numbers_from l.i (length l.pl - l.i))) × (l.i-end ≡ length l.pl)
-
-abbrev pub decreases-loop-i : goal.decreases-loop-i
-decreases-loop-i l = l.i-end - l.i
+invariant-loop-i l = any_of (IsLeast l.pl l.allele) (numbers_from 0 (length l.pl)) ≡ any_of (IsLeast l.pl l.allele) (numbers_from l.i (length l.pl - l.i))

@@ -12,21 +12,21 @@ use Rattle.shown_alleles.proofs.text_has.Goals as goal
 
 pub slice_bounds-numbers-end : goal.slice_bounds-numbers-end
 unfolding numbers_read
-slice_bounds-numbers-end c = let r = rw (c.in-Count.is) at (c.read_numbers-read.ensures) in
+slice_bounds-numbers-end c = let r = c.in-Some.ensures in
     let few = few_numbers _ _ c.requires r.0.0 in omega (arith, few, r.0.1)
 
 pub slice_bounds-in_least_pair-end : goal.slice_bounds-in_least_pair-end
 unfolding numbers_read
-slice_bounds-in_least_pair-end c = let r = rw c.in-Count.is at c.read_numbers-read.ensures in
+slice_bounds-in_least_pair-end c = let r = c.in-Some.ensures in
     let few = few_numbers _ _ c.requires r.0.0 in
     front_long _ _ _ _ _ r.0.0 r.1 r.0.1 few
 
-pub returns-in-Fault : goal.returns-in-Fault
+pub returns-in-None : goal.returns-in-None
 unfolding numbers_read
-returns-in-Fault c = least_missing _ _ _ (rw (c.in-Fault.is) at (c.read_numbers-read.ensures)).0
+returns-in-None c = least_missing _ _ _ c.in-None.ensures.0
 
-pub returns-in-Count : goal.returns-in-Count
+pub returns-in-Some : goal.returns-in-Some
 unfolding numbers_read
-returns-in-Count c = let r = rw (c.in-Count.is) at (c.read_numbers-read.ensures) in
+returns-in-Some c = let r = c.in-Some.ensures in
     let few = few_numbers _ _ c.requires r.0.0 in
     c.in_least_pair.ensures ∙ ap (in_least_pair 16 _) (ap {B = Option (List ℕ)} some (front_is _ _ _ _ r.1 r.0.1 few) ∙ sym r.0.0)
