@@ -31,9 +31,7 @@ fn sample_at(s: &[u8], at: usize, names: &[usize], count: usize) -> Result<Part,
     requires { 2 * count ≤ length names.now }
     ensures { SampleRead s.now at (reverse (names_in s.now names.now count)) result }
 {
-    let Some(name) = kv_text::name_line(s, at, b"sample=") else {
-        return Err(Refusal::Spelling);
-    };
+    let name = kv_text::name_line(s, at, b"sample=").ok_or(Refusal::Spelling)?;
     if name_known(s, names, count, &s[name.at..name.end]) {
         return Err(Refusal::Sample);
     }
@@ -66,9 +64,7 @@ pub struct SampleLines {
 fn samples_line(s: &[u8]) -> Result<SampleLines, Refusal>
     ensures { CountRead s.now result }
 {
-    let Some((count, end)) = kv_text::number_line(s, 0, b"samples=") else {
-        return Err(Refusal::Spelling);
-    };
+    let (count, end) = kv_text::number_line(s, 0, b"samples=").ok_or(Refusal::Spelling)?;
     if count < 1 {
         return Err(Refusal::Size);
     }

@@ -2,6 +2,7 @@
 use Prim.Native.Nat.{◌-◌, ◌≤◌}
 use borrow.Author.Rules.{rules}
 use lib.ListN.{length}
+use mathlib.Core.Path.{◌≡◌}
 use native.Mathlib.Omega.{arith}
 use Rattle.clip_and_reference.proofs.Places.{placed_faulty}
 use Rattle.clip_and_reference.specs.Groups.{SegmentRead}

@@ -3,6 +3,7 @@ use Prim.Native.Nat.{◌-◌}
 use borrow.Author.Rules.{rules}
 use lib.Seq.{lt-length-set}
 use native.Mathlib.Omega.{arith}
+use Rattle.std.proofs.lemmas.Result.{err_from_is_err_and}
 use Rattle.sample_names.proofs.Lines.{Turn, turn_end, turn_next, turn_refused, turn_start}
 use Rattle.sample_names.specs.Header.{NamesRead, SampleRead}
 use Rattle.sample_names.proofs.sample_lines.Goals as goal
@@ -10,55 +11,31 @@ use Rattle.sample_names.proofs.sample_lines.Goals as goal
 pub loop-i-init : goal.loop-i-init
 loop-i-init c = turn_start _ _ _ _ c.requires.0
 
-pub sample_at-line-requires : goal.sample_at-line-requires
-sample_at-line-requires c = omega (arith, c.loop-i.invariant.long, c.loop-i.invariant.few, c.requires.1)
+pub sample_at-requires : goal.sample_at-requires
+sample_at-requires c = omega (arith, c.loop-i.invariant.long, c.loop-i.invariant.few, c.requires.1)
 
-pub shape_of-names-in-Refused : goal.shape_of-names-in-Refused
-shape_of-names-in-Refused c = c.loop-i.invariant.long
-
-pub returns-in-Refused : goal.returns-in-Refused
+pub returns-in_err-name : goal.returns-in_err-name
 unfolding NamesRead SampleRead
-returns-in-Refused c = turn_refused _ _ _ _ _ _ _ c.loop-i.invariant _ c.loop-i-test.true (rw c.in-Refused.is at c.sample_at-line.ensures)
+returns-in_err-name c =
+    let p = err_from_is_err_and c.from_residual.result c.from_residual.ensures.1 in
+    rw (p.1, p.2) (turn_refused _ _ _ _ _ _ _ c.loop-i.invariant _ c.loop-i-test.true c.in_err-name.ensures)
 
 pub overflow_mul-names : goal.overflow_mul-names
 overflow_mul-names c = omega (arith, c.loop-i.invariant.long, c.requires.1)
 
-pub offset_bounds-names-i : goal.offset_bounds-names-i
-offset_bounds-names-i c = omega (arith, c.loop-i.invariant.long, c.requires.1)
-
 pub bounds-names-i : goal.bounds-names-i
 bounds-names-i c = omega (arith, c.loop-i.invariant.long, c.requires.1)
 
-pub overflow_mul-names-in-Name : goal.overflow_mul-names-in-Name
-overflow_mul-names-in-Name c = omega (arith, c.loop-i.invariant.long, c.requires.1)
-
-pub overflow_add-names : goal.overflow_add-names
-overflow_add-names c = omega (arith, c.loop-i.invariant.long, c.requires.1)
-
-pub offset_bounds-names-i-in-Name : goal.offset_bounds-names-i-in-Name
-offset_bounds-names-i-in-Name c = omega (arith, c.loop-i.invariant.long, c.requires.1)
-
-pub bounds-names-i-in-Name : goal.bounds-names-i-in-Name
-bounds-names-i-in-Name c = lt-length-set c.loop-i.names _ _ (omega (arith, c.loop-i.invariant.long, c.requires.1))
-
 pub overflow_add-next : goal.overflow_add-next
 unfolding SampleRead
-overflow_add-next c = let l = rw c.in-Name.is at c.sample_at-line.ensures in omega (arith, l.within)
-
-pub overflow_add-i : goal.overflow_add-i
-overflow_add-i c = omega (arith, c.loop-i.invariant.long, c.requires.1)
-
-pub loop-i-smaller : goal.loop-i-smaller
-loop-i-smaller c = omega (arith, c.loop-i.invariant.long, c.requires.1)
+overflow_add-next c = omega (arith, c.in_ok-name.ensures.within)
 
 pub loop-i-preserved : goal.loop-i-preserved
 unfolding SampleRead
-loop-i-preserved c = turn_next _ _ _ _ _ _ _ c.loop-i.invariant _ _ c.loop-i-test.true (omega (arith, c.loop-i.invariant.long, c.requires.1))
-    (rw c.in-Name.is at c.sample_at-line.ensures)
-
-pub shape_of-names : goal.shape_of-names
-shape_of-names c = c.loop-i.invariant.long
+loop-i-preserved c =
+    turn_next _ _ _ _ _ _ _ c.loop-i.invariant _ _ c.loop-i-test.true (omega (arith, c.loop-i.invariant.long, c.requires.1))
+    c.in_ok-name.ensures
 
 pub returns : goal.returns
 unfolding NamesRead
-returns c = turn_end _ _ _ _ _ _ _ c.loop-i.invariant c.loop-i-test.false
+returns c = turn_end _ _ _ _ _ _ _ c.loop-i.invariant (omega arith)

@@ -9,6 +9,3 @@ use Rattle.sample_names.proofs.sample_lines.Given as goal
 
 abbrev pub invariant-loop-i : goal.invariant-loop-i
 invariant-loop-i l = Turn l.s l.at l.count l.initial.names l.names l.next l.i
-
-abbrev pub decreases-loop-i : goal.decreases-loop-i
-decreases-loop-i l = l.count - l.i
