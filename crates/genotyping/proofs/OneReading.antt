@@ -1,5 +1,5 @@
 -- One step over lists of PLs, with a count that is held at the greatest usize; what the front of a list gives; the GQ at the end.
-use Prim.Native.Nat.{◌+◌, ◌<◌, ◌≤◌, min, suc, ℕ}
+use Prim.Native.Nat.{◌+◌, ◌<◌, ◌≤◌, min, suc, zero, ℕ}
 use borrow.Author.Tests.{eq-eqb, le-ltb, lt-ltb, ne_eqb}
 use lib.Dec.{eqb, ltb}
 use lib.ListN.{get_or, length, length-append, take}

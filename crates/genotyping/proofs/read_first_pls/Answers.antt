@@ -1,5 +1,5 @@
 -- All PLs before the first other one are alike, and that one gives a second.
-use Prim.Native.Nat.{◌<◌, ℕ}
+use Prim.Native.Nat.{◌<◌, suc, zero, ℕ}
 use borrow.Author.Rules.{rules}
 use borrow.Author.Tests.{tests}
 use lib.ListN.{get_or, length}
@@ -51,4 +51,4 @@ returns-in-None c =
     (YieldsList-from_slice pl cc) (λ x q k. search (rules, tests)) (λ x q k. search (rules, tests)) in
     let h = rw c.in-None.is at first in
     let all = alike_to pl (omega arith) (length pl) (omega arith) (omega arith) (λ k less. h k 0 (omega arith) less) in
-    alike_all pl _ _ all (omega arith) (omega arith) c.equal_pls-found.ensures
+    alike_all pl _ _ all (omega arith) (omega arith) c.equal_pls-found-in-None.ensures
