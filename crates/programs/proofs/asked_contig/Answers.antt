@@ -11,7 +11,7 @@ use Rattle.programs.proofs.asked_contig.Goals as goal
 
 pub returns-in_err-name : goal.returns-in_err-name
 unfolding key_of text LineReads
-returns-in_err-name c = not_named _ c.in_err-name.ensures.0
+returns-in_err-name c = rw c.from_residual.ensures (not_named _ c.in_err-name.ensures.0)
 
 pub overflow_add-name : goal.overflow_add-name
 overflow_add-name c = omega (arith, line_within _ _ _ name _ _ c.in_ok-name.ensures.0)
