@@ -8,6 +8,8 @@ use mathlib.Core.List.{List, [], ◌∷◌, map}
 use mathlib.Core.Path.{◌∙◌, ◌≡◌, ap, refl, subst, sym}
 use native.Mathlib.Nat.{zero-add}
 use native.Mathlib.Omega.{arith}
+use Rattle.std.specs.Prelude.{Err, None, Ok, Option, Result, Some}
+use Rattle.answers.specs.declared.Refusal.{Refusal}
 use Rattle.covering_sites.proofs.CoveringFound.{covering_found, found_few, found_owners, member_found}
 use Rattle.covering_sites.specs.Covering.{Found, covering_samples}
 use Rattle.definitions.specs.Alleles.{Allele, RefAlts, capital}
@@ -28,15 +30,12 @@ use Rattle.laws.proofs.SoundValues.{Letters}
 use Rattle.merged_alleles.proofs.Sound.{found_sound}
 use Rattle.merged_alleles.specs.SoundSites.{SoundSites}
 use Rattle.merged_ref.proofs.Refs.{by_segments}
-use Rattle.merged_ref.specs.Answers.{ref_answer, ref_bytes, reference_segments}
-use Rattle.merged_ref.specs.declared.Place.{Place}
+use Rattle.merged_ref.specs.Answers.{ref_bytes, reference_segments}
 use Rattle.merged_ref.specs.declared.RefAt.{RefAt}
-use Rattle.merged_ref.specs.declared.RefAt.TheVariants as ref
 use Rattle.tables.specs.Tables.{column, site_at}
-use Rattle.merged_records.specs.Found.{AltsFound, Over, RecordFound, RecordTo, covering}
+use Rattle.merged_records.specs.Found.{AltsFound, Over, RecordFound, RecordTo, covering, some_record}
 use Rattle.merged_records.specs.Loaded.{OnContig, covering_numbers, covering_owners, runs}
-use Rattle.merged_records.specs.declared.RecordAt.{RecordAt}
-use Rattle.merged_records.specs.declared.RecordAt.TheVariants as answer
+use Rattle.merged_records.specs.declared.FoundRecord.{FoundRecord}
 
 -- what is stored from a list's beginning on stands at its front
 front_of : (d l : List ℕ) → length l ≤ length d → take (length l) (sets d 0 l) ≡ l
@@ -131,13 +130,12 @@ module _ {s rows : List ℕ} {samples : ℕ} {referenced : Bool} {reference cont
       pub found_sites_sound : SoundSites s rows sites (ref_bytes s reference at)
       found_sites_sound = rw here (sites_sound (ref_bytes s reference at) merged)
 
-      pub record_found : 0 < length sites → (alts : List ℕ) (r : RecordAt) → AltsFound s rows reference position at sites alts r
-          → RecordFound on position (λ _. sites) alts r
+      pub record_found : 0 < length sites → (alts : List ℕ) (r : Result FoundRecord Refusal) → AltsFound s rows reference position at sites alts r
+          → RecordFound on position (λ _. sites) alts (some_record r)
       unfolding AltsFound RecordFound
-      record_found some_site alts answer.NoSites h = absurd h
-      record_found some_site alts (answer.Refused row) h =
+      record_found some_site alts (Err r) h =
           (covering_some sites here some_site, λ last. rw h.0 (alts_refused last (map capital (ref_bytes s reference at)) merged (rw (← numbers_cover, ← here) h.1)))
-      record_found some_site alts (answer.Record m same len number) h =
+      record_found some_site alts (Ok r) h =
           let cover : map (site_at s rows) sites ≡ covering on position = ap (map (site_at s rows)) here ∙ numbers_cover in
           rw h.same_ref (record {
             sites = cover;
@@ -152,25 +150,14 @@ module _ {s rows : List ℕ} {samples : ℕ} {referenced : Bool} {reference cont
           })
 
   -- the sites in the whole list
-  pub at_front : (after : List ℕ) (m : ℕ) → m ≡ length (take m after) → (alts : List ℕ) (r : RecordAt)
+  pub at_front : (after : List ℕ) (m : ℕ) → m ≡ length (take m after) → (alts : List ℕ) (r : Result (Option FoundRecord) Refusal)
       → RecordFound on position (λ _. take m after) alts r → RecordFound on position (λ k. take k after) alts r
   unfolding RecordFound
-  at_front after m e alts answer.NoSites h = h
-  at_front after m e alts (answer.Refused row) h = h
-  at_front after m e alts (answer.Record n at len number) h =
-      let same : n ≡ m = h.all ∙ sym e in
-      subst (λ (k : ℕ). RecordTo on position (take k after) alts n at len number) (sym same) h
-
--- an answer that is an allele of the cohort text or a letter is REF, in either case
-pub allele_answered : (s reference : List ℕ) (at : RefAt) (from to : ℕ) → at ≡ ref.Allele from to
-    → ref_answer s reference at ≡ accepted (map capital (ref_bytes s reference at))
-unfolding ref_answer
-allele_answered s reference at from to e = rw e
-
-pub letter_answered : (s reference : List ℕ) (at : RefAt) (place : Place) → at ≡ ref.Letter place
-    → ref_answer s reference at ≡ accepted (map capital (ref_bytes s reference at))
-unfolding ref_answer
-letter_answered s reference at place e = rw e
+  at_front after m e alts (Ok None) h = h
+  at_front after m e alts (Ok (Some r)) h =
+      let same : r.sites ≡ m = h.all ∙ sym e in
+      subst (λ (k : ℕ). RecordTo on position (take k after) alts r.sites r.reference r.alts.len r.alts.count) (sym same) h
+  at_front after m e alts (Err r) h = h
 
 -- ---- the numbers at the front of the list that was filled
 

@@ -100,7 +100,7 @@ pub fn merge_reference_confidence<'a>(
     if n == 0 {
         return Ok(None);
     }
-    let record = record_over(
+    Ok(Some(record_over(
         s,
         rows,
         samples,
@@ -110,6 +110,5 @@ pub fn merge_reference_confidence<'a>(
         position,
         &found[..n],
         alts,
-    )?;
-    Ok(Some(record))
+    )?))
 }

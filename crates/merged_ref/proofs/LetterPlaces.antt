@@ -26,7 +26,6 @@ use Rattle.tables.proofs.Stored.{rows_end, rows_next}
 use Rattle.tables.specs.Tables.{segment_at, segment_column, segment_count, segments_next}
 use Rattle.merged_ref.proofs.Letters.{LetterFound, first_behind, first_front}
 use Rattle.merged_ref.specs.Answers.{letter_place, place_in, placed_by, placed_in, reference_placed, reference_segments}
-use Rattle.merged_ref.specs.declared.LetterAt.TheVariants.{Absent, At}
 
 -- ---- one segment
 
@@ -186,7 +185,7 @@ module _ (reference rows : List ℕ) where
     first_placed = rw (← segments_placed_lem) (first_map (λ (p : PlacedSegment). p.segment) (segment_holds contig position) (reference_placed reference rows))
 
     pub place_stands : {i : ℕ} → some i ≡ letter_place contig position (reference_placed reference rows)
-        → LetterFound reference contig position (reference_segments reference rows) (At i)
+        → LetterFound reference contig position (reference_segments reference rows) (some i)
     unfolding letter_place place_in LetterFound
     place_stands e =
         let (p, found, is) = map_back (place_in position) placed_first (sym e) in
@@ -201,7 +200,7 @@ module _ (reference rows : List ℕ) where
         }
 
     pub place_lacks : none ≡ letter_place contig position (reference_placed reference rows)
-        → LetterFound reference contig position (reference_segments reference rows) Absent
+        → LetterFound reference contig position (reference_segments reference rows) none
     unfolding letter_place LetterFound
     place_lacks e = first_placed ∙ ap (Option.map (λ (p : PlacedSegment). p.segment)) (map_none (place_in position) placed_first (sym e))
 

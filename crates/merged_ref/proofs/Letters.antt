@@ -10,6 +10,7 @@ use mathlib.Core.Option
 use mathlib.Core.Option.{Option, none, some}
 use mathlib.Core.Path.{◌∙◌, ◌≡◌, ap, refl, sym}
 use native.Mathlib.Omega.{arith}
+use Rattle.std.proofs.lemmas.Bool.{false≢true}
 use Rattle.definitions.specs.Alleles.{capital}
 use Rattle.definitions.specs.Bytes.{same_bytes}
 use Rattle.definitions.specs.ClipAndReference.{ReferenceSegment, reference_letter, segment_holds, segment_letter}
@@ -18,8 +19,7 @@ use Rattle.kv_text.specs.Fields.{between}
 use Rattle.laws.proofs.Capitals.{capital_at}
 use Rattle.laws.proofs.Members.{first_found}
 use Rattle.laws.proofs.Tests.{all_three, not_none}
-use Rattle.merged_ref.specs.declared.LetterAt.{LetterAt}
-use Rattle.merged_ref.specs.declared.LetterAt.TheVariants.{Absent, At}
+use Rattle.std.specs.Prelude as std
 
 -- ---- a letter of a part
 
@@ -32,6 +32,17 @@ pub part_letter : (s : List ℕ) (a e k : ℕ) → k < length (between s a e) �
 part_letter s a e k h =
     let (in_text, in-part) = part_room s a e k h in
     rw (drop-cons s (a + k) 0 in_text, get_or-take (e - a) (drop a s) k 0 in-part, get_or-drop a s k 0)
+
+-- ---- an answer that may be none
+
+module _ {A : Type 0} where
+  pub there_is : (o : std.Option A) → std.is_some o ≡ true → (a : A) × (o ≡ std.Some a)
+  there_is (std.Some a) e = (a, refl)
+  there_is std.None e = absurd (false≢true e)
+
+  pub there_is_none : (o : std.Option A) → std.is_some o ≡ false → o ≡ std.None
+  there_is_none (std.Some a) e = absurd (false≢true (sym e))
+  there_is_none std.None e = refl
 
 -- ---- the first that passes a test, in two lists
 
@@ -69,12 +80,12 @@ pub record LetterIn (reference contig : List ℕ) (position : ℕ) (segments : L
   pub offset : i ≡ bases_at + (position - segment.first)
 
 -- the letter is found there, or no segment holds the position
-unfoldable pub LetterFound : List ℕ → List ℕ → ℕ → List ReferenceSegment → LetterAt → Type 0
-LetterFound reference contig position segments (At i) = LetterIn reference contig position segments i
-LetterFound reference contig position segments Absent = first_where (segment_holds contig position) segments ≡ none
+unfoldable pub LetterFound : List ℕ → List ℕ → ℕ → List ReferenceSegment → Option ℕ → Type 0
+LetterFound reference contig position segments (some i) = LetterIn reference contig position segments i
+LetterFound reference contig position segments none = first_where (segment_holds contig position) segments ≡ none
 
 module _ (reference contig : List ℕ) (position : ℕ) where
-  abbrev Of : List ReferenceSegment → LetterAt → Type 0
+  abbrev Of : List ReferenceSegment → Option ℕ → Type 0
   Of = LetterFound reference contig position
 
   abbrev holds : ReferenceSegment → Bool
@@ -87,7 +98,7 @@ module _ (reference contig : List ℕ) (position : ℕ) where
       (leb-true _ _ low, ltb-true _ _ high)
 
   -- its letter is the capital of the byte there
-  pub letter_is : (segments : List ReferenceSegment) (i : ℕ) → Of segments (At i)
+  pub letter_is : (segments : List ReferenceSegment) (i : ℕ) → Of segments (some i)
       → (byte : ℕ) × (reference_letter segments contig position ≡ some (capital byte)) × (take 1 (drop i reference) ≡ byte ∷ [])
   unfolding LetterFound reference_letter segment_letter
   letter_is segments i f =
@@ -101,6 +112,6 @@ module _ (reference contig : List ℕ) (position : ℕ) where
         rw f.offset (part_letter reference f.bases_at f.bases_end index inside),
       )
 
-  pub letter_lacks : (segments : List ReferenceSegment) → Of segments Absent → reference_letter segments contig position ≡ none
+  pub letter_lacks : (segments : List ReferenceSegment) → Of segments none → reference_letter segments contig position ≡ none
   unfolding LetterFound reference_letter
   letter_lacks segments f = ap (Option.map (segment_letter position)) f

@@ -23,19 +23,17 @@ use Rattle.merged_ref.specs.Answers.{letter_bytes, part_or, reached_place, ref_a
 use Rattle.merged_ref.proofs.Letters.{LetterFound, letter_is, letter_lacks}
 use Rattle.merged_ref.proofs.Reached.{none_there, reached_there}
 use Rattle.merged_ref.proofs.Starting.{LongestFound}
-use Rattle.merged_ref.specs.declared.LetterAt.TheVariants as letter_at
-use Rattle.merged_ref.specs.declared.LongestAt.TheVariants as longest_at
+use Rattle.answers.specs.declared.Refusal.TheVariants as refusal
+use Rattle.std.specs.Prelude.{Err, Ok}
+use Rattle.std.specs.Prelude as std
 use Rattle.merged_ref.specs.declared.Place.TheVariants.{Cohort, Nowhere, Reference}
 use Rattle.merged_ref.specs.declared.RefAt.{RefAt}
 use Rattle.merged_ref.specs.declared.RefAt.TheVariants as answer
 
 -- for callers: an answer that does not refuse says where REF stands, in either case
-pub answered : (s reference : List ℕ) (at : RefAt) → ((row : ℕ) → at ≡ answer.Refused row → ⊥)
-    → ref_answer s reference at ≡ accepted (map capital (ref_bytes s reference at))
+pub answered : (s reference : List ℕ) (at : RefAt) → ref_answer s reference (Ok at) ≡ accepted (map capital (ref_bytes s reference at))
 unfolding ref_answer
-answered s reference (answer.Allele from to) h = refl
-answered s reference (answer.Letter place) h = refl
-answered s reference (answer.Refused row) h = absurd (h row refl)
+answered s reference at = refl
 
 module _ (s rows reference contig : List ℕ) (position : ℕ) (found : List ℕ) (referenced : Bool) (segments : List ReferenceSegment) where
   abbrev covering : List Site
@@ -44,7 +42,7 @@ module _ (s rows reference contig : List ℕ) (position : ℕ) (found : List ℕ
   -- ---- a letter
 
   pub letter_reached : referenced ≡ false → (i : ℕ) → some i ≡ reached_place s rows position found
-      → ref_answer s reference (answer.Letter (Cohort i)) ≡ ref_letter (only_if referenced segments) contig position covering
+      → ref_answer s reference (Ok (answer.Letter (Cohort i))) ≡ ref_letter (only_if referenced segments) contig position covering
   unfolding ref_answer ref_bytes ref_or part_or letter_bytes only_if
   letter_reached h i e =
       let (byte, is, there) = reached_there s rows position found (sym e) in
@@ -55,40 +53,40 @@ module _ (s rows reference contig : List ℕ) (position : ℕ) (found : List ℕ
   unknown_raised = ap (λ (b : ℕ). b ∷ []) (capital_letter unknown_base unknown_base_lem)
 
   pub letter_unknown : referenced ≡ false → none ≡ reached_place s rows position found
-      → ref_answer s reference (answer.Letter Nowhere) ≡ ref_letter (only_if referenced segments) contig position covering
+      → ref_answer s reference (Ok (answer.Letter Nowhere)) ≡ ref_letter (only_if referenced segments) contig position covering
   unfolding ref_answer ref_bytes ref_or part_or letter_bytes only_if
   letter_unknown h e = rw (h, unknown_raised) (sym (ref_letter_unknown contig position covering (none_there s rows position found (sym e))))
 
-  pub letter_there : referenced ≡ true → (i : ℕ) → LetterFound reference contig position segments (letter_at.At i)
-      → ref_answer s reference (answer.Letter (Reference i)) ≡ ref_letter (only_if referenced segments) contig position covering
+  pub letter_there : referenced ≡ true → (i : ℕ) → LetterFound reference contig position segments (some i)
+      → ref_answer s reference (Ok (answer.Letter (Reference i))) ≡ ref_letter (only_if referenced segments) contig position covering
   unfolding ref_answer ref_bytes ref_or part_or letter_bytes ref_letter only_if
   letter_there h i f =
       let (byte, first, is) = letter_is reference contig position segments i f in
       rw (h, is) (sym (then _ _ (or_refused 11 _ first) refl))
 
-  pub letter_lacking : referenced ≡ true → LetterFound reference contig position segments letter_at.Absent
-      → ref_answer s reference (answer.Refused 11) ≡ ref_letter (only_if referenced segments) contig position covering
+  pub letter_lacking : referenced ≡ true → LetterFound reference contig position segments none
+      → ref_answer s reference (Err refusal.ReferenceLetter) ≡ ref_letter (only_if referenced segments) contig position covering
   unfolding ref_answer ref_letter only_if or_refuse
   letter_lacking h f = rw h (sym (then_refused _ _ (ap (or_refuse 11) (letter_lacks reference contig position segments f))))
 
   -- ---- REF
 
-  pub by_letter : LongestFound s rows position found longest_at.NoneStarts → {ref : Checked (List ℕ)}
+  pub by_letter : LongestFound s rows position found std.None → {ref : Checked (List ℕ)}
       → ref ≡ ref_letter (only_if referenced segments) contig position covering
       → ref ≡ merged_ref (only_if referenced segments) contig position covering
   unfolding merged_ref LongestFound
   by_letter f e = rw f e
 
-  module _ (site : ℕ) (f : LongestFound s rows position found (longest_at.Site site)) {agree : Bool}
+  module _ (site : ℕ) (f : LongestFound s rows position found (std.Some site)) {agree : Bool}
       (e : agree ≡ all_of (λ ref. is_prefix ref (map capital (part_at 9 10 s rows site))) (starting_refs position covering)) where
     pub shared : agree ≡ true
-        → ref_answer s reference (answer.Allele (column 9 rows site) (column 10 rows site))
+        → ref_answer s reference (Ok (answer.Allele (column 9 rows site) (column 10 rows site)))
         ≡ merged_ref (only_if referenced segments) contig position covering
     unfolding ref_answer ref_bytes ref_or part_at merged_ref shared_ref LongestFound starting_refs
     shared h = rw (f.0, ← f.1) (sym (required 12 _ _ (sym e ∙ h) refl))
 
     pub conflict : agree ≡ false
-        → ref_answer s reference (answer.Refused 12) ≡ merged_ref (only_if referenced segments) contig position covering
+        → ref_answer s reference (Err refusal.RefConflict) ≡ merged_ref (only_if referenced segments) contig position covering
     unfolding ref_answer merged_ref shared_ref LongestFound starting_refs
     conflict h = rw (f.0, ← f.1) (sym (not_required 12 _ _ (sym e ∙ h)))
 

@@ -32,7 +32,8 @@ fn letter_in(
     ensures { option_of result ≡ letter_place contig.now position.0
         (placed_by reference.now name.at name.end first.0 bases.at bases.end ∷ []) }
 {
-    if !kv_text::same_bytes(contig, tables::part(reference, name.at, name.end)) {
+    let own = tables::part(reference, name.at, name.end);
+    if !kv_text::same_bytes(contig, own) {
         return None;
     }
     let wanted = position.get();
@@ -136,11 +137,10 @@ pub fn find_letter(
     ensures { option_of result ≡ letter_place contig.now position.0
         (reference_placed reference.now rows.now) }
 {
-    let letter = letter_in_rows(reference, rows, contig, position);
-    if letter.is_some() {
-        return letter;
+    match letter_in_rows(reference, rows, contig, position) {
+        Some(i) => Some(i),
+        None => letter_from(reference, tables::segments_next(rows), contig, position),
     }
-    letter_from(reference, tables::segments_next(rows), contig, position)
 }
 
 // ---- the sites that start at the position
@@ -293,8 +293,10 @@ fn ref_letter(
         contig.now position.0 (sites_at s.now rows.now found.now) }
 {
     if referenced {
-        let i = find_letter(reference, rows, contig, position).ok_or(Refusal::ReferenceLetter)?;
-        return Ok(RefAt::Letter(Place::Reference(i)));
+        return match find_letter(reference, rows, contig, position) {
+            Some(i) => Ok(RefAt::Letter(Place::Reference(i))),
+            None => Err(Refusal::ReferenceLetter),
+        };
     }
     match reached_letter(s, rows, found, position) {
         Some(i) => Ok(RefAt::Letter(Place::Cohort(i))),

@@ -26,11 +26,22 @@ slice_bounds-record_over-end-2 c = exactly c.requires.0.on _ _ _ _ c.requires.1.
 pub record_over-requires : goal.record_over-requires
 record_over-requires c = (c.requires.1.for_alts, over_them c.requires.0.on _ _ _ _ c.requires.1.for_sites (found_known c.requires.0.in_runs _ _ c.covering_sites-n.ensures) c.if-n-eq0.false)
 
+pub returns-in_err-record_over : goal.returns-in_err-record_over
+unfolding over_them
+returns-in_err-record_over c = rw c.from_residual.ensures record {
+  answer = λ at. let f = found_known at.in_runs _ _ c.covering_sites-n.ensures in
+      at_front at.on _ _ _ (exactly at.on _ _ _ _ c.requires.1.for_sites f c.covering_sites-n.auto.found) _ _
+      (c.in_err-record_over.ensures (over_them at.on _ _ _ _ c.requires.1.for_sites f c.if-n-eq0.false));
+  sites = λ at. (found_known at.in_runs _ _ c.covering_sites-n.ensures).stored;
+  owners = λ at. (found_known at.in_runs _ _ c.covering_sites-n.ensures).owned ∙ ap (sets _ 0) (owners_are at.on _);
+}
+
 pub returns : goal.returns
 unfolding over_them
 returns c = record {
   answer = λ at. let f = found_known at.in_runs _ _ c.covering_sites-n.ensures in
-      at_front at.on _ _ _ (exactly at.on _ _ _ _ c.requires.1.for_sites f c.covering_sites-n.auto.found) _ _ (c.record_over.ensures (over_them at.on _ _ _ _ c.requires.1.for_sites f c.if-n-eq0.false));
+      at_front at.on _ _ _ (exactly at.on _ _ _ _ c.requires.1.for_sites f c.covering_sites-n.auto.found) _ _
+      (c.in_ok-record_over.ensures (over_them at.on _ _ _ _ c.requires.1.for_sites f c.if-n-eq0.false));
   sites = λ at. (found_known at.in_runs _ _ c.covering_sites-n.ensures).stored;
   owners = λ at. (found_known at.in_runs _ _ c.covering_sites-n.ensures).owned ∙ ap (sets _ 0) (owners_are at.on _);
 }

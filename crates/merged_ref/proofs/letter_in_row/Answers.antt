@@ -9,9 +9,9 @@ pub returns : goal.returns
 unfolding placed_at segment_at
 returns c = let is_first = c.new_1based.ensures ∙ c.segment_column-first.ensures in
     rw (
-      ← c.segment_column-contig_at.ensures,
-      ← c.segment_column-contig_end.ensures,
+      ← c.segment_column.ensures,
+      ← c.segment_column-2.ensures,
       ← is_first,
-      ← c.segment_column-bases_at.ensures,
-      ← c.segment_column-bases_end.ensures,
+      ← c.segment_column-3.ensures,
+      ← c.segment_column-4.ensures,
     ) c.letter_in.ensures

@@ -13,9 +13,9 @@ returns-in_default c = rw c.in_default.is (site_only _ _ _ _ (start_there _ _ _ 
 pub returns-then-longest-mine : goal.returns-then-longest-mine
 returns-then-longest-mine c = let starts = start_there _ _ _ _ (sym c.start_of.ensures ∙ sym c.get.ensures ∙ c.if-get.false ∙ c.get-2.ensures) in
     let lengths = rw (c.reference_allele-longest.ensures, c.reference_allele-mine.ensures) at c.if-longest-mine.true in
-    rw c.in-Site.is (site_longer _ _ _ _ starts _ lengths)
+    rw c.in-Some.is (site_longer _ _ _ _ starts _ lengths)
 
 pub returns : goal.returns
 returns c = let starts = start_there _ _ _ _ (sym c.start_of.ensures ∙ sym c.get.ensures ∙ c.if-get.false ∙ c.get-2.ensures) in
     let lengths = rw (c.reference_allele-longest.ensures, c.reference_allele-mine.ensures) at c.if-longest-mine.false in
-    rw c.in-Site.is (site_not_longer _ _ _ _ starts _ lengths)
+    rw c.in-Some.is (site_not_longer _ _ _ _ starts _ lengths)

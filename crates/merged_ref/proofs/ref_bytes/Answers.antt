@@ -10,7 +10,3 @@ returns-in-Allele c = rw (c.in-Allele.is) (c.part.ensures)
 pub returns-in-Letter : goal.returns-in-Letter
 unfolding ref_or
 returns-in-Letter c = rw (c.in-Letter.is, ← c.letter.ensures) (c.part_or.ensures)
-
-pub returns-in-Refused : goal.returns-in-Refused
-unfolding ref_or
-returns-in-Refused c = rw (c.in-Refused.is)
