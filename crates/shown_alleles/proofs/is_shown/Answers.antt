@@ -6,4 +6,4 @@ pub returns-then-same_letters : goal.returns-then-same_letters
 returns-then-same_letters c = rw (sym (c.same_letters.ensures) ∙ c.if-same_letters.true) (c.text_has.ensures)
 
 pub returns-else-same_letters : goal.returns-else-same_letters
-returns-else-same_letters c = rw (sym (c.same_letters.ensures) ∙ c.if-same_letters.false)
+returns-else-same_letters c = rw (sym (c.same_letters.ensures) ∙ c.if-same_letters.false) c.if-same_letters.false
