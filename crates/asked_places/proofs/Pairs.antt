@@ -2,7 +2,7 @@
 use Prim.Native.Nat.{Ordering, ◌+◌, ◌<◌, ◌≤◌, compare, ℕ}
 use borrow.Author.Tests.{le-leb, le-ltb, lt-leb, lt-ltb}
 use lib.Dec.{leb, ltb}
-use lib.ListN.{drop, length, length-reverse, take}
+use lib.ListN.{length, length-reverse}
 use mathlib.Core.Bool.{◌&&◌, and-false, false, true}
 use mathlib.Core.List.{List, [], ◌∷◌, reverse}
 use mathlib.Core.Path.{◌∙◌, ◌≡◌, ap, refl, sym}
@@ -10,7 +10,7 @@ use native.Mathlib.Omega.{arith}
 use Rattle.bio_ids.specs.declared.GenomePosition.{GenomePosition}
 use Rattle.definitions.specs.Bytes.{and_then, compare_bytes}
 use Rattle.definitions.specs.Checked.{accepted, refused}
-use Rattle.definitions.specs.Lines.{Line, key_of, line_at, lines_of}
+use Rattle.definitions.specs.Lines.{key_of, line_at}
 use Rattle.definitions.specs.Lists.{by_order}
 use Rattle.definitions.specs.LookUp.{Place, follows, max_places, not_after, place_of, places_of}
 use Rattle.definitions.specs.Numbers.{name, number}
@@ -21,7 +21,7 @@ use Rattle.kv_text.specs.Lines.{Behind, LineReads, read_to, unread}
 use Rattle.laws.proofs.Checked.{not_required, required, then, then_refused}
 use Rattle.laws.proofs.Orders.{compare_eq, compare_gt, compare_lt}
 use Rattle.laws.proofs.Tests.{both}
-use Rattle.asked_places.specs.Asked.{PairTo, PlacesTo, in_order_after, pair_lines, place_in, place_with}
+use Rattle.asked_places.specs.Asked.{PairTo, PlacesTo, pair_lines, place_in, place_with}
 use Rattle.asked_places.specs.declared.Pair.{Pair}
 
 -- ---- the lines of a pair

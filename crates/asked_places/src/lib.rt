@@ -58,9 +58,7 @@ pub fn count_pairs(s: &[u8]) -> Result<usize, Refusal>
     let mut last = Part { at: 0, end: 0 };
     let mut position = GenomePosition::new_1based(0);
     while at < s.len() {
-        let Some(pair) = pair_at(s, at) else {
-            return Err(Refusal::Spelling);
-        };
+        let pair = pair_at(s, at).ok_or(Refusal::Spelling)?;
         if 1024 <= count {
             return Err(Refusal::AskedPlaces);
         }

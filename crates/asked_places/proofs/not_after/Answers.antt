@@ -3,7 +3,6 @@ use Rattle.asked_places.proofs.Pairs.{not_greater}
 use Rattle.definitions.specs.Bytes.{and_then}
 use Rattle.definitions.specs.Lists.{by_order}
 use Rattle.definitions.specs.LookUp.{not_after}
-use borrow.Author.Rules.{rules}
 use Rattle.asked_places.proofs.not_after.Goals as goal
 
 pub returns-in-Less : goal.returns-in-Less

@@ -5,7 +5,6 @@ use Rattle.definitions.specs.Bytes.{text}
 use Rattle.definitions.specs.Lines.{key_of}
 use Rattle.definitions.specs.Numbers.{name, number}
 use Rattle.kv_text.proofs.Lines.{line_within}
-use borrow.Author.Rules.{rules}
 use mathlib.Core.Path.{refl, sym}
 use native.Mathlib.Omega.{arith}
 use Rattle.asked_places.proofs.pair_at.Goals as goal
@@ -21,7 +20,7 @@ pub returns-in_err-number : goal.returns-in_err-number
 unfolding key_of text PairRead
 returns-in_err-number c = rw c.from_residual-in_err-number.ensures (second_unread _ _ _ _ c.in_ok-contig.ensures.0 c.in_err-number.ensures)
 
-pub overflow_add-result : goal.overflow_add-end
+pub overflow_add-result : goal.overflow_add-result
 overflow_add-result c = omega (arith, line_within _ _ _ number _ _ c.in_ok-number.ensures, c.well_formed)
 
 pub returns : goal.returns
