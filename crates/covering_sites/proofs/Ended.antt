@@ -1,21 +1,23 @@
 -- Sites that ended before a position: how the search moves past them, and that the last covering site is behind them.
-use Prim.Native.Nat.{◌+◌, ◌-◌, ◌<◌, ◌≤◌, suc, zero, ℕ}
+use Prim.Native.Nat.{◌+◌, ◌-◌, ◌<◌, ◌≤◌, max, suc, zero, ℕ}
 use borrow.Author.Tests.{ltb-false, ltb-true}
 use lib.Dec.{ltb}
-use lib.ListN.{drop, get_or, length, length-set, length-take, set}
-use lib.Seq.{get_or-set_other, get_or-set_same}
+use lib.ListN.{drop, get_or, length, length-append, length-drop, length-set, length-take, set, take}
+use lib.Seq.{get_or-drop, get_or-set_other, get_or-set_same, get_or-take}
 use mathlib.Core.Bool.{Bool, cond, false, true}
-use mathlib.Core.List.{List, [], ◌∷◌}
+use mathlib.Core.List.{List, [], ◌++◌, ◌∷◌}
 use mathlib.Core.Logic.{⊎_elim}
 use mathlib.Core.Option.{none}
-use mathlib.Core.Path.{◌∙◌, ◌≡◌, refl, sym}
-use native.Mathlib.Nat.{add-zero, eq-or-lt_of_le}
+use mathlib.Core.Path.{◌∙◌, ◌≡◌, ap, refl, sym}
+use native.Mathlib.Decide.{dec_lt}
+use native.Mathlib.Nat.{add-zero, eq-or-lt_of_le, min-eq_left}
 use native.Mathlib.Omega.{arith}
+use Rattle.std.proofs.lemmas.List.{get_or-append_right, get_or_append_left}
 use Rattle.kv_text.specs.Fields.{between}
 use Rattle.laws.proofs.Tests.{true_or_false}
 use Rattle.tables.specs.Tables.{column}
-use Rattle.covering_sites.proofs.Search.{Searching, ended_before, part_at_lem, part_end, part_next, placed_none, search_skip}
-use Rattle.covering_sites.specs.Covering.{last_covering, row_covers}
+use Rattle.covering_sites.proofs.Search.{ended_before, part_at, part_at_lem, part_end, part_length, part_next, search_skip}
+use Rattle.covering_sites.specs.Covering.{RunAscends, StartsAscend, last_covering, row_covers}
 use Rattle.covering_sites.specs.Ended.{Ended, Replaced, behind_ended, ended_front, row_ended}
 use Rattle.covering_sites.specs.Runs.{Bounded, run_at}
 
@@ -37,6 +39,19 @@ module _ {before : List ℕ} {f : ℕ → ℕ} where
     where
       below : (x : ℕ) → x < n + 1 → x ≤ n
       below x l = omega arith
+
+-- the front replaced by that of another list
+pub replaced_front : (before source : List ℕ) {front : List ℕ} {n : ℕ} → n ≤ length source → n ≤ length before → front ≡ take n source
+    → Replaced before (front ++ drop n before) n (λ x. get_or source x 0)
+replaced_front before source {front} {n} h k e =
+    let long : length front ≡ n = ap length e ∙ length-take n source ∙ min-eq_left h in
+    record {
+      same_length = omega (arith, length-append front (drop n before), length-drop n before);
+      new = λ x l. get_or_append_left front (drop n before) 0 x (omega arith) ∙ rw e (get_or-take n source x 0 l);
+      others = λ x l.
+          get_or-append_right front (drop n before) n x 0 long l
+          ∙ get_or-drop n before (x - n) 0 ∙ ap (λ (j : ℕ). get_or before j 0) (let z : n + (x - n) ≡ x = omega arith in z);
+    }
 
 -- ---- the front of a run
 
@@ -75,6 +90,19 @@ module _ (rows : List ℕ) (position : ℕ) where
     pub skip_end : {i : ℕ} → to ≤ i → i ≡ behind_ended rows chosen position i to
     unfolding behind_ended ended_front
     skip_end {i} h = rw (part_end chosen i to h) (sym (add-zero i))
+
+    -- behind the last of them, or where the search began, if that is behind the run
+    pub skip_all : {start i r : ℕ} → to ≤ i → (start ≤ to → i ≤ to)
+        → behind_ended rows chosen position i to ≡ behind_ended rows chosen position start to → r ≡ max start to
+        → r ≡ behind_ended rows chosen position start to
+    skip_all {start} {i} {r} h k e m = go (dec_lt to start)
+      where
+        go : Dec (to < start) → r ≡ behind_ended rows chosen position start to
+        go (yes l) = let z : r ≡ start = omega (arith, m) in rw z (skip_end {i = start} (omega arith))
+        go (no l) =
+            let z : r ≡ to = omega (arith, m) in
+            let y : i ≡ to = omega arith in
+            z ∙ skip_end {i = to} (omega arith) ∙ rw y at e
 
     behind_within : (start : ℕ) → start ≤ to → behind_ended rows chosen position start to ≤ to
     unfolding behind_ended
@@ -132,17 +160,26 @@ module _ {rows chosen bounds : List ℕ} {samples position : ℕ} where
 -- the search begins behind sites that ended: none of them covers the position
 pub search_start : {rows chosen bounds from : List ℕ} {samples position : ℕ} → Ended rows chosen bounds from samples position
     → Bounded (length chosen) bounds samples → (x : ℕ) → x < samples
-    → Searching rows position chosen bounds x (get_or bounds (x + 1) 0) (get_or bounds (x + 1) 0) (get_or from x 0)
+    → last_covering rows position (between chosen (get_or from x 0) (get_or bounds (x + 1) 0)) ≡ last_covering rows position (run_at chosen bounds x)
 unfolding last_covering run_at
 search_start {rows} {chosen} {bounds} {from} {samples} {position} e b x l =
     let above = e.above x l in
     let within = e.within x l in
     let to = get_or bounds (x + 1) 0 in
     let there : get_or bounds x 0 + (get_or from x 0 - get_or bounds x 0) ≡ get_or from x 0 = omega arith in
+    sym (rw there at (search_skip (row_covers rows position) chosen to (b.within x l) none (get_or from x 0 - get_or bounds x 0) (get_or bounds x 0)
+    (omega arith) (λ k a z. ended_before rows position (get_or chosen k 0) (e.ended x l k a (omega arith)))))
+
+-- and starts ascend from there on
+pub search_ascends : {rows chosen bounds from : List ℕ} {samples position : ℕ} → Ended rows chosen bounds from samples position
+    → Bounded (length chosen) bounds samples → StartsAscend rows chosen bounds samples → (x : ℕ) → x < samples
+    → RunAscends rows (between chosen (get_or from x 0) (get_or bounds (x + 1) 0))
+search_ascends {rows} {chosen} {bounds} {from} e b s x l =
+    let start = get_or from x 0 in
+    let to = get_or bounds (x + 1) 0 in
+    let long = part_length chosen start to (b.within x l) in
     record {
-      above = above;
-      same =
-          rw (placed_none chosen to {last = to} (omega arith))
-          (sym (rw there at (search_skip (row_covers rows position) chosen to (b.within x l) none (get_or from x 0 - get_or bounds x 0) (get_or bounds x 0)
-          (omega arith) (λ k a z. ended_before rows position (get_or chosen k 0) (e.ended x l k a (omega arith))))));
+      ascend = λ j k up below.
+          rw (part_at chosen start to j (omega arith), part_at chosen start to k (omega arith))
+          (s.ascend x l (start + j) (start + k) (omega (arith, e.above x l)) (omega arith) (omega arith));
     }

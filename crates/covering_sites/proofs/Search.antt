@@ -1,8 +1,8 @@
 -- The search for the last site of each run that covers a position, one site and one sample at a time.
 use Prim.Native.Nat.{◌+◌, ◌-◌, ◌<◌, ◌^◌, ◌≤◌, suc, zero, ℕ}
-use borrow.Author.Tests.{le-leb, le-ltb, lt-leb, lt-ltb, ltb-false, ltb-true}
-use lib.Dec.{leb, ltb}
-use lib.ListN.{drop, get_or, length, length-drop, length-take, set}
+use borrow.Author.Tests.{le-leb, lt-leb, ltb-false, ltb-true}
+use lib.Dec.{leb}
+use lib.ListN.{drop, drop_of_length-le, get_or, length, length-drop, length-take, set}
 use lib.Seq.{drop-cons, get_or-drop, get_or-take}
 use mathlib.Core.Bool.{Bool, ◌&&◌, cond, false, true}
 use mathlib.Core.List.{List, [], ◌∷◌, filter_map, filter_map-cons-none, filter_map-cons-some}
@@ -11,14 +11,16 @@ use mathlib.Core.Path.{◌∙◌, ◌≡◌, ap, refl, sym}
 use native.Mathlib.Nat.{add-zero, sub-zero, zero-add}
 use native.Mathlib.Numerals.{add-one}
 use native.Mathlib.Omega.{arith}
-use Rattle.definitions.specs.Lists.{numbers_from, only_if}
+use Rattle.std.specs.Prelude as std
+use Rattle.answers.specs.Options.{option_of}
+use Rattle.definitions.specs.Lists.{numbers_from}
 use Rattle.kv_text.specs.Fields.{between}
 use Rattle.kv_write.proofs.Laying.{Left, done, left_length, one, recast, start}
 use Rattle.laws.proofs.Members.{◌∈◌, length_numbers, member_numbers}
 use Rattle.covering_sites.proofs.Filtered.{numbers_end, numbers_next}
 use Rattle.covering_sites.proofs.Same.{filter_map_few, filter_map_same}
 use Rattle.tables.specs.Tables.{column}
-use Rattle.covering_sites.specs.Covering.{Found, StartsAscend, covering_rows, covering_samples, last_covering, last_from, row_covers}
+use Rattle.covering_sites.specs.Covering.{Found, RunAscends, covering_rows, covering_samples, last_covering, last_from, row_covers}
 use Rattle.covering_sites.specs.Ended.{row_ended}
 use Rattle.covering_sites.specs.Runs.{Runs, run_at}
 
@@ -41,31 +43,19 @@ part_at_lem l from to k h b =
 pub part_length : (l : List ℕ) (from to : ℕ) → to ≤ length l → length (between l from to) ≡ to - from
 part_length l from to h = omega (arith, length-take (to - from) (drop from l), length-drop from l)
 
--- the site at a place of the run; none stands at its end
-unfoldable pub placed : List ℕ → ℕ → ℕ → Option ℕ
-placed chosen to last = only_if (ltb last to) (get_or chosen last 0)
+-- a number of a part
+pub part_at : (l : List ℕ) (from to j : ℕ) → j < to - from → get_or (between l from to) j 0 ≡ get_or l (from + j) 0
+part_at l from to j h = get_or-take (to - from) (drop from l) j 0 h ∙ get_or-drop from l j 0
 
-module _ (chosen : List ℕ) (to : ℕ) where
-  pub placed_here : {last : ℕ} → last < to → placed chosen to last ≡ some (get_or chosen last 0)
-  unfolding placed only_if
-  placed_here {last} h = rw (lt-ltb last to h)
-
-  pub placed_none : {last : ℕ} → to ≤ last → placed chosen to last ≡ none
-  unfolding placed only_if
-  placed_none {last} h = rw (le-ltb last to h)
+module _ (q : ℕ → Bool) where
+  -- none passes
+  pub search_left : (l : List ℕ) (so_far : Option ℕ) → ((k : ℕ) → k < length l → q (get_or l k 0) ≡ false) → last_from q so_far l ≡ so_far
+  unfolding last_from
+  search_left [] so_far h = refl
+  search_left (x ∷ l) so_far h =
+      ap (λ (b : Bool). last_from q (cond b (some x) so_far) l) (h 0 (omega arith)) ∙ search_left l so_far (λ k less. h (suc k) (omega (arith, less)))
 
 module _ (q : ℕ → Bool) (chosen : List ℕ) (to : ℕ) (k : to ≤ length chosen) where
-  -- one more site is looked at
-  pub search_next : (last : ℕ) {i : ℕ} → i < to
-      → last_from q (placed chosen to (cond (q (get_or chosen i 0)) i last)) (between chosen (i + 1) to) ≡ last_from q (placed chosen to last) (between chosen i to)
-  unfolding last_from
-  search_next last {i} h =
-      rw (part_next chosen i to h k) (ap (λ (o : Option ℕ). last_from q o (between chosen (i + 1) to)) (go (q (get_or chosen i 0))))
-    where
-      go : (b : Bool) → placed chosen to (cond b i last) ≡ cond b (some (get_or chosen i 0)) (placed chosen to last)
-      go true = placed_here chosen to h
-      go false = refl
-
   -- sites of which none passes may be left out at the front
   pub search_skip : (so_far : Option ℕ) (n a : ℕ) → a + n ≤ to → ((m : ℕ) → a ≤ m → m < a + n → q (get_or chosen m 0) ≡ false)
       → last_from q so_far (between chosen a to) ≡ last_from q so_far (between chosen (a + n) to)
@@ -77,15 +67,6 @@ module _ (q : ℕ → Bool) (chosen : List ℕ) (to : ℕ) (k : to ≤ length ch
       ap (last_from q so_far) (part_next chosen a to here k)
       ∙ ap (λ (b : Bool). last_from q (cond b (some (get_or chosen a 0)) so_far) (between chosen (a + 1) to)) (none_before a (omega arith) (omega arith))
       ∙ rw next (search_skip so_far n (a + 1) (omega arith) (λ m l u. none_before m (omega arith) (omega arith)))
-
-  -- none of the rest passes
-  pub search_left : (so_far : Option ℕ) {i : ℕ} → i ≤ to → ((m : ℕ) → i ≤ m → m < to → q (get_or chosen m 0) ≡ false)
-      → last_from q so_far (between chosen i to) ≡ so_far
-  unfolding last_from
-  search_left so_far {i} h none_left =
-      let all : i + (to - i) ≡ to = omega arith in
-      search_skip so_far (to - i) i (omega arith) (λ m l u. none_left m l (omega arith))
-      ∙ rw all (ap (last_from q so_far) (part_end chosen to to (omega arith)))
 
 -- ---- a site that is looked at
 
@@ -102,48 +83,51 @@ module _ (rows : List ℕ) (position i : ℕ) where
   unfolding row_covers
   starts_later h = rw (lt-leb (column 2 rows i) position h)
 
-  -- one that starts at the position or before it covers the position unless it ended
-  pub covers_unless : column 2 rows i ≤ position → (last place : ℕ)
-      → cond (row_ended rows position i) last place ≡ cond (row_covers rows position i) place last
-  unfolding row_covers row_ended
-  covers_unless h last place = rw (le-leb (column 2 rows i) position h) (go (ltb (column 3 rows i) position) refl)
-    where
-      go : (b : Bool) → ltb (column 3 rows i) position ≡ b → cond b last place ≡ cond (leb position (column 3 rows i)) place last
-      go true e = rw (lt-leb position (column 3 rows i) (ltb-true _ _ e))
-      go false e = rw (le-leb position (column 3 rows i) (ltb-false _ _ e))
+  covered : column 2 rows i ≤ position → position ≤ column 3 rows i → row_covers rows position i ≡ true
+  unfolding row_covers
+  covered h k = rw (le-leb (column 2 rows i) position h, le-leb position (column 3 rows i) k)
 
 -- ---- the search in one run
 
--- what is left of the run and the site at `last` give the last that covers
-pub record Searching (rows : List ℕ) (position : ℕ) (chosen bounds : List ℕ) (x to last i : ℕ) : Type 0 where
-  pub above : get_or bounds x 0 ≤ i
-  pub same : last_from (row_covers rows position) (placed chosen to last) (between chosen i to) ≡ last_covering rows position (run_at chosen bounds x)
+module _ (rows : List ℕ) (position : ℕ) (run : List ℕ) where
+  -- the last so far and what is left of the run give the last that covers
+  pub record Searching (last : std.Option ℕ) (i : ℕ) : Type 0 where
+    pub same : last_from (row_covers rows position) (option_of last) (drop i run) ≡ last_covering rows position run
 
-module _ {rows : List ℕ} {position : ℕ} {chosen bounds : List ℕ} {x last i : ℕ}
-    (s : Searching rows position chosen bounds x (get_or bounds (x + 1) 0) last i) where
-  module _ (h : i < get_or bounds (x + 1) 0) (k : get_or bounds (x + 1) 0 ≤ length chosen) where
-    -- a site that starts at the position or before it
-    pub search_one : column 2 rows (get_or chosen i 0) ≤ position → {last' : ℕ} → last' ≡ cond (row_ended rows position (get_or chosen i 0)) last i
-        → Searching rows position chosen bounds x (get_or bounds (x + 1) 0) last' (i + 1)
-    search_one starts e = record {
-      above = omega (arith, s.above);
-      same =
-          rw (e ∙ covers_unless rows position (get_or chosen i 0) starts last i)
-          (search_next (row_covers rows position) chosen (get_or bounds (x + 1) 0) k last h ∙ s.same);
-    }
+  pub search_begin : Searching std.None 0
+  unfolding last_covering
+  search_begin = record { same = refl }
 
-    -- a site that starts behind it: so does every site behind that one
-    pub search_stop : {samples : ℕ} → StartsAscend rows chosen bounds samples → x < samples → position < column 2 rows (get_or chosen i 0)
-        → placed chosen (get_or bounds (x + 1) 0) last ≡ last_covering rows position (run_at chosen bounds x)
-    search_stop a l behind =
-        sym (search_left (row_covers rows position) chosen (get_or bounds (x + 1) 0) k (placed chosen (get_or bounds (x + 1) 0) last) (omega arith)
-        (λ m up below. starts_later rows position (get_or chosen m 0) (omega (arith, a.ascend x l i m s.above up below))))
-        ∙ s.same
+  module _ {last : std.Option ℕ} {i : ℕ} (s : Searching last i) where
+    module _ (h : i < length run) where
+      from_here : last_from (row_covers rows position)
+          (cond (row_covers rows position (get_or run i 0)) (some (get_or run i 0)) (option_of last)) (drop (i + 1) run)
+          ≡ last_covering rows position run
+      unfolding last_from
+      from_here = rw (add-one i) (rw (drop-cons run i 0 h) at s.same)
 
-  pub search_end : get_or bounds (x + 1) 0 ≤ i → placed chosen (get_or bounds (x + 1) 0) last ≡ last_covering rows position (run_at chosen bounds x)
-  unfolding last_from
-  search_end h =
-      sym (ap (last_from (row_covers rows position) (placed chosen (get_or bounds (x + 1) 0) last)) (part_end chosen i (get_or bounds (x + 1) 0) h)) ∙ s.same
+      -- a site that starts at the position or before it
+      module _ (starts : column 2 rows (get_or run i 0) ≤ position) where
+        pub search_found : row_ended rows position (get_or run i 0) ≡ false → Searching (std.Some (get_or run i 0)) (i + 1)
+        unfolding row_ended
+        search_found e = record { same = rw (covered rows position (get_or run i 0) starts (ltb-false _ _ e)) at from_here }
+
+        pub search_passed : row_ended rows position (get_or run i 0) ≡ true → Searching last (i + 1)
+        unfolding row_ended
+        search_passed e = record { same = rw (ended_before rows position (get_or run i 0) (ltb-true _ _ e)) at from_here }
+
+      -- a site that starts behind it: so does every site behind that one
+      pub search_stop : RunAscends rows run → position < column 2 rows (get_or run i 0) → option_of last ≡ last_covering rows position run
+      search_stop a behind =
+          sym (search_left (row_covers rows position) (drop i run) (option_of last)
+          (λ k less. rw (get_or-drop i run k 0)
+          (starts_later rows position (get_or run (i + k) 0)
+          (omega (arith, a.ascend i (i + k) (omega arith) (omega (arith, less, length-drop i run)))))))
+          ∙ s.same
+
+    pub search_end : length run ≤ i → option_of last ≡ last_covering rows position run
+    unfolding last_from
+    search_end h = rw (drop_of_length-le run h) at s.same
 
 -- ---- all runs
 

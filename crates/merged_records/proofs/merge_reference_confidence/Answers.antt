@@ -5,6 +5,7 @@ use mathlib.Core.Path.{◌∙◌, ap}
 use Rattle.covering_sites.proofs.CoveringFound.{starts_ascend}
 use Rattle.covering_sites.proofs.Search.{found_known}
 use Rattle.merged_records.proofs.Records.{at_front, exactly, fits_in, none_covering, over_them, owners_are}
+use Rattle.std.proofs.lemmas.Result.{err_from_is_err_and}
 use Rattle.merged_records.specs.Found.{RecordFound}
 use Rattle.merged_records.proofs.merge_reference_confidence.Goals as goal
 
@@ -28,7 +29,7 @@ record_over-requires c = (c.requires.1.for_alts, over_them c.requires.0.on _ _ _
 
 pub returns-in_err-record_over : goal.returns-in_err-record_over
 unfolding over_them
-returns-in_err-record_over c = rw c.from_residual.ensures record {
+returns-in_err-record_over c = let p = err_from_is_err_and c.from_residual.result c.from_residual.ensures.1 in rw (p.1, p.2) record {
   answer = λ at. let f = found_known at.in_runs _ _ c.covering_sites-n.ensures in
       at_front at.on _ _ _ (exactly at.on _ _ _ _ c.requires.1.for_sites f c.covering_sites-n.auto.found) _ _
       (c.in_err-record_over.ensures (over_them at.on _ _ _ _ c.requires.1.for_sites f c.if-n-eq0.false));

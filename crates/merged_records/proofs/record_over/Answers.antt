@@ -2,13 +2,14 @@
 use mathlib.Core.Path.{◌∙◌}
 use Rattle.merged_records.proofs.Records.{as_merged, covering_some, found_sites_sound, record_found, ref_refused}
 use Rattle.merged_records.specs.Found.{RecordFound}
+use Rattle.std.proofs.lemmas.Result.{err_from_is_err_and}
 use Rattle.merged_ref.proofs.Refs.{answered}
 use Rattle.merged_ref.specs.Answers.{ref_answer}
 use Rattle.merged_records.proofs.record_over.Goals as goal
 
 pub returns-in_err-at : goal.returns-in_err-at
 unfolding RecordFound ref_answer
-returns-in_err-at c = rw c.from_residual.ensures λ over.
+returns-in_err-at c = let p = err_from_is_err_and c.from_residual.result c.from_residual.ensures.1 in rw (p.1, p.2) λ over.
     (covering_some over.on _ _ over.numbers over.some_site, λ last. ref_refused over.on _ last _ (as_merged over.on _ _ over.numbers c.in_err-at.ensures))
 
 pub alts_at-requires : goal.alts_at-requires
