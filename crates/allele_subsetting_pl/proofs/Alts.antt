@@ -2,6 +2,7 @@
 -- Assumes nothing.
 use Prim.Native.Nat.{◌+◌, ◌-◌, ◌<◌, ◌≤◌, suc, zero, ℕ}
 use borrow.Author.Tests.{eq-eqb, ne_eqb}
+use Rattle.std.specs.Prelude.{None, Some}
 use lib.Dec.{eqb}
 use lib.ListN.{get_or-eq_default, drop, drop_of_length-le, get_or, length, length-append}
 use lib.Seq.{drop-cons}
@@ -14,7 +15,7 @@ use Rattle.definitions.specs.AlleleSubset.{alt_fields}
 use Rattle.definitions.specs.Bytes.{comma, fields_of, joined_by}
 use Rattle.definitions.specs.Lists.{filter_by, numbers_from, split_where, to_first}
 use Rattle.kv_text.specs.Fields.{FieldFound, between}
-use Rattle.kv_text.specs.declared.FieldAt.TheVariants as field
+use Rattle.kv_text.specs.declared.Part.{Part}
 
 -- ---- fields
 
@@ -38,11 +39,11 @@ field_is [] (suc k) = refl
 field_is (b ∷ s) k = ap (λ fs. get_or fs k []) (some_byte b s)
 
 module _ (alts : List ℕ) (a : ℕ) {k : ℕ} {r : List ℕ} (index : k ≡ a - 1) where
-  pub alt_found : (from to : ℕ) → FieldFound alts 44 k (field.At from to) → r ≡ between alts from to → r ≡ alt_with alts a
+  pub alt_found : (f : Part) → FieldFound alts 44 k (Some f) → r ≡ between alts f.at f.end → r ≡ alt_with alts a
   unfolding FieldFound alt_with comma
-  alt_found from to f h = h ∙ sym f.1 ∙ sym (field_is alts k) ∙ ap (λ i. get_or (alt_fields alts) i []) index
+  alt_found part f h = h ∙ sym f.1 ∙ sym (field_is alts k) ∙ ap (λ i. get_or (alt_fields alts) i []) index
 
-  pub alt_absent : FieldFound alts 44 k field.Absent → r ≡ between alts 0 0 → r ≡ alt_with alts a
+  pub alt_absent : FieldFound alts 44 k None → r ≡ [] → r ≡ alt_with alts a
   unfolding FieldFound alt_with comma
   alt_absent f h =
       h ∙ sym (get_or-eq_default (fields_of comma alts) [] f) ∙ sym (field_is alts k) ∙ ap (λ i. get_or (alt_fields alts) i []) index

@@ -4,4 +4,4 @@ pub mod Fronts
 pub mod Subset
 pub mod Alts
 pub mod Assigned
-pub mod UnusedAlts
+pub mod UnusedAltSubsets

@@ -5,6 +5,7 @@ use lib.Dec.{T}
 use lib.Ieee.{Float, nan}
 use lib.ListN.{length}
 use lib.Seq.{sets}
+use Rattle.std.specs.Prelude.{Err, Ok, Result}
 use mathlib.Core.Bool.{and-false, false, true}
 use mathlib.Core.List.{List}
 use mathlib.Core.Path.{◌∙◌, ◌≡◌, ap, refl, sym}
@@ -14,8 +15,8 @@ use Rattle.allele_subsetting_pl.proofs.Picked.{less_length, picked_any, picked_e
 use Rattle.allele_subsetting_pl.specs.KeepLists.{absent_likelihood}
 use Rattle.answers.proofs.Answers.{answered_refused, answered_written, is_within, not_within}
 use Rattle.answers.specs.Answered.{Answered}
-use Rattle.answers.specs.declared.Outcome.{Outcome}
-use Rattle.answers.specs.declared.Outcome.TheVariants as outcome
+use Rattle.answers.specs.declared.Refusal.{Refusal}
+use Rattle.answers.specs.declared.Refusal.TheVariants as refusal
 use Rattle.definitions.specs.AlleleSubset.{allele_count_fits, less_greatest, likelihood_subset, subset_fits, subset_likelihoods}
 use Rattle.definitions.specs.Alleles.{genotype_count}
 use Rattle.definitions.specs.Checked.{accepted, within}
@@ -50,28 +51,28 @@ module _ (gl : List Float) (n : ℕ) (keep : List ℕ) where
       rw (← accepted_same e) (likelihoods_not_above (fitting gl n keep (both_of (allele_count_fits n) _ t).1))
 
   -- and so none of the values that a call wrote
-  pub with_none_above : {out out' : List Float} {r : Outcome} → Answered (likelihood_subset gl n keep (length out)) out out' r
+  pub with_none_above : {out out' : List Float} {r : Result ℕ Refusal} → Answered (likelihood_subset gl n keep (length out)) out out' r
       → Answered (likelihood_subset gl n keep (length out)) out out' r × (none_above (count_of r) out' ≡ true)
   with_none_above {out = out} {r = r} a = (a, written_none_above r a (λ list e. subset_not_above (length out) e))
 
   module _ {out : List Float} where
-    pub count_refused : allele_count_fits n ≡ false → Answered (likelihood_subset gl n keep (length out)) out out (outcome.Refused 15)
+    pub count_refused : allele_count_fits n ≡ false → Answered (likelihood_subset gl n keep (length out)) out out (Err refusal.Subset)
     unfolding likelihood_subset
     count_refused h = answered_refused (not_required 15 _ _ (simp h)) refl
 
-    pub subset_refused : subset_fits gl n keep ≡ false → Answered (likelihood_subset gl n keep (length out)) out out (outcome.Refused 15)
+    pub subset_refused : subset_fits gl n keep ≡ false → Answered (likelihood_subset gl n keep (length out)) out out (Err refusal.Subset)
     unfolding likelihood_subset
     subset_refused h = answered_refused (not_required 15 _ _ (simp (h, and-false))) refl
 
     module _ (allowed : allele_count_fits n ≡ true) (fits : subset_fits gl n keep ≡ true) {count : ℕ} (size : count ≡ genotype_count (length keep)) where
-      pub subset_long : length out < count → Answered (likelihood_subset gl n keep (length out)) out out (outcome.Refused 14)
+      pub subset_long : length out < count → Answered (likelihood_subset gl n keep (length out)) out out (Err refusal.Output)
       unfolding likelihood_subset
       subset_long h =
           answered_refused
           (required 15 _ _ (both allowed fits) (not_within (subset_likelihoods keep gl) (omega (arith, subset_length)))) refl
 
       pub subset_written : {out' : List Float} → count ≤ length out → out' ≡ sets out 0 (less_greatest (at_mapped_pairs absent_likelihood keep gl))
-          → Answered (likelihood_subset gl n keep (length out)) out out' (outcome.Written count)
+          → Answered (likelihood_subset gl n keep (length out)) out out' (Ok count)
       unfolding likelihood_subset
       subset_written h e =
           let room : length (subset_likelihoods keep gl) ≤ length out = omega (arith, subset_length) in

@@ -1,27 +1,15 @@
--- What is left to test is the answer for all.
-use Prim.Native.Nat.{◌-◌}
+-- What `all` found, number by number.
 use borrow.Author.Rules.{rules}
-use borrow.Author.Tests.{le-ltb, lt-ltb}
+use borrow.Author.Tests.{tests}
 use lib.Dec.{ltb}
-use lib.ListN.{drop, length}
-use mathlib.Core.Path.{◌∙◌, ◌≡◌, refl, sym}
-use Rattle.definitions.specs.Lists.{all_of}
-use Rattle.likelihoods.proofs.Loops.{all_end, all_failed, all_next}
+use mathlib.Core.Bool.{false, true}
+use mathlib.Core.Path.{◌≡◌}
+use Rattle.std.proofs.lemmas.Iterator.{YieldsList-from_slice, cases_from_all}
+use Rattle.answers.proofs.Chains.{all_answer}
 use Rattle.allele_subsetting_pl.proofs.all_below.Goals as goal
 
-pub loop-i-init : goal.loop-i-init
-loop-i-init c = (refl, refl)
-
-pub returns-then-bound-n : goal.returns-then-bound-n
-returns-then-bound-n c = sym (all_failed _ c.args.numbers.now 0 c.loop-i.i c.loop-i-test.true
-    (le-ltb _ _ c.if-bound-n.true)) ∙ c.loop-i.invariant.1
-
-pub loop-i-preserved : goal.loop-i-preserved
-loop-i-preserved c = (
-  c.loop-i.invariant.0,
-  sym (all_next _ c.args.numbers.now 0 c.loop-i.i
-      c.loop-i-test.true (lt-ltb _ _ c.if-bound-n.false)) ∙ c.loop-i.invariant.1,
-)
-
 pub returns : goal.returns
-returns c = sym (all_end _ c.args.numbers.now c.loop-i.i c.loop-i-test.false) ∙ c.loop-i.invariant.1
+returns c = let bound = c.args.bound in
+    all_answer (λ a. ltb a bound) c.args.numbers.now _
+    (cases_from_all _ _ _ (λ a. ltb a bound ≡ true) (λ a. ltb a bound ≡ false) c.all.ensures.ran (YieldsList-from_slice c.args.numbers.now cc)
+    (λ x q k. search (rules, tests)) (λ x q k. search (rules, tests)))

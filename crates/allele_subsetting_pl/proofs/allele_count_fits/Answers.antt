@@ -1,12 +1,14 @@
 -- By the two tests.
-use borrow.Author.Tests.{le-leb, lt-leb}
+use Rattle.std.proofs.lemmas.Grind.{common_steps}
+use Rattle.std.proofs.Common.{arith}
+use Rattle.std.proofs.lemmas.Bool.Decides.{nat_tests}
 use Rattle.definitions.specs.AlleleSubset.{allele_count_fits}
 use Rattle.allele_subsetting_pl.proofs.allele_count_fits.Goals as goal
 
-pub returns-then-alleles-lt1 : goal.returns-then-alleles-lt1
+pub returns-then-alleles-ge1 : goal.returns-then-alleles-ge1
 unfolding allele_count_fits
-returns-then-alleles-lt1 c = simp (lt-leb 1 c.args.alleles c.if-alleles-lt1.true)
+returns-then-alleles-ge1 c = grind (arith, common_steps, nat_tests)
 
-pub returns : goal.returns
+pub returns-else-alleles-ge1 : goal.returns-else-alleles-ge1
 unfolding allele_count_fits
-returns c = simp (le-leb 1 c.args.alleles c.if-alleles-lt1.false)
+returns-else-alleles-ge1 c = grind (arith, common_steps, nat_tests)

@@ -1,32 +1,29 @@
--- What is left to look through is the answer for an ALT.
-use Prim.Native.Nat.{◌-◌}
+-- The GT is looked through for an ALT.
+use Prim.Native.Nat.{ℕ}
 use borrow.Author.Rules.{rules}
-use borrow.Author.Tests.{eq-eqb, ne_eqb}
+use borrow.Author.Tests.{eq-eqb, eqb-true, ne_eqb}
 use lib.Dec.{eqb}
-use lib.ListN.{drop, length}
-use mathlib.Core.Path.{◌∙◌, ◌≡◌, refl, sym}
+use mathlib.Core.Bool.{Bool, ◌||◌, false, true}
+use mathlib.Core.List.{List, [], ◌∷◌}
+use mathlib.Core.Path.{◌∙◌, ◌≡◌, ap, refl, sym}
+use Rattle.std.specs.List.{list_any}
 use Rattle.allele_subsetting_pl.specs.KeepLists.{is_assigned}
 use Rattle.definitions.specs.Lists.{any_of}
-use Rattle.likelihoods.proofs.Loops.{any_end, any_found, any_next}
 use Rattle.allele_subsetting_pl.proofs.is_assigned.Goals as goal
 
-pub returns-then-number-eq0 : goal.returns-then-number-eq0
-returns-then-number-eq0 c = rw (← c.get-number.ensures) (simp (eq-eqb _ _ (c.if-number-eq0.true)))
+eqb_either : (a b : ℕ) → eqb a b ≡ eqb b a
+eqb_either a b = go (eqb a b) refl
+  where
+    go : (t : Bool) → eqb a b ≡ t → eqb a b ≡ eqb b a
+    go true e = e ∙ sym (eq-eqb b a (sym (eqb-true a b e)))
+    go false e = e ∙ sym (ne_eqb b a (λ same. let z = sym e ∙ eq-eqb a b (sym same) in cc))
 
-pub loop-i-init : goal.loop-i-init
-loop-i-init c = (refl, simp (ne_eqb _ _ (c.if-number-eq0.false)))
+any_either : (a : ℕ) (gt : List ℕ) → list_any (λ y. eqb y a) gt ≡ any_of (eqb a) gt
+unfolding any_of
+any_either a [] = refl
+any_either a (x ∷ gt) = rw (eqb_either x a, any_either a gt)
 
-pub returns-then-g-number : goal.returns-then-g-number
-returns-then-g-number c = rw (← c.get-number.ensures) (sym (any_found _ c.args.gt.now 0 c.loop-i.i c.loop-i-test.true
-    (eq-eqb _ _ (sym c.if-g-number.true))) ∙ c.loop-i.invariant.1)
-
-pub loop-i-preserved : goal.loop-i-preserved
-loop-i-preserved c = (
-  c.loop-i.invariant.0,
-  sym (any_next _ c.args.gt.now 0 c.loop-i.i c.loop-i-test.true
-      (ne_eqb _ _ (λ e. c.if-g-number.false (sym e)))) ∙ c.loop-i.invariant.1,
-)
-
-pub returns : goal.returns
-returns c = rw (← c.get-number.ensures) (sym (any_end _ c.args.gt.now c.loop-i.i c.loop-i-test.false) ∙
-    c.loop-i.invariant.1)
+pub returns-else-number-eq0 : goal.returns-else-number-eq0
+returns-else-number-eq0 c =
+    let a = c.args.allele.0 in
+    c.contains.ensures.value ∙ any_either c.get-number.result c.args.gt.now ∙ rw c.get-number.ensures (simp (ne_eqb a 0 (λ e. c.if-number-eq0.false (c.get-number.ensures ∙ e))))

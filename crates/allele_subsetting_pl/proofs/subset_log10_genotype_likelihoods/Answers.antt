@@ -3,7 +3,6 @@ use borrow.Author.Rules.{rules}
 use mathlib.Core.Path.{◌∙◌, sym}
 use Rattle.allele_subsetting_pl.proofs.Fitting.{fitting, keep_list, most_alleles}
 use Rattle.allele_subsetting_pl.proofs.Subset.{count_refused, subset_long, subset_refused, subset_written, with_none_above}
-use Rattle.likelihoods.proofs.Loops.{failed, passed}
 use Rattle.allele_subsetting_pl.proofs.subset_log10_genotype_likelihoods.Goals as goal
 
 pub returns-then-not-allele_count_fits : goal.returns-then-not-allele_count_fits

@@ -9,10 +9,9 @@ use mathlib.Core.List.{List, tail}
 use mathlib.Core.Path.{◌∙◌}
 use native.Mathlib.Omega.{arith}
 use Rattle.allele_subsetting_pl.proofs.Assigned.{assigned_alts_length, assigned_keep_list, keeps_ref, tail_part, tail_passes}
-use Rattle.allele_subsetting_pl.proofs.UnusedAlts.{ad_measured, alts_measured, answered_refused, answered_written, ad_stored, alts_stored, likelihoods_stored, subset_accepted, subset_record, likelihoods_measured, measured_room, not_fitting, refused_within, room_of, with_room_lem, without_ad, without_room}
+use Rattle.allele_subsetting_pl.proofs.UnusedAltSubsets.{ad_measured, alts_measured, answered_refused, answered_written, ad_stored, alts_stored, likelihoods_stored, subset_accepted, subset_record, likelihoods_measured, measured_room, not_fitting, refused_within, room_of, with_room_lem, without_ad, without_room}
 use Rattle.allele_subsetting_pl.specs.KeepLists.{AltNumbers}
 use Rattle.allele_subsetting_pl.specs.UnusedAlts.{AssignedKeep, outputs}
-use Rattle.likelihoods.proofs.Loops.{failed, passed}
 use Rattle.allele_subsetting_pl.proofs.subset_record.Goals as goal
 
 alt-numbers : {alts keep : List ℕ} {n : ℕ} → AssignedKeep alts n keep → length alts < 2 ^ 64 → AltNumbers alts (tail keep)

@@ -8,7 +8,7 @@ use native.Mathlib.Nat.{zero-add}
 use native.Mathlib.Omega.{arith}
 use Rattle.allele_subsetting_pl.proofs.Assigned.{few_assigned}
 use Rattle.allele_subsetting_pl.proofs.Fronts.{front, front_length, front_within}
-use Rattle.allele_subsetting_pl.proofs.UnusedAlts.{all_named, answered_as, answered_refused, refused_within, some_unnamed, too_many_alts, with_none_above, within_is}
+use Rattle.allele_subsetting_pl.proofs.UnusedAltSubsets.{all_named, answered_as, answered_refused, refused_within, some_unnamed, too_many_alts, with_none_above, within_is}
 use Rattle.allele_subsetting_pl.specs.UnusedAlts.{AssignedKeep, outputs, subset_within}
 use Rattle.definitions.specs.AlleleSubset.{alt_fields, assigned_alleles}
 use Rattle.kv_write.specs.Laid.{Laid}

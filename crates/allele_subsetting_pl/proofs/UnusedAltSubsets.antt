@@ -5,6 +5,7 @@ use borrow.Author.Tests.{eq-eqb, le-leb, leb-true, lt-leb, ne_eqb}
 use lib.Dec.{T, leb, ltb}
 use lib.Ieee.{Float}
 use lib.ListN.{length}
+use Rattle.std.specs.Prelude.{Err, Ok, Result}
 use lib.Seq.{sets}
 use mathlib.Core.Bool.{Bool, ◌&&◌, and-false, false, true}
 use mathlib.Core.List.{List, tail}
@@ -14,8 +15,9 @@ use Rattle.allele_subsetting_pl.proofs.Fitting.{fitting}
 use Rattle.allele_subsetting_pl.proofs.Subset.{likelihoods_not_above, subset_length, subset_picked}
 use Rattle.allele_subsetting_pl.specs.KeepLists.{absent_likelihood, alt_with, alts_with}
 use Rattle.allele_subsetting_pl.specs.UnusedAlts.{AssignedKeep, Outputs, UnusedAltsAnswered, every_alt_assigned, likelihood_count_of, list_of, subset_none_above, subset_within, whole_record, written_of}
-use Rattle.allele_subsetting_pl.specs.declared.UnusedAltOutcome.{UnusedAltOutcome}
-use Rattle.allele_subsetting_pl.specs.declared.UnusedAltOutcome.TheVariants as outcome
+use Rattle.allele_subsetting_pl.specs.declared.UnusedAlts.{UnusedAlts}
+use Rattle.answers.specs.Answered.{row_of}
+use Rattle.answers.specs.declared.Refusal.{Refusal}
 use Rattle.definitions.specs.AlleleSubset.{UnusedAltSubset, allele_count_fits, alt_fields, assigned_alleles, less_greatest, subset_fits, subset_likelihoods, subset_to, unused_alt_subset, unused_alt_subset_within}
 use Rattle.definitions.specs.Alleles.{genotype_count}
 use Rattle.definitions.specs.Answers.{output_after}
@@ -31,7 +33,7 @@ use Rattle.laws.proofs.Tests.{all_three, both, both_of, or_left, or_right}
 use Rattle.likelihoods.proofs.Written.{NotAbove, none_above_front, none_above_none}
 use Rattle.likelihoods.specs.Written.{none_above}
 
-pub answered_refused : {subset : Checked UnusedAltSubset} {out : Outputs} {row : ℕ} → subset ≡ refused row → UnusedAltsAnswered subset out out (outcome.Refused row)
+pub answered_refused : {subset : Checked UnusedAltSubset} {out : Outputs} {r : Refusal} → subset ≡ refused (row_of r) → UnusedAltsAnswered subset out out (Err r)
 unfolding written_of list_of output_after ◌>>=◌
 answered_refused e = rw e (record { answer = refl; alts = refl; likelihoods = refl; ad = refl })
 
@@ -49,7 +51,7 @@ pub record StoredSubset (s : UnusedAltSubset) (out out' : Outputs) : Type 0 wher
 
 pub answered_written : {subset : Checked UnusedAltSubset} {s : UnusedAltSubset} {out out' : Outputs} {a b d : ℕ} → subset ≡ accepted s
     → a ≡ length s.alts → b ≡ length s.likelihoods → d ≡ length s.ad → Room s out → StoredSubset s out out'
-    → UnusedAltsAnswered subset out out' (outcome.Written a b d)
+    → UnusedAltsAnswered subset out out' (Ok (record { alts = a; likelihoods = b; ad = d }))
 unfolding written_of list_of output_after ◌>>=◌
 answered_written {s = s} {out = out} e p q r room stored =
     rw e
@@ -154,8 +156,8 @@ module _ (alts gt : List ℕ) (gl : List Float) (ad : List ℕ) (assigned : ever
       after_then _ _ e λ s made e. after_required _ _ _ e λ _ e. rw (← accepted_same e) (made_not_above made)
 
   module _ (x y z : ℕ) {out out' : Outputs} where
-    written_not_above : {a b d : ℕ} (v : Checked UnusedAltSubset) → unused_alt_subset_within alts gt gl ad x y z ≡ v
-        → UnusedAltsAnswered (unused_alt_subset_within alts gt gl ad x y z) out out' (outcome.Written a b d) → none_above b out'.likelihoods ≡ true
+    written_not_above : {n : UnusedAlts} (v : Checked UnusedAltSubset) → unused_alt_subset_within alts gt gl ad x y z ≡ v
+        → UnusedAltsAnswered (unused_alt_subset_within alts gt gl ad x y z) out out' (Ok n) → none_above n.likelihoods out'.likelihoods ≡ true
     unfolding written_of list_of output_after ◌>>=◌
     written_not_above (refused row) e h = not_refused (sym (h.answer ∙ ap written_of e))
     written_not_above (accepted s) e h =
@@ -163,18 +165,18 @@ module _ (alts gt : List ℕ) (gl : List Float) (ad : List ℕ) (assigned : ever
         rw (h.likelihoods ∙ ap (λ v. output_after (list_of (λ s. s.likelihoods) v) out.likelihoods) e)
         (none_above_front s.likelihoods _ (ap (λ l. l.likelihoods) lengths) (within_not_above x y z e))
 
-    subset_none_above_lem : (r : UnusedAltOutcome) → UnusedAltsAnswered (unused_alt_subset_within alts gt gl ad x y z) out out' r
+    subset_none_above_lem : (r : Result UnusedAlts Refusal) → UnusedAltsAnswered (unused_alt_subset_within alts gt gl ad x y z) out out' r
         → none_above (likelihood_count_of r) out'.likelihoods ≡ true
-    subset_none_above_lem (outcome.Refused row) h = none_above_none out'.likelihoods
-    subset_none_above_lem (outcome.Written a b d) h = written_not_above _ refl h
+    subset_none_above_lem (Err r) h = none_above_none out'.likelihoods
+    subset_none_above_lem (Ok n) h = written_not_above _ refl h
 
 -- what the call promises of its likelihoods
 module _ (alts gt : List ℕ) (gl : List Float) (ad : List ℕ) (out : Outputs) where
-  abbrev Promised : Outputs → UnusedAltOutcome → Type 0
+  abbrev Promised : Outputs → Result UnusedAlts Refusal → Type 0
   Promised out' r =
       UnusedAltsAnswered (unused_alt_subset_within alts gt gl ad (length out.alts) (length out.likelihoods) (length out.ad)) out out' r
 
-  pub with_none_above : {out' : Outputs} {r : UnusedAltOutcome} → Promised out' r
+  pub with_none_above : {out' : Outputs} {r : Result UnusedAlts Refusal} → Promised out' r
       → Promised out' r × (subset_none_above alts gt (likelihood_count_of r) out'.likelihoods ≡ true)
   with_none_above {out' = out'} {r = r} h = (h, go (every_alt_assigned alts gt) refl)
     where
@@ -184,7 +186,7 @@ module _ (alts gt : List ℕ) (gl : List Float) (ad : List ℕ) (out : Outputs) 
 
 -- ---- which of the two
 
-pub answered_as : {subset subset' : Checked UnusedAltSubset} {out out' : Outputs} {r : UnusedAltOutcome} → subset ≡ subset'
+pub answered_as : {subset subset' : Checked UnusedAltSubset} {out out' : Outputs} {r : Result UnusedAlts Refusal} → subset ≡ subset'
     → UnusedAltsAnswered subset' out out' r → UnusedAltsAnswered subset out out' r
 answered_as e a = rw e a
 
