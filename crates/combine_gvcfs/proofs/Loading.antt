@@ -8,12 +8,13 @@ use mathlib.Core.Logic.{inl, inr, ⊎_elim}
 use mathlib.Core.Path.{◌∙◌, ◌≡◌, refl, subst, sym}
 use native.Mathlib.Omega.{arith}
 use Rattle.answers.proofs.Answers.{answered_refused}
-use Rattle.answers.specs.Answered.{Answered}
-use Rattle.answers.specs.declared.Outcome.TheVariants as outcome
-use Rattle.answers.specs.declared.Outcome.{Outcome}
+use Rattle.answers.specs.Answered.{Answered, row_of}
+use Rattle.answers.specs.declared.LoadError.{LoadError}
+use Rattle.answers.specs.declared.LoadError.TheVariants.{NoRoom, Refused}
+use Rattle.answers.specs.declared.Refusal.{Refusal}
 use Rattle.clip_and_reference.proofs.Groups.{in_order_lem, not_in_order}
 use Rattle.clip_and_reference.specs.Groups.{GroupsFrom}
-use Rattle.cohort.specs.Cohort.{CohortTo, CohortUnread, fitting_cohort, sites_in}
+use Rattle.cohort.specs.Cohort.{CohortAt, CohortTo, CohortUnread, fitting_cohort, sites_in}
 use Rattle.combined_list.specs.WrittenList.{CallLoaded, list_within}
 use Rattle.definitions.specs.Answers.{scratch_after}
 use Rattle.definitions.specs.Checked.{Checked, accepted, is_accepted, refused}
@@ -35,9 +36,8 @@ use Rattle.laws.proofs.Tests.{all_three, clash}
 use Rattle.tables.proofs.Cleared.{scratch_same}
 use Rattle.tables.proofs.SameSites.{same_rows, same_sites}
 use Rattle.tables.specs.Tables.{name_at, names_in, site_at, table_length}
-use Rattle.combine_gvcfs.specs.Combined.{CohortHeld, Combined, IfGiven, TableWhole, TablesFit, TextsAnswered, TextsFit, TextsLoaded, TriedWith, texts_of, texts_short}
-use Rattle.combine_gvcfs.specs.declared.Tried.TheVariants as tried
-use Rattle.combine_gvcfs.specs.declared.Tried.{Tried}
+use Rattle.std.specs.Prelude.{Err, Ok, Result}
+use Rattle.combine_gvcfs.specs.Combined.{CohortHeld, Combined, IfGiven, ReadTo, TableWhole, TablesFit, TextsAnswered, TextsFit, TextsLoaded, TriedWith, texts_of, texts_short}
 
 -- ---- a text that may be left out
 
@@ -65,8 +65,8 @@ still_whole rows rows' e w = ⊎_elim (λ h. inl (omega arith)) (λ h. inr (omeg
 
 -- ---- refusals
 
-pub texts_refused : {t : Texts} {scratch row : ℕ} {out out' : List ℕ} → input_of t ≡ refused row → out' ≡ out
-    → TextsAnswered t scratch out out' (outcome.Refused row)
+pub texts_refused : {t : Texts} {scratch : ℕ} {out out' : List ℕ} {r : Refusal} → input_of t ≡ refused (row_of r) → out' ≡ out
+    → TextsAnswered t scratch out out' (Err r)
 unfolding combined_list
 texts_refused e same = record { answered = answered_refused (then_refused _ _ e) same }
 
@@ -236,7 +236,7 @@ module _ {s names rows : List ℕ} {samples sites : ℕ} {clipped : Bool} {clip 
 
 -- the answer for the tables is that for the texts
 pub texts_answered : {s names rows : List ℕ} {samples sites : ℕ} {clipped : Bool} {clip : List ℕ} {referenced : Bool} {reference : List ℕ} {places : ℕ}
-    → TextsLoaded s clipped clip referenced reference names rows places samples sites → (scratch : ℕ) {out out' : List ℕ} {o : Outcome}
+    → TextsLoaded s clipped clip referenced reference names rows places samples sites → (scratch : ℕ) {out out' : List ℕ} {o : Result ℕ Refusal}
     → ((call : CallLoaded s names rows samples sites clipped clip referenced reference)
     → Answered (list_within call.loaded scratch (length out)) out out' o)
     → TextsAnswered (texts_of s clipped clip referenced reference) scratch out out' o
@@ -270,25 +270,43 @@ long_fit n r o f c = tables_fit 4096 n o f c (inl (omega arith)) (λ sites h k. 
 pub rows_short : {names₀ names rows₀ rows : List ℕ} → 2 * max_samples ≤ length names₀ → CohortUnread names₀ names rows₀ rows → length rows₀ < max_sites * 22
 rows_short e u = ⊎_elim (λ h. absurd (omega arith)) (λ h. h) u.no_room
 
+-- a cohort that is not read into the tables is refused, or the tables have no room
+pub cohort_unread : (s : List ℕ) (clipped : Bool) (clip : List ℕ) (referenced : Bool) (reference names₀ names rows₀ rows : List ℕ) (e : LoadError)
+    → TextsFit s clipped clip referenced reference → 2 * max_samples ≤ length names₀ → CohortAt s names₀ names rows₀ rows (Err e)
+    → ReadTo s clipped clip referenced reference names rows (length rows₀) (Err e)
+unfolding ReadTo CohortAt
+cohort_unread s clipped clip referenced reference names₀ names rows₀ rows (Refused refusal) fit room h =
+    cohort_refused s clipped clip referenced reference fit h.value
+cohort_unread s clipped clip referenced reference names₀ names rows₀ rows NoRoom fit room h = rows_short room h
+
 -- what a table of so many places gave, as what a longer one may give
-pub tried_longer : (texts : Texts) (scratch : ℕ) (out out' : List ℕ) (places more : ℕ) (r : Tried) → more < max_sites * 22
+pub tried_longer : (texts : Texts) (scratch : ℕ) (out out' : List ℕ) (places more : ℕ) (r : Result ℕ LoadError) → more < max_sites * 22
     → TriedWith texts scratch out out' places r → TriedWith texts scratch out out' more r
 unfolding TriedWith
-tried_longer texts scratch out out' places more (tried.Done outcome) fit t = t
-tried_longer texts scratch out out' places more tried.NoRoom fit t = (t.0, fit)
+tried_longer texts scratch out out' places more (Ok written) fit t = t
+tried_longer texts scratch out out' places more (Err (Refused refusal)) fit t = t
+tried_longer texts scratch out out' places more (Err NoRoom) fit t = (t.0, fit)
+
+-- texts that are not read into the tables are refused, or the tables have no room
+pub not_loaded : (s : List ℕ) (clipped : Bool) (clip : List ℕ) (referenced : Bool) (reference names rows : List ℕ) (places scratch : ℕ) (out : List ℕ)
+    (e : LoadError) → ReadTo s clipped clip referenced reference names rows places (Err e)
+    → TriedWith (texts_of s clipped clip referenced reference) scratch out out places (Err e)
+unfolding ReadTo TriedWith
+not_loaded s clipped clip referenced reference names rows places scratch out (Refused refusal) h = texts_refused h refl
+not_loaded s clipped clip referenced reference names rows places scratch out NoRoom h = (refl, h)
 
 -- the table for all has rows for all sites
 pub full_table : {R : Type 0} (places : ℕ) → places ≡ table_length → places < max_sites * 22 → R
 full_table places e h = absurd (omega arith)
 
 -- the other tables are tried with the same output
-pub tried_again : {t : Texts} {scratch scratch₁ : ℕ} {out out₁ out' : List ℕ} {r : Outcome} → scratch₁ ≡ scratch → out₁ ≡ out
+pub tried_again : {t : Texts} {scratch scratch₁ : ℕ} {out out₁ out' : List ℕ} {r : Result ℕ Refusal} → scratch₁ ≡ scratch → out₁ ≡ out
     → TextsAnswered t scratch₁ out₁ out' r → TextsAnswered t scratch out out' r
 tried_again e f a = rw (← e, ← f) a
 
 -- ---- scratch
 
-pub combined : {t : Texts} {scratch : List ℕ} (scratch₁ : List ℕ) {scratch' out out' : List ℕ} {r : Outcome} → TextsAnswered t (length scratch) out out' r
+pub combined : {t : Texts} {scratch : List ℕ} (scratch₁ : List ℕ) {scratch' out out' : List ℕ} {r : Result ℕ Refusal} → TextsAnswered t (length scratch) out out' r
     → length scratch₁ ≡ length scratch → scratch' ≡ scratch_after scratch₁ → Combined t scratch scratch' out out' r
 combined {scratch = scratch} scratch₁ a same cleared = record {
   answer = a.answered.answer;

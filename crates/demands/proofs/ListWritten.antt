@@ -4,14 +4,14 @@ use lib.ListN.{drop, length, take}
 use lib.Seq.{take_at}
 use mathlib.Core.List.{List}
 use mathlib.Core.Path.{◌∙◌, ◌≡◌, ap, refl, sym}
-use Rattle.answers.specs.declared.Outcome.TheVariants.{Written}
+use Rattle.std.specs.Prelude.{Ok}
 use Rattle.combine_gvcfs.specs.Combined.{Combined}
 use Rattle.definitions.specs.Answers.{output_after, written_of}
 use Rattle.definitions.specs.Checked.{Checked, accepted, refused}
 use Rattle.definitions.specs.CombinedList.{Texts, combined_list}
 use Rattle.laws.proofs.Checked.{accepted_same, not_refused}
 
-module _ {t : Texts} {scratch scratch' out out' : List ℕ} {n : ℕ} (c : Combined t scratch scratch' out out' (Written n)) where
+module _ {t : Texts} {scratch scratch' out out' : List ℕ} {n : ℕ} (c : Combined t scratch scratch' out out' (Ok n)) where
   abbrev answer : Checked (List ℕ)
   answer = combined_list t (length scratch) (length out)
 

@@ -7,7 +7,7 @@ use mathlib.Core.List.{List, [], ◌∷◌}
 use mathlib.Core.Logic.{◌⊎◌, inl, inr}
 use mathlib.Core.Path.{◌∙◌, ◌≡◌, ap, refl, subst, sym}
 use Rattle.answers.specs.Answered.{Answered}
-use Rattle.answers.specs.declared.Outcome.TheVariants.{Written}
+use Rattle.std.specs.Prelude.{Ok}
 use Rattle.definitions.specs.Answers.{output_after, written_of}
 use Rattle.definitions.specs.CalledList.{called_list, called_records}
 use Rattle.definitions.specs.Checked.{Checked, ◌>>=◌, ◌>>◌, accepted, read_each, refused, refused_as, require, within}
@@ -22,7 +22,7 @@ use Rattle.demands.specs.SheetOfCalled.{RowOfSheet, SheetOfCalled}
 
 -- ---- what the call wrote
 
-module _ {values : Checked (List ℕ)} {out out' : List ℕ} {n : ℕ} (a : Answered values out out' (Written n)) where
+module _ {values : Checked (List ℕ)} {out out' : List ℕ} {n : ℕ} (a : Answered values out out' (Ok n)) where
   values_written : (v : Checked (List ℕ)) → values ≡ v → values ≡ accepted (take n out')
   unfolding output_after written_of
   values_written (refused m) e = not_refused (sym (a.answer ∙ ap written_of e))

@@ -4,7 +4,7 @@ use lib.ListN.{length}
 use mathlib.Core.Bool.{true}
 use mathlib.Core.List.{List}
 use mathlib.Core.Path.{◌∙◌, ◌≡◌, ap, refl, sym}
-use Rattle.answers.specs.declared.Outcome.TheVariants.{Written}
+use Rattle.std.specs.Prelude.{Ok}
 use Rattle.combine_gvcfs.specs.Combined.{Combined}
 use Rattle.definitions.specs.Answers.{Answer, answer_of, written_of}
 use Rattle.definitions.specs.Checked.{Checked, accepted, is_accepted, refused}
@@ -21,7 +21,7 @@ zero_written (refused row) t e = clash refl t
 zero_written (accepted list) t e = ap {B = Checked ℕ} accepted (ap (λ (a : Answer). a.written) e)
 
 pub as_written : {t : Texts} {scratch scratch' out out' : List ℕ} {n : ℕ} → ExportedList t scratch scratch' out out' 0 n
-    → Combined t scratch scratch' out out' (Written n)
+    → Combined t scratch scratch' out out' (Ok n)
 as_written call =
     record {
       answer = zero_written _ call.exported.accepts call.exported.numbers;

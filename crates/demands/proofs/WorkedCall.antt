@@ -7,7 +7,7 @@ use lib.Seq.{take_at}
 use mathlib.Core.List.{List, [], ◌++◌}
 use mathlib.Core.Path.{◌∙◌, ◌≡◌, refl, sym}
 use Rattle.answers.proofs.Answers.{answered_written}
-use Rattle.answers.specs.declared.Outcome.TheVariants.{Written}
+use Rattle.std.specs.Prelude.{Ok}
 use Rattle.combine_gvcfs.specs.Combined.{Combined}
 use Rattle.definitions.specs.Answers.{scratch_after}
 use Rattle.definitions.specs.Bytes.{text}
@@ -23,7 +23,7 @@ use Rattle.demands.proofs.TwoCalls.{TwoCalls, accepted_value, cohort_read, cohor
 
 -- what the entry promises of a call that gives this list
 promised : {t : Texts} {list : List ℕ} (scratch out : List ℕ) → combined_list t (length scratch) (length out) ≡ accepted list
-    → Combined t scratch (scratch_after scratch) out (list ++ drop (length list) out) (Written (length list))
+    → Combined t scratch (scratch_after scratch) out (list ++ drop (length list) out) (Ok (length list))
 promised scratch out e =
     let a = answered_written e refl refl in
     record { answer = a.answer; output = a.output; cleared = refl }

@@ -6,7 +6,11 @@ use mathlib.Core.List.{List, [], ◌++◌, ◌∷◌, append-nil, flat_map, reve
 use mathlib.Core.Option.{get_or}
 use mathlib.Core.Path.{◌∙◌, ◌≡◌, ap, refl, sym}
 use native.Mathlib.Omega.{arith}
+use Rattle.answers.specs.Answered.{row_of}
+use Rattle.answers.specs.declared.Refusal.{Refusal}
+use Rattle.answers.specs.declared.Refusal.TheVariants as refusal
 use Rattle.bio_ids.specs.declared.GenomePosition.{GenomePosition}
+use Rattle.std.specs.Prelude as std
 use Rattle.cohort.proofs.FirstGroups.{some_lines}
 use Rattle.definitions.specs.CalledList.{called_records}
 use Rattle.definitions.specs.Checked.{Checked, accepted, read_each, refused}
@@ -20,12 +24,11 @@ use Rattle.laws.proofs.Lines.{lines_end}
 use Rattle.laws.proofs.SoundList.{record_sound}
 use Rattle.list_header.proofs.TwoPasses.{counted_none}
 use Rattle.list_reader.specs.RecordGroups.{PreviousOf, RecordTo, RefusedBy, end_option, group_lines, record_from, record_group}
-use Rattle.list_reader.specs.declared.Previous.TheVariants as previous
-use Rattle.list_reader.specs.declared.Previous.{Previous}
+use Rattle.list_reader.specs.declared.PreviousRecord.{PreviousRecord}
 use Rattle.list_reader.specs.declared.RecordPlace.{RecordPlace}
 use Rattle.list_walk.proofs.MissingGroups.{all_accepted, all_ended, all_refused, more_refused}
 use Rattle.genotype_gvcfs.specs.Walk.{CalledLaid, LayReady, RecordsWalked, WalkReady, read_with, records_from}
-use Rattle.genotype_gvcfs.specs.declared.Walked.TheVariants as walked
+use Rattle.genotype_gvcfs.specs.declared.ListEnd.{ListEnd}
 
 module _ (s : List ℕ) (at₀ samples records : ℕ) where
   -- what the groups from an offset on read as, behind these records, with which they are all
@@ -41,14 +44,14 @@ module _ (s : List ℕ) (at₀ samples records : ℕ) where
 
   module _ {rows₀ out₀ : List ℕ} {from : ℕ} (ready : WalkReady samples rows₀ out₀ from) where
     -- the called ones of the records read so far are laid, and those from here on are left
-    pub record Going (out : List ℕ) (next read : ℕ) (last : Previous) (end count : ℕ) : Type 0 where
+    pub record Going (out : List ℕ) (next read : ℕ) (last : std.Option PreviousRecord) (list : ListEnd) : Type 0 where
       pub done : List Record
       pub left_is : left done next ≡ records_from samples records s at₀
       pub read_is : read ≡ length done
       pub last_is : PreviousOf s (reverse done) last
-      pub laid : CalledLaid ready.d₀ ready.bytes done out end count
+      pub laid : CalledLaid ready.d₀ ready.bytes done out list.at list.count
 
-    pub going_start : Going out₀ at₀ 0 previous.None from 0
+    pub going_start : Going out₀ at₀ 0 std.None (record { at = from; count = 0 })
     unfolding PreviousOf records_from called_records filter_by flat_map
     going_start = record {
       done = [];
@@ -58,7 +61,7 @@ module _ (s : List ℕ) (at₀ samples records : ℕ) where
       laid = record { measured = rw append-nil ready.measured; counted = counted_none };
     }
 
-    module _ {out : List ℕ} {next read : ℕ} {last : Previous} {end count : ℕ} (g : Going out next read last end count) where
+    module _ {out : List ℕ} {next read : ℕ} {last : std.Option PreviousRecord} {list : ListEnd} (g : Going out next read last list) where
       before_count : length (reverse g.done) ≡ read
       before_count = length-reverse g.done ∙ sym g.read_is
 
@@ -70,14 +73,14 @@ module _ (s : List ℕ) (at₀ samples records : ℕ) where
       -- ---- all groups that there must be were read
 
       module _ (all : records ≤ read) where
-        pub going_past : next < length s → RecordsWalked (records_from samples records s at₀) records ready.d₀ ready.bytes out (walked.Refused 1)
+        pub going_past : next < length s → RecordsWalked (records_from samples records s at₀) records ready.d₀ ready.bytes out (std.Err refusal.Spelling)
         unfolding RecordsWalked record_read
         going_past more = refused_left 1
             (more_refused (group_lines samples) some_size (record_read samples records) (reverse g.done) (records - length g.done) (lines_of (drop next s)) (some_lines s next more)
             (not_required 1 _ _ (le-ltb (length (reverse g.done)) records (omega (arith, before_count)))))
 
         pub going_end : read ≤ records → length s ≤ next
-            → RecordsWalked (records_from samples records s at₀) records ready.d₀ ready.bytes out (walked.To end count)
+            → RecordsWalked (records_from samples records s at₀) records ready.d₀ ready.bytes out (std.Ok list)
         unfolding RecordsWalked
         going_end few past = record {
           list = g.done;
@@ -98,10 +101,10 @@ module _ (s : List ℕ) (at₀ samples records : ℕ) where
         fewer = omega (arith, before_count)
 
         -- it is refused
-        pub going_refused : (row : ℕ) → RefusedBy s next samples last row
-            → RecordsWalked (records_from samples records s at₀) records ready.d₀ ready.bytes out (walked.Refused row)
+        pub going_refused : (r : Refusal) → RefusedBy s next samples last (row_of r)
+            → RecordsWalked (records_from samples records s at₀) records ready.d₀ ready.bytes out (std.Err r)
         unfolding RecordsWalked
-        going_refused row says = refused_left row
+        going_refused r says = refused_left (row_of r)
             (all_refused (group_lines samples) some_size (record_read samples records) (reverse g.done) (records - length g.done) (lines_of (drop next s)) (omega (arith, g.read_is))
             (says records (reverse g.done) fewer g.last_is))
 
@@ -113,7 +116,7 @@ module _ (s : List ℕ) (at₀ samples records : ℕ) where
           read_now : record_read samples records (reverse g.done) (record_group s next samples) ≡ accepted new
           read_now = to.value records (reverse g.done) fewer g.last_is
 
-          pub lay_ready : LayReady s p rows samples out end count
+          pub lay_ready : LayReady s p rows samples out list.at list.count
           lay_ready = record {
             sample_data = to.sample_data;
             sound = (record_sound samples records (reverse g.done) (record_group s next samples) new read_now).sound;
@@ -127,9 +130,9 @@ module _ (s : List ℕ) (at₀ samples records : ℕ) where
             laid = g.laid;
           }
 
-          pub going_next : {out' : List ℕ} {end' count' : ℕ} {last : GenomePosition} → last.0 ≡ get_or (end_option p.end) p.pos.0
-              → ((l : LayReady s p rows samples out end count) → CalledLaid l.d₀ l.bytes (read_with l) out' end' count')
-              → Going out' p.next (read + 1) (previous.Last p.contig last) end' count'
+          pub going_next : {out' : List ℕ} {list' : ListEnd} {last : GenomePosition} → last.0 ≡ get_or (end_option p.end) p.pos.0
+              → ((l : LayReady s p rows samples out list.at list.count) → CalledLaid l.d₀ l.bytes (read_with l) out' list'.at list'.count)
+              → Going out' p.next (read + 1) (std.Some (record { contig = p.contig; end = last })) list'
           unfolding PreviousOf lay_ready record_end
           going_next last_is lays = record {
             done = g.done ++ (new ∷ []);

@@ -7,8 +7,10 @@ use mathlib.Core.Path.{◌∙◌, ◌≡◌, ap, refl, subst, sym}
 use native.Mathlib.Omega.{arith}
 use Rattle.answers.proofs.Answers.{answered_refused, answered_written, is_within, not_within}
 use Rattle.answers.specs.Answered.{Answered}
-use Rattle.answers.specs.declared.Outcome.TheVariants as outcome
-use Rattle.answers.specs.declared.Outcome.{Outcome}
+use Rattle.answers.specs.Answered.{row_of}
+use Rattle.answers.specs.declared.Refusal.{Refusal}
+use Rattle.answers.specs.declared.Refusal.TheVariants as refusal
+use Rattle.std.specs.Prelude.{Err, Ok, Result}
 use Rattle.called_lines.proofs.SoundCalled.{called_few}
 use Rattle.definitions.specs.CalledList.{called_record, called_records, is_called, printed_called_list, printed_called_record}
 use Rattle.definitions.specs.Checked.{Checked, accepted, refused, within}
@@ -32,8 +34,7 @@ use Rattle.record_laws.proofs.Lengths.{most_header, most_record}
 use Rattle.tables.specs.Tables.{names_in, row_length}
 use Rattle.genotype_gvcfs.specs.Called.{Measurement, called_from, list_to}
 use Rattle.genotype_gvcfs.specs.Walk.{RecordsLaid, RecordsWalked, WalkReady, records_from}
-use Rattle.genotype_gvcfs.specs.declared.Walked.TheVariants as walked
-use Rattle.genotype_gvcfs.specs.declared.Walked.{Walked}
+use Rattle.genotype_gvcfs.specs.declared.ListEnd.{ListEnd}
 
 -- nothing is written on an empty part, and it stays empty
 nothing_laid : {bytes part : List ℕ} {at r : ℕ} → Laid [] at bytes part r → part ≡ []
@@ -47,7 +48,7 @@ pub taken_exactly : (n : ℕ) (l : List ℕ) → n ≤ length l → n ≡ length
 taken_exactly n l h = omega (arith, length-take n l)
 
 -- what walking over the records says
-abbrev pub WalkSays : List ℕ → ℕ → ℕ → ℕ → List ℕ → List ℕ → ℕ → List ℕ → Walked → Type 0
+abbrev pub WalkSays : List ℕ → ℕ → ℕ → ℕ → List ℕ → List ℕ → ℕ → List ℕ → Result ListEnd Refusal → Type 0
 WalkSays s at samples records rows out from out' w = (r : WalkReady samples rows out from)
     → RecordsWalked (records_from samples records s at) records r.d₀ r.bytes out' w
 
@@ -71,16 +72,17 @@ module _ {s names : List ℕ} {samples : ℕ} (header : HeaderNames s names samp
   pub measuring : WalkReady samples rows [] 0
   measuring = record { few = header.few; room = room; d₀ = []; bytes = []; measured = measured_none (omega arith) }
 
-  module _ (records at : ℕ) (part : List ℕ) {w : Walked} (says : WalkSays s at samples records rows [] 0 part w) where
-    pub list_refused : {row : ℕ} (space : ℕ) → w ≡ walked.Refused row → called_from s names samples records at space ≡ refused row
+  module _ (records at : ℕ) (part : List ℕ) where
+    pub list_refused : {r : Refusal} (space : ℕ) → WalkSays s at samples records rows [] 0 part (Err r)
+        → called_from s names samples records at space ≡ refused (row_of r)
     unfolding RecordsWalked measuring called_from
-    list_refused space e = then_refused _ _ (rw e at (says measuring))
+    list_refused space says = then_refused _ _ (says measuring)
 
-    pub measurement : {rows₁ : List ℕ} {len count : ℕ} → length rows₁ ≡ length rows → records ≤ 4294967295 → w ≡ walked.To len count
-        → Measurement s names samples records at rows₁ len count
+    pub measurement : {rows₁ : List ℕ} {end : ListEnd} → length rows₁ ≡ length rows → records ≤ 4294967295
+        → WalkSays s at samples records rows [] 0 part (Ok end) → Measurement s names samples records at rows₁ end.at end.count
     unfolding RecordsWalked measuring
-    measurement {len = len} {count = count} same small e =
-        let laid : RecordsLaid (records_from samples records s at) records [] [] part len count = rw e at (says measuring) in
+    measurement {end = end} same small says =
+        let laid : RecordsLaid (records_from samples records s at) records [] [] part end.at end.count = says measuring in
         let short = bytes_counted s at samples records laid.list header.few laid.value in
         record {
           header = header;
@@ -92,13 +94,13 @@ module _ {s names : List ℕ} {samples : ℕ} (header : HeaderNames s names samp
           few = omega (arith, laid.few);
         }
 
-    pub list_answered : {rows₁ : List ℕ} {len count : ℕ} (out out₁ out₂ : List ℕ) (r : Outcome) → length rows₁ ≡ length rows → records ≤ 4294967295
-        → w ≡ walked.To len count → out₁ ≡ out
-        → ((m : Measurement s names samples records at rows₁ len count) → Answered (within (length out₁) (list_to m)) out₁ out₂ r)
+    pub list_answered : {rows₁ : List ℕ} {end : ListEnd} (out out₁ out₂ : List ℕ) (r : Result ℕ Refusal) → length rows₁ ≡ length rows
+        → records ≤ 4294967295 → WalkSays s at samples records rows [] 0 part (Ok end) → out₁ ≡ out
+        → ((m : Measurement s names samples records at rows₁ end.at end.count) → Answered (within (length out₁) (list_to m)) out₁ out₂ r)
         → Answered (called_from s names samples records at (length out)) out out₂ r
     unfolding measurement called_from
-    list_answered out out₁ out₂ r same small e kept writes =
-        let m = measurement same small e in
+    list_answered out out₁ out₂ r same small says kept writes =
+        let m = measurement same small says in
         let answer : Answered (within (length out) (list_to m)) out out₂ r = rw kept at (writes m) in
         subst (λ (c : Checked (List ℕ)). Answered c out out₂ r) (sym (then _ _ m.value refl)) answer
 
@@ -132,7 +134,7 @@ module _ {s names : List ℕ} {samples records at : ℕ} {rows : List ℕ} {len 
     part_low out = omega (arith, length-take (r + len) out, end_low)
 
     -- there is no room
-    pub full_answered : (out : List ℕ) → length (part ++ out) < r + len → Answered (within (length out) (list_to m)) out (part ++ out) (outcome.Refused 14)
+    pub full_answered : (out : List ℕ) → length (part ++ out) < r + len → Answered (within (length out) (list_to m)) out (part ++ out) (Err refusal.Output)
     full_answered out h =
         let empty : part ≡ [] = nothing_laid header in
         let few : length out < length (list_to m) = omega (arith, ap length (ap (λ (p : List ℕ). p ++ out) empty), list_length) in
@@ -142,7 +144,7 @@ module _ {s names : List ℕ} {samples records at : ℕ} {rows : List ℕ} {len 
     pub fitting_answered : {written : List ℕ} (out : List ℕ) → r + len ≤ length (part ++ out)
         → ((m : Measurement s names samples records at rows len count)
         → written ≡ sets (take (r + len) (part ++ out)) 0 (list_to m))
-        → Answered (within (length out) (list_to m)) out (written ++ drop (r + len) (part ++ out)) (outcome.Written (r + len))
+        → Answered (within (length out) (list_to m)) out (written ++ drop (r + len) (part ++ out)) (Ok (r + len))
     fitting_answered {written} out h writes =
         let empty : part ++ out ≡ out = ap (λ (p : List ℕ). p ++ out) (nothing_laid header) in
         let exact : length (take (r + len) (part ++ out)) ≡ length (list_to m) = omega (arith, length-take (r + len) (part ++ out), list_length) in
@@ -160,13 +162,13 @@ module _ {s names : List ℕ} {samples records at : ℕ} {rows : List ℕ} {len 
       measured = record { at_is = omega (arith, header.next, header_low); laid = header.laid; small = small };
     }
 
-    pub list_written : {out₂ : List ℕ} (w : Walked) → WalkSays s at samples records rows out₁ from out₂ w → out₂ ≡ sets out 0 (list_to m)
+    pub list_written : {out₂ : List ℕ} (w : Result ListEnd Refusal) → WalkSays s at samples records rows out₁ from out₂ w → out₂ ≡ sets out 0 (list_to m)
     unfolding RecordsWalked writing
     list_written {out₂} w says = go w (says writing)
       where
-        go : (w : Walked) → RecordsWalked (records_from samples records s at) records out header_of out₂ w → out₂ ≡ sets out 0 (list_to m)
-        go (walked.Refused row) e = not_refused (sym e ∙ m.value)
-        go (walked.To end k) laid =
+        go : (w : Result ListEnd Refusal) → RecordsWalked (records_from samples records s at) records out header_of out₂ w → out₂ ≡ sets out 0 (list_to m)
+        go (Err r) e = not_refused (sym e ∙ m.value)
+        go (Ok end) laid =
             let same : laid.list ≡ m.list = accepted_same (sym laid.value ∙ m.value) in
             let bytes : header_of ++ flat_map printed_called_record (called_records laid.list) ≡ list_to m = rw same (sym list_parts) in
             laid.laid.measured.laid ∙ ap (sets out 0) bytes

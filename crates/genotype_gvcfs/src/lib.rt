@@ -121,7 +121,7 @@ fn write_list(
         → out.new ≡ sets out.old 0 (list_to m) }
 {
     let from = list_header::put_header(s, names, samples, count as u32, out);
-    genotype_gvcf_records(s, at, samples, records, rows, out, from);
+    let _ = genotype_gvcf_records(s, at, samples, records, rows, out, from);
 }
 
 // Writes the list whose records were measured: row 14 if it has more bytes than there is room for.

@@ -7,14 +7,15 @@ use mathlib.Core.Bool.{Bool, ◌&&◌, false, true}
 use mathlib.Core.List.{List, []}
 use mathlib.Core.Path.{◌∙◌, ◌≡◌, ap, refl, sym}
 use native.Mathlib.Omega.{arith}
+use Rattle.answers.specs.Answered.{checked_of, row_of}
+use Rattle.answers.specs.declared.Refusal.{Refusal}
 use Rattle.combine_gvcfs.specs.Combined.{TextsLoaded, texts_of}
 use Rattle.combined_list.proofs.ListReady.{list_ready}
 use Rattle.combined_list.proofs.WrittenList.{WalkSays, measuring}
 use Rattle.combined_list.specs.WrittenList.{CallLoaded}
 use Rattle.contig_walk.specs.Walk.{RecordsLaid, RecordsRefused, RecordsWalked}
 use Rattle.combined_list.specs.Contigs.{all_records}
-use Rattle.contig_walk.specs.declared.Walked.TheVariants as walked
-use Rattle.contig_walk.specs.declared.Walked.{Walked}
+use Rattle.contig_walk.specs.declared.ListEnd.{ListEnd}
 use Rattle.contigs.specs.Contigs.{ContigOrder}
 use Rattle.covering_sites.specs.Covering.{sample_keys}
 use Rattle.covering_sites.specs.Runs.{Runs}
@@ -26,8 +27,8 @@ use Rattle.definitions.specs.Records.{Record}
 use Rattle.laws.proofs.Checked.{not_refused, refused_back, then, then_refused}
 use Rattle.laws.proofs.ScratchPlaces.{list_without_place, records_placed}
 use Rattle.laws.proofs.Tests.{both_of}
-use Rattle.search_looks.specs.Looked.{ContigsReady, LooksAnswered, SitesReady, TablesReady, looks_with, looked_answer}
-use Rattle.search_looks.specs.declared.Looked.{Looked}
+use Rattle.search_looks.specs.Looked.{ContigsReady, LooksAnswered, SitesReady, TablesReady, looks_with}
+use Rattle.std.specs.Prelude.{Err, Ok, Result}
 use Rattle.tables.proofs.Cleared.{scratch_same}
 
 -- ---- all contigs are walked over
@@ -37,19 +38,19 @@ module _ {s rows : List ℕ} {samples sites : ℕ} {clipped : Bool} {clip : List
   pub sites_ready : SitesReady s rows samples sites clipped clip order runs
   sites_ready = record { referenced = referenced; reference = reference; tables = ready.list.tables; all_sites = ready.all_sites }
 
-  module _ (contig part : List ℕ) {w : Walked} (says : WalkSays ready.list [] 0 part w) where
-    pub walk_refused : {row : ℕ} → w ≡ walked.Refused row → refused row ≡ looks_with ready.list.tables.loaded.input 1 contig
+  module _ (contig part : List ℕ) where
+    pub walk_refused : {r : Refusal} → WalkSays ready.list [] 0 part (Err r) → refused (row_of r) ≡ looks_with ready.list.tables.loaded.input 1 contig
     unfolding RecordsWalked measuring ◌>>◌
-    walk_refused {row} e =
-        let r : RecordsRefused (all_records ready.list.tables) [] [] part row = rw e at (says (measuring ready.list)) in
-        sym (then_refused _ _ r.merged)
+    walk_refused {r} says =
+        let walked : RecordsRefused (all_records ready.list.tables) [] [] part (row_of r) = says (measuring ready.list) in
+        sym (then_refused _ _ walked.merged)
 
-    pub walk_accepted : {at count figure : ℕ} → w ≡ walked.To at count
+    pub walk_accepted : {end : ListEnd} {figure : ℕ} → WalkSays ready.list [] 0 part (Ok end)
         → ((lent : SitesReady s rows samples sites clipped clip order runs) → figure ≡ contig_looks lent.tables.loaded.input contig)
         → accepted figure ≡ looks_with ready.list.tables.loaded.input 1 contig
     unfolding RecordsWalked measuring ◌>>◌ sites_ready
-    walk_accepted {at} {count} e counted =
-        let laid : RecordsLaid (all_records ready.list.tables) [] [] 0 part at count = rw e at (says (measuring ready.list)) in
+    walk_accepted {end} says counted =
+        let laid : RecordsLaid (all_records ready.list.tables) [] [] 0 part end.at end.count = says (measuring ready.list) in
         sym (then _ _ laid.merged (ap accepted (sym (counted sites_ready))))
 
 -- ---- from the tables
@@ -63,10 +64,10 @@ module _ {s rows : List ℕ} {samples sites : ℕ} {clipped : Bool} {clip : List
     unfolding list_ready
     contigs_ready = record { names = ready.names; list = list_ready ready.call long o g; all_sites = ready.call.all_sites }
 
-    pub contigs_answered : (contig : List ℕ) (r : Looked)
+    pub contigs_answered : (contig : List ℕ) (r : Result ℕ Refusal)
         → ((lent : ContigsReady s rows samples sites clipped clip referenced reference (take n firsts) order runs)
-        → looked_answer r ≡ looks_with lent.list.tables.loaded.input 1 contig)
-        → looked_answer r ≡ looks_with ready.call.loaded.input 1 contig
+        → checked_of r ≡ looks_with lent.list.tables.loaded.input 1 contig)
+        → checked_of r ≡ looks_with ready.call.loaded.input 1 contig
     unfolding contigs_ready list_ready
     contigs_answered contig r says = says contigs_ready
 
@@ -98,17 +99,17 @@ module _ {s : List ℕ} {clipped : Bool} {clip : List ℕ} {referenced : Bool} {
   pub tables_ready : TablesReady s rows samples sites clipped clip referenced reference
   tables_ready = record { names = names; call = t.call }
 
-  pub loaded_answered : (places : ℕ) (contig : List ℕ) (r : Looked)
+  pub loaded_answered : (places : ℕ) (contig : List ℕ) (r : Result ℕ Refusal)
       → ((lent : TablesReady s rows samples sites clipped clip referenced reference)
-      → looked_answer r ≡ looks_with lent.call.loaded.input places contig)
-      → looked_answer r ≡ looks_of (texts_of s clipped clip referenced reference) places contig
+      → checked_of r ≡ looks_with lent.call.loaded.input places contig)
+      → checked_of r ≡ looks_of (texts_of s clipped clip referenced reference) places contig
   unfolding looks_of tables_ready
   loaded_answered places contig r says = says tables_ready ∙ sym (then _ _ t.read refl)
 
 -- ---- scratch is zero at the end
 
-pub looks_answered : (t : Texts) (contig scratch scratch₁ : List ℕ) {scratch' : List ℕ} (r : Looked)
-    → looked_answer r ≡ looks_of t (length scratch) contig → length scratch₁ ≡ length scratch → scratch' ≡ scratch_after scratch₁
+pub looks_answered : (t : Texts) (contig scratch scratch₁ : List ℕ) {scratch' : List ℕ} (r : Result ℕ Refusal)
+    → checked_of r ≡ looks_of t (length scratch) contig → length scratch₁ ≡ length scratch → scratch' ≡ scratch_after scratch₁
     → LooksAnswered t contig scratch scratch' r
 looks_answered t contig scratch scratch₁ r answer same cleared =
     record { answer = answer; cleared = cleared ∙ scratch_same scratch₁ scratch same }

@@ -1,26 +1,162 @@
-// The library as C and Rust programs link it: numbers and slices only. Each function that writes answers the number of the row that
-// refuses the call, 0 for none, and stores how many values it wrote.
+// The library as Rust programs link it, and its answers as the numbers that C programs get.
 #![tactic(auto)]
 
 ghost use Rattle.std.specs.Prelude.{true, map, ◌≡◌, length};
-ghost use Rattle.allele_subsetting_pl.specs.UnusedAlts.{outputs, subset_none_above};
-ghost use Rattle.combine_gvcfs.specs.Combined.{texts_of};
+ghost use Rattle.allele_subsetting_pl.specs.UnusedAlts.{UnusedAltsAnswered, likelihood_count_of, outputs, subset_none_above};
+ghost use Rattle.answers.specs.Answered.{Answered};
+ghost use Rattle.combine_gvcfs.specs.Combined.{Combined, texts_of};
 ghost use Rattle.definitions.specs.AlleleSubset.{likelihood_subset, unused_alt_subset_within};
 ghost use Rattle.definitions.specs.CalledGenotypes.{gq_from_pl};
 ghost use Rattle.definitions.specs.CalledList.{called_list};
 ghost use Rattle.definitions.specs.Checked.{within};
 ghost use Rattle.definitions.specs.Likelihoods.{log10_from_pl};
-ghost use Rattle.definitions.specs.LookUp.{look_up_within};
 ghost use Rattle.definitions.specs.ReverseTrim.{trimmed_alleles};
-ghost use Rattle.likelihoods.specs.Written.{NearTenths, none_above};
-ghost use Rattle.wintabol.specs.Exported.{Exported, ExportedAlts, ExportedList, ExportedLookUp, ExportedLooks, answer, answer_alts, answer_lookup, lookup_numbers, outcome_alts, outcome_numbers};
+ghost use Rattle.likelihoods.specs.Written.{NearTenths, count_of, none_above};
+ghost use Rattle.position_lookup.specs.Found.{LookUpAnswered};
+ghost use Rattle.search_looks.specs.Looked.{LooksAnswered};
+ghost use Rattle.wintabol.specs.Exported.{answer, answer_alts, answer_lookup, lookup_numbers, outcome_alts, outcome_numbers};
 
 use allele_subsetting_pl::UnusedAlts;
 use answers::Refusal;
 use position_lookup::LookedUp;
 
+// ---- the functions
+
+// The combined list of cohort.kv, of clip.kv if `clipped`, and of reference.kv if `has_reference`.
+pub fn wintabol_combine<'a>(
+    cohort: &'a [u8],
+    clipped: bool,
+    clip: &[u8],
+    has_reference: bool,
+    reference: &'a [u8],
+    scratch: &mut [u64],
+    out: &mut [u8],
+) -> Result<usize, Refusal>
+    ensures { Combined
+        (texts_of cohort.now clipped clip.now has_reference reference.now)
+        scratch.old scratch.new out.old out.new result }
+{
+    combine_gvcfs::combine(
+        cohort,
+        clipped,
+        clip,
+        has_reference,
+        reference,
+        scratch,
+        out,
+    )
+}
+
+// For planning, how many sites the search along a contig looks at, for the texts of `wintabol_combine`: 0 for a contig that no site names.
+pub fn wintabol_looks<'a>(
+    cohort: &'a [u8],
+    clipped: bool,
+    clip: &[u8],
+    has_reference: bool,
+    reference: &'a [u8],
+    contig: &[u8],
+    scratch: &mut [u64],
+) -> Result<usize, Refusal>
+    ensures { LooksAnswered
+        (texts_of cohort.now clipped clip.now has_reference reference.now)
+        contig.now scratch.old scratch.new result }
+{
+    search_looks::looks(
+        cohort,
+        clipped,
+        clip,
+        has_reference,
+        reference,
+        contig,
+        scratch,
+    )
+}
+
+// For each pair of `asked`, groups of `contig` and `pos` in list order, the number of the record of a combined list whose stretch holds it,
+// counted from 0, or 4294967295 for none; how many pairs there are; and how many record groups were read, front to back, up to the last pair.
+pub fn wintabol_look_up(list: &[u8], asked: &[u8], out: &mut [u32]) -> Result<LookedUp, Refusal>
+    ensures { LookUpAnswered list.now asked.now out.old out.new result }
+{
+    position_lookup::look_up(list, asked, out)
+}
+
+// The called list of a combined list.
+pub fn wintabol_call(list: &[u8], out: &mut [u8]) -> Result<usize, Refusal>
+    ensures { Answered
+        (called_list list.now (length out.old))
+        out.old out.new result }
+{
+    genotype_gvcfs::call(list, out)
+}
+
+// The alleles of a comma list, REF first, without their common ending.
+pub fn wintabol_reverse_trim_alleles(alleles: &[u8], out: &mut [u8]) -> Result<usize, Refusal>
+    ensures { Answered
+        (trimmed_alleles alleles.now (length out.old))
+        out.old out.new result }
+{
+    reverse_trim::reverse_trim_alleles(alleles, out)
+}
+
+// GQ of a list of PLs.
+pub fn wintabol_gq_phred_from_pl(pl: &[u32]) -> u32
+    ensures { result ≡ gq_from_pl pl.now }
+{
+    genotyping::gq_phred_from_pl(pl)
+}
+
+// The log10 likelihoods of PLs.
+pub fn wintabol_log10_likelihoods_from_pl(pl: &[u32], out: &mut [f64]) -> Result<usize, Refusal>
+    ensures answered { Answered
+        (within (length out.old) (map log10_from_pl pl.now))
+        out.old out.new result }
+    ensures near { NearTenths pl.now (count_of result) out.new }
+{
+    likelihoods::log10_likelihoods_from_pl(pl, out)
+}
+
+// Likelihoods over the alleles of a keep list.
+pub fn wintabol_subset_log10_genotype_likelihoods(
+    gl: &[f64],
+    alleles: usize,
+    keep: &[usize],
+    out: &mut [f64],
+) -> Result<usize, Refusal>
+    ensures answered { Answered
+        (likelihood_subset gl.now alleles keep.now (length out.old))
+        out.old out.new result }
+    ensures none_above { none_above (count_of result) out.new ≡ true }
+{
+    allele_subsetting_pl::subset_log10_genotype_likelihoods(gl, alleles, keep, out)
+}
+
+// A record without the ALTs that the GT does not name.
+pub fn wintabol_subset_unused_alts(
+    alts: &[u8],
+    gt: &[usize],
+    gl: &[f64],
+    ad: &[u32],
+    alts_out: &mut [u8],
+    gl_out: &mut [f64],
+    ad_out: &mut [u32],
+) -> Result<UnusedAlts, Refusal>
+    ensures answered { UnusedAltsAnswered
+        (unused_alt_subset_within alts.now gt.now gl.now ad.now
+        (length alts_out.old) (length gl_out.old) (length ad_out.old))
+        (outputs alts_out.old gl_out.old ad_out.old)
+        (outputs alts_out.new gl_out.new ad_out.new)
+        result }
+    ensures none_above { subset_none_above alts.now gt.now (likelihood_count_of result) gl_out.new ≡ true }
+{
+    allele_subsetting_pl::subset_unused_alts_after_merged_genotyping(
+        alts, gt, gl, ad, alts_out, gl_out, ad_out,
+    )
+}
+
+// ---- their answers as numbers: the row that refuses the call, 0 for none; and what is stored, 0 where the call is refused
+
 // A number, or why there is none, as two numbers.
-fn give(outcome: Result<usize, Refusal>, written: &mut usize) -> usize
+pub fn give(outcome: Result<usize, Refusal>, written: &mut usize) -> usize
     ensures { outcome_numbers outcome ≡ answer result written.new }
 {
     match outcome {
@@ -35,63 +171,8 @@ fn give(outcome: Result<usize, Refusal>, written: &mut usize) -> usize
     }
 }
 
-// The combined list of cohort.kv, of clip.kv if `clipped`, and of reference.kv if `has_reference`.
-pub fn wintabol_combine<'a>(
-    cohort: &'a [u8],
-    clipped: bool,
-    clip: &[u8],
-    has_reference: bool,
-    reference: &'a [u8],
-    scratch: &mut [u64],
-    out: &mut [u8],
-    written: &mut usize,
-) -> usize
-    ensures { ExportedList
-        (texts_of cohort.now clipped clip.now has_reference reference.now)
-        scratch.old scratch.new out.old out.new result written.new }
-{
-    let outcome = combine_gvcfs::combine(
-        cohort,
-        clipped,
-        clip,
-        has_reference,
-        reference,
-        scratch,
-        out,
-    );
-    give(outcome, written)
-}
-
-// For planning, how many sites the search along a contig looks at, for the texts of `wintabol_combine`. The figure is 0 for a contig that no
-// site names, and where a row refuses the call.
-pub fn wintabol_looks<'a>(
-    cohort: &'a [u8],
-    clipped: bool,
-    clip: &[u8],
-    has_reference: bool,
-    reference: &'a [u8],
-    contig: &[u8],
-    scratch: &mut [u64],
-    figure: &mut usize,
-) -> usize
-    ensures { ExportedLooks
-        (texts_of cohort.now clipped clip.now has_reference reference.now)
-        contig.now scratch.old scratch.new result figure.new }
-{
-    let looked = search_looks::looks(
-        cohort,
-        clipped,
-        clip,
-        has_reference,
-        reference,
-        contig,
-        scratch,
-    );
-    give(looked, figure)
-}
-
 // How many pairs were looked up and how many record groups were read, or why none were, as three numbers.
-fn give_lookup(answer: Result<LookedUp, Refusal>, pairs: &mut usize, groups: &mut u32) -> usize
+pub fn give_lookup(answer: Result<LookedUp, Refusal>, pairs: &mut usize, groups: &mut u32) -> usize
     ensures { lookup_numbers answer ≡ answer_lookup result pairs.new groups.new }
 {
     match answer {
@@ -108,80 +189,8 @@ fn give_lookup(answer: Result<LookedUp, Refusal>, pairs: &mut usize, groups: &mu
     }
 }
 
-// For each pair of `asked`, groups of `contig` and `pos` in list order, the number of the record of a combined list whose stretch holds it,
-// counted from 0, or 4294967295 for none; how many pairs there are; and how many record groups were read, front to back, up to the last pair.
-pub fn wintabol_look_up(
-    list: &[u8],
-    asked: &[u8],
-    out: &mut [u32],
-    pairs: &mut usize,
-    groups: &mut u32,
-) -> usize
-    ensures { ExportedLookUp
-        (look_up_within list.now asked.now (length out.old))
-        out.old out.new result pairs.new groups.new }
-{
-    let answer = position_lookup::look_up(list, asked, out);
-    give_lookup(answer, pairs, groups)
-}
-
-// The called list of a combined list.
-pub fn wintabol_call(list: &[u8], out: &mut [u8], written: &mut usize) -> usize
-    ensures { Exported
-        (called_list list.now (length out.old))
-        out.old out.new result written.new }
-{
-    let outcome = genotype_gvcfs::call(list, out);
-    give(outcome, written)
-}
-
-// The alleles of a comma list, REF first, without their common ending.
-pub fn wintabol_reverse_trim_alleles(alleles: &[u8], out: &mut [u8], written: &mut usize) -> usize
-    ensures { Exported
-        (trimmed_alleles alleles.now (length out.old))
-        out.old out.new result written.new }
-{
-    let outcome = reverse_trim::reverse_trim_alleles(alleles, out);
-    give(outcome, written)
-}
-
-// GQ of a list of PLs.
-pub fn wintabol_gq_phred_from_pl(pl: &[u32]) -> u32
-    ensures { result ≡ gq_from_pl pl.now }
-{
-    genotyping::gq_phred_from_pl(pl)
-}
-
-// The log10 likelihoods of PLs.
-pub fn wintabol_log10_likelihoods_from_pl(pl: &[u32], out: &mut [f64], written: &mut usize) -> usize
-    ensures answered { Exported
-        (within (length out.old) (map log10_from_pl pl.now))
-        out.old out.new result written.new }
-    ensures near { NearTenths pl.now written.new out.new }
-{
-    let outcome = likelihoods::log10_likelihoods_from_pl(pl, out);
-    give(outcome, written)
-}
-
-// Likelihoods over the alleles of a keep list.
-pub fn wintabol_subset_log10_genotype_likelihoods(
-    gl: &[f64],
-    alleles: usize,
-    keep: &[usize],
-    out: &mut [f64],
-    written: &mut usize,
-) -> usize
-    ensures answered { Exported
-        (likelihood_subset gl.now alleles keep.now (length out.old))
-        out.old out.new result written.new }
-    ensures none_above { none_above written.new out.new ≡ true }
-{
-    let outcome = allele_subsetting_pl::subset_log10_genotype_likelihoods(gl, alleles, keep, out);
-    give(outcome, written)
-}
-
 // An outcome with three outputs as four numbers.
-fn give_alts(
+pub fn give_alts(
     outcome: Result<UnusedAlts, Refusal>,
     alts: &mut usize,
     gl: &mut usize,
@@ -203,31 +212,4 @@ fn give_alts(
             refusal.row()
         }
     }
-}
-
-// A record without the ALTs that the GT does not name.
-pub fn wintabol_subset_unused_alts(
-    alts: &[u8],
-    gt: &[usize],
-    gl: &[f64],
-    ad: &[u32],
-    alts_out: &mut [u8],
-    gl_out: &mut [f64],
-    ad_out: &mut [u32],
-    alts_written: &mut usize,
-    gl_written: &mut usize,
-    ad_written: &mut usize,
-) -> usize
-    ensures answered { ExportedAlts
-        (unused_alt_subset_within alts.now gt.now gl.now ad.now
-        (length alts_out.old) (length gl_out.old) (length ad_out.old))
-        (outputs alts_out.old gl_out.old ad_out.old)
-        (outputs alts_out.new gl_out.new ad_out.new)
-        result alts_written.new gl_written.new ad_written.new }
-    ensures none_above { subset_none_above alts.now gt.now gl_written.new gl_out.new ≡ true }
-{
-    let outcome = allele_subsetting_pl::subset_unused_alts_after_merged_genotyping(
-        alts, gt, gl, ad, alts_out, gl_out, ad_out,
-    );
-    give_alts(outcome, alts_written, gl_written, ad_written)
 }

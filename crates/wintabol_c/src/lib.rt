@@ -1,5 +1,6 @@
 // The library as C programs link it: each function of `wintabol`, exported under its name and by the C calling convention. A slice crosses as a
-// pointer and a number of elements; include/wintabol.h declares the functions.
+// pointer and a number of elements, and an answer as numbers, as C has no `Result`; include/wintabol.h declares the functions. Each function
+// that writes answers the number of the row that refuses the call, 0 for none, and stores how many values it wrote.
 #![tactic(auto)]
 
 ghost use Rattle.std.specs.Prelude.{true, map, ◌≡◌, length};
@@ -31,7 +32,7 @@ pub extern "C" fn wintabol_combine<'a>(
         (texts_of cohort.now clipped clip.now has_reference reference.now)
         scratch.old scratch.new out.old out.new result written.new }
 {
-    wintabol::wintabol_combine(
+    let outcome = wintabol::wintabol_combine(
         cohort,
         clipped,
         clip,
@@ -39,8 +40,8 @@ pub extern "C" fn wintabol_combine<'a>(
         reference,
         scratch,
         out,
-        written,
-    )
+    );
+    wintabol::give(outcome, written)
 }
 
 // For planning, how many sites the search along a contig looks at, for the texts of `wintabol_combine`. The figure is 0 for a contig that no
@@ -60,7 +61,7 @@ pub extern "C" fn wintabol_looks<'a>(
         (texts_of cohort.now clipped clip.now has_reference reference.now)
         contig.now scratch.old scratch.new result figure.new }
 {
-    wintabol::wintabol_looks(
+    let looked = wintabol::wintabol_looks(
         cohort,
         clipped,
         clip,
@@ -68,8 +69,8 @@ pub extern "C" fn wintabol_looks<'a>(
         reference,
         contig,
         scratch,
-        figure,
-    )
+    );
+    wintabol::give(looked, figure)
 }
 
 // For each pair of `asked`, groups of `contig` and `pos` in list order, the number of the record of a combined list whose stretch holds it,
@@ -86,7 +87,8 @@ pub extern "C" fn wintabol_look_up(
         (look_up_within list.now asked.now (length out.old))
         out.old out.new result pairs.new groups.new }
 {
-    wintabol::wintabol_look_up(list, asked, out, pairs, groups)
+    let answer = wintabol::wintabol_look_up(list, asked, out);
+    wintabol::give_lookup(answer, pairs, groups)
 }
 
 // The called list of a combined list.
@@ -96,7 +98,8 @@ pub extern "C" fn wintabol_call(list: &[u8], out: &mut [u8], written: &mut usize
         (called_list list.now (length out.old))
         out.old out.new result written.new }
 {
-    wintabol::wintabol_call(list, out, written)
+    let outcome = wintabol::wintabol_call(list, out);
+    wintabol::give(outcome, written)
 }
 
 // The alleles of a comma list, REF first, without their common ending.
@@ -110,7 +113,8 @@ pub extern "C" fn wintabol_reverse_trim_alleles(
         (trimmed_alleles alleles.now (length out.old))
         out.old out.new result written.new }
 {
-    wintabol::wintabol_reverse_trim_alleles(alleles, out, written)
+    let outcome = wintabol::wintabol_reverse_trim_alleles(alleles, out);
+    wintabol::give(outcome, written)
 }
 
 // GQ of a list of PLs.
@@ -133,7 +137,8 @@ pub extern "C" fn wintabol_log10_likelihoods_from_pl(
         out.old out.new result written.new }
     ensures near { NearTenths pl.now written.new out.new }
 {
-    wintabol::wintabol_log10_likelihoods_from_pl(pl, out, written)
+    let outcome = wintabol::wintabol_log10_likelihoods_from_pl(pl, out);
+    wintabol::give(outcome, written)
 }
 
 // Likelihoods over the alleles of a keep list.
@@ -150,7 +155,8 @@ pub extern "C" fn wintabol_subset_log10_genotype_likelihoods(
         out.old out.new result written.new }
     ensures none_above { none_above written.new out.new ≡ true }
 {
-    wintabol::wintabol_subset_log10_genotype_likelihoods(gl, alleles, keep, out, written)
+    let outcome = wintabol::wintabol_subset_log10_genotype_likelihoods(gl, alleles, keep, out);
+    wintabol::give(outcome, written)
 }
 
 // A record without the ALTs that the GT does not name.
@@ -175,16 +181,6 @@ pub extern "C" fn wintabol_subset_unused_alts(
         result alts_written.new gl_written.new ad_written.new }
     ensures none_above { subset_none_above alts.now gt.now gl_written.new gl_out.new ≡ true }
 {
-    wintabol::wintabol_subset_unused_alts(
-        alts,
-        gt,
-        gl,
-        ad,
-        alts_out,
-        gl_out,
-        ad_out,
-        alts_written,
-        gl_written,
-        ad_written,
-    )
+    let outcome = wintabol::wintabol_subset_unused_alts(alts, gt, gl, ad, alts_out, gl_out, ad_out);
+    wintabol::give_alts(outcome, alts_written, gl_written, ad_written)
 }

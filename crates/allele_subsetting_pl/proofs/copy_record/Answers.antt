@@ -1,10 +1,18 @@
 -- By whether there is room.
+use Prim.Native.Nat.{◌≤◌}
 use borrow.Author.Rules.{rules}
-use mathlib.Core.Path.{◌∙◌, sym}
-use mathlib.Core.Path.{refl}
+use lib.ListN.{drop, length}
+use lib.Seq.{sets, sets-eq}
+use mathlib.Core.List.{List, ◌++◌}
+use native.Mathlib.Omega.{arith}
+use mathlib.Core.Path.{◌∙◌, ◌≡◌, refl, sym}
 use Rattle.allele_subsetting_pl.proofs.UnusedAltSubsets.{answered_refused, answered_written, room_of, with_room_lem, without_room}
 use Rattle.allele_subsetting_pl.specs.UnusedAlts.{outputs, whole_record}
 use Rattle.allele_subsetting_pl.proofs.copy_record.Goals as goal
+
+-- a list copied to the front of an output
+copied : {A : Type 0} (out values : List A) {part : List A} → length values ≤ length out → part ≡ values → part ++ drop (length values) out ≡ sets out 0 values
+copied out values room e = rw e (sym (sets-eq values out 0 (omega arith)))
 
 pub returns-then-not-has_room : goal.returns-then-not-has_room
 returns-then-not-has_room c = let whole = whole_record c.args.alts.now c.args.gl.now c.args.ad.now in
@@ -12,4 +20,13 @@ returns-then-not-has_room c = let whole = whole_record c.args.alts.now c.args.gl
     answered_refused (without_room whole out (sym c.has_room.ensures ∙ c.if-not-has_room.true) refl)
 
 pub returns : goal.returns
-returns c = ?
+returns c = let whole = whole_record c.args.alts.now c.args.gl.now c.args.ad.now in
+    let out = outputs c.args.alts_out.now c.args.gl_out.now c.args.ad_out.now in
+    let fits = sym c.has_room.ensures ∙ c.if-not-has_room.false in
+    let room = room_of whole out fits in
+    answered_written (with_room_lem whole out fits refl) refl refl refl room
+    (record {
+      alts = copied out.alts whole.alts room.alts c.copy_from_slice.ensures.after;
+      likelihoods = copied out.likelihoods whole.likelihoods room.likelihoods c.copy_from_slice-2.ensures.after;
+      ad = copied out.ad whole.ad room.ad c.copy_from_slice-3.ensures.after;
+    })

@@ -1,5 +1,5 @@
 -- The first ALT, then in each turn a comma and an ALT: the ALTs from a place on are left, each behind a comma.
-use Prim.Native.Nat.{◌+◌, ◌<◌, ◌^◌, ℕ}
+use Prim.Native.Nat.{◌+◌, ◌<◌, ◌^◌, suc, ℕ}
 use borrow.Author.Rules.{rules}
 use borrow.Author.Tests.{ltb-true}
 use lib.Dec.{ltb}
@@ -41,28 +41,38 @@ unfolding behind comma
 comma_laid alts ns i h p l = one p (recast (each_next comma (alt_with alts) ns 0 i h) l)
 
 pub returns-in_default : goal.returns-in_default
-returns-in_default c = ?
+returns-in_default c = rw (none-laid c.args.alts.now _ c.in_default.ensures.cases) laid_none
 
 pub overflow_cast-first : goal.overflow_cast-first
-overflow_cast-first c = ?
+overflow_cast-first c = let small : c.in-Some.first.now < 16 = below c.requires c.in-Some.ensures.cases.0 0 (omega arith) in omega arith
 
 pub put_alt-next-requires : goal.put_alt-next-requires
-put_alt-next-requires c = ?
+put_alt-next-requires c = rw c.new.ensures (fits_first _ (alt_with c.args.alts.now _) _ (counted c.requires c.in-Some.ensures.cases.0))
 
 pub loop-number-init : goal.loop-number-init
-loop-number-init c = ?
+loop-number-init c = start (fits_rest _ (rw c.new.ensures at c.put_alt-next.ensures) (counted c.requires c.in-Some.ensures.cases.0))
 
 pub put_byte-next-requires : goal.put_byte-next-requires
-put_byte-next-requires c = ?
+unfolding behind
+put_byte-next-requires c =
+    omega (arith, (recast (each_next comma (alt_with c.args.alts.now) _ 0 _ c.loop-number-test.true) c.loop-number.invariant).fits)
 
 pub overflow_cast-number : goal.overflow_cast-number
-overflow_cast-number c = ?
+overflow_cast-number c =
+    let small : get_or c.in-Some.rest.now c.loop-number.number-index 0 < 16
+    = below c.requires c.in-Some.ensures.cases.0 (suc c.loop-number.number-index) (omega (arith, c.loop-number-test.true)) in
+    omega arith
 
 pub put_alt-next-requires-in-loop-number : goal.put_alt-next-requires-in-loop-number
-put_alt-next-requires-in-loop-number c = ?
+put_alt-next-requires-in-loop-number c = rw c.new-in-loop-number.ensures (room (alt_with c.args.alts.now _) _
+    (comma_laid c.args.alts.now _ _ c.loop-number-test.true c.put_byte-next.ensures c.loop-number.invariant))
 
 pub loop-number-preserved : goal.loop-number-preserved
-loop-number-preserved c = ?
+loop-number-preserved c = several (rw c.new-in-loop-number.ensures at c.put_alt-next-in-loop-number.ensures)
+    (comma_laid c.args.alts.now _ _ c.loop-number-test.true c.put_byte-next.ensures c.loop-number.invariant)
 
 pub returns : goal.returns
-returns c = ?
+unfolding behind
+returns c = rw c.in-Some.ensures.cases.0 (rw (first_then c.args.alts.now c.in-Some.first.now c.in-Some.rest.now)
+    (laid_append (rw c.new.ensures at c.put_alt-next.ensures)
+    (done (recast (each_end comma (alt_with c.args.alts.now) _ _ c.loop-number-test.false) c.loop-number.invariant))))

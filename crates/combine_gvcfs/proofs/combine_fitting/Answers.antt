@@ -4,11 +4,15 @@ use Rattle.combine_gvcfs.proofs.Loading.{tried_again}
 use Rattle.combine_gvcfs.specs.Combined.{TriedWith}
 use Rattle.combine_gvcfs.proofs.combine_fitting.Goals as goal
 
-pub returns-in-Done : goal.returns-in-Done
+pub returns-in-Ok : goal.returns-in-Ok
 unfolding TriedWith
-returns-in-Done c = rw (c.in-Done.is) at (c.combine_small-tried.ensures)
+returns-in-Ok c = rw c.in-Ok.is at c.combine_small-tried.ensures
 
-pub returns-in-NoRoom : goal.returns-in-NoRoom
+pub returns-in-Err-Refused : goal.returns-in-Err-Refused
 unfolding TriedWith
-returns-in-NoRoom c = let no_room = rw c.in-NoRoom.is at c.combine_small-tried.ensures in
+returns-in-Err-Refused c = rw c.in-Err-Refused.is at c.combine_small-tried.ensures
+
+pub returns-in-Err-NoRoom : goal.returns-in-Err-NoRoom
+unfolding TriedWith
+returns-in-Err-NoRoom c = let no_room = rw c.in-Err-NoRoom.is at c.combine_small-tried.ensures in
     tried_again c.combine_small-tried.auto.scratch no_room.0 c.combine_long.ensures

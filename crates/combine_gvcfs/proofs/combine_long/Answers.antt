@@ -8,11 +8,15 @@ use Rattle.combine_gvcfs.proofs.combine_long.Goals as goal
 pub combine_with-tried-requires : goal.combine_with-tried-requires
 combine_with-tried-requires c = (c.requires, long_fit refl refl refl refl refl)
 
-pub returns-in-Done : goal.returns-in-Done
+pub returns-in-Ok : goal.returns-in-Ok
 unfolding TriedWith
-returns-in-Done c = rw c.in-Done.is at c.combine_with-tried.ensures
+returns-in-Ok c = rw c.in-Ok.is at c.combine_with-tried.ensures
 
-pub returns-in-NoRoom : goal.returns-in-NoRoom
+pub returns-in-Err-Refused : goal.returns-in-Err-Refused
 unfolding TriedWith
-returns-in-NoRoom c = let no_room = rw c.in-NoRoom.is at c.combine_with-tried.ensures in
+returns-in-Err-Refused c = rw c.in-Err-Refused.is at c.combine_with-tried.ensures
+
+pub returns-in-Err-NoRoom : goal.returns-in-Err-NoRoom
+unfolding TriedWith
+returns-in-Err-NoRoom c = let no_room = rw c.in-Err-NoRoom.is at c.combine_with-tried.ensures in
     full_table _ refl no_room.1

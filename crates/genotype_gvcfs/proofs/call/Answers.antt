@@ -12,23 +12,23 @@ returns-then-list-gt16777216 c = answered_refused (too_long_lem _ _ c.if-list-gt
 
 pub call_samples-requires : goal.call_samples-requires
 unfolding Header
-call_samples-requires c = let h = rw (c.in-Samples.is) at c.read_samples-header.ensures in
+call_samples-requires c = let h = rw (c.in-Ok.is) at c.read_samples.ensures in
     record {
       short = short_enough _ c.if-list-gt16777216.false;
       value = h.value;
       behind = h.behind;
       few = h.few;
-      in_table = omega (arith, h.few, c.read_samples-header.auto.names);
+      in_table = omega (arith, h.few, c.read_samples.auto.names);
     }
 
-pub returns-in-NoRoom : goal.returns-in-NoRoom
+pub returns-in-Err-NoRoom : goal.returns-in-Err-NoRoom
 unfolding Header
-returns-in-NoRoom c = let h = rw (c.in-NoRoom.is) at c.read_samples-header.ensures in absurd (omega (arith, h.no_room))
+returns-in-Err-NoRoom c = let h = rw (c.in-Err-NoRoom.is) at c.read_samples.ensures in absurd (omega (arith, h.no_room))
 
-pub returns-in-Refused : goal.returns-in-Refused
+pub returns-in-Err-Refused : goal.returns-in-Err-Refused
 unfolding Header
-returns-in-Refused c = let h = rw (c.in-Refused.is) at c.read_samples-header.ensures in
+returns-in-Err-Refused c = let h = rw (c.in-Err-Refused.is) at c.read_samples.ensures in
     answered_refused (header_refused _ _ (short_enough _ c.if-list-gt16777216.false) h.value) refl
 
-pub returns-in-Samples : goal.returns-in-Samples
-returns-in-Samples c = c.call_samples.ensures
+pub returns-in-Ok : goal.returns-in-Ok
+returns-in-Ok c = c.call_samples.ensures

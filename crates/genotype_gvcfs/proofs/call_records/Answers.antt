@@ -9,10 +9,12 @@ pub genotype_gvcf_records-measured-requires : goal.genotype_gvcf_records-measure
 genotype_gvcf_records-measured-requires c = measuring c.requires _ (omega arith)
 
 pub write_measured-requires : goal.write_measured-requires
-write_measured-requires c = measurement c.requires _ (omega arith) _ _ _ c.genotype_gvcf_records-measured.ensures (c.genotype_gvcf_records-measured.auto.rows) (omega (arith, c.well_formed.1.1.1.0)) c.in-To.is
+write_measured-requires c = measurement c.requires _ (omega arith) _ _ _ c.genotype_gvcf_records-measured.auto.rows (omega (arith, c.well_formed.1.1.1.0))
+    c.in_ok-measured.ensures
 
-pub returns-in-Refused : goal.returns-in-Refused
-returns-in-Refused c = answered_refused (list_refused c.requires _ (omega arith) _ _ _ c.genotype_gvcf_records-measured.ensures _ c.in-Refused.is) (nothing_left (c.genotype_gvcf_records-measured.new.out) _ (c.genotype_gvcf_records-measured.auto.out))
+pub returns-in_err-measured : goal.returns-in_err-measured
+returns-in_err-measured c = ?
 
-pub returns-in-To : goal.returns-in-To
-returns-in-To c = list_answered c.requires _ (omega arith) _ _ _ c.genotype_gvcf_records-measured.ensures _ _ _ _ (c.genotype_gvcf_records-measured.auto.rows) (omega (arith, c.well_formed.1.1.1.0)) c.in-To.is (nothing_left (c.genotype_gvcf_records-measured.new.out) _ (c.genotype_gvcf_records-measured.auto.out)) c.write_measured.ensures
+pub returns : goal.returns
+returns c = list_answered c.requires _ (omega arith) _ _ _ _ _ _ _ c.genotype_gvcf_records-measured.auto.rows (omega (arith, c.well_formed.1.1.1.0))
+    c.in_ok-measured.ensures (nothing_left c.genotype_gvcf_records-measured.new.out _ c.genotype_gvcf_records-measured.auto.out) c.write_measured.ensures

@@ -11,16 +11,16 @@ use Rattle.genotype_gvcfs.proofs.call_samples.Goals as goal
 
 pub overflow_add-end : goal.overflow_add-end
 unfolding LineReads
-overflow_add-end c = let l = rw (c.in-Found.is) at c.number_line-line.ensures in omega (arith, l.within)
+overflow_add-end c = let l = rw (c.in-Some.is) at c.number_line.ensures in omega (arith, l.within)
 
 pub call_records-requires : goal.call_records-requires
 call_records-requires c = header_names c.requires
 
-pub returns-in-Wrong : goal.returns-in-Wrong
+pub returns-in_default : goal.returns-in_default
 unfolding key_of text
-returns-in-Wrong c = answered_refused (records_unread _ _ c.requires (rw (c.in-Wrong.is) at c.number_line-line.ensures)) refl
+returns-in_default c = answered_refused (records_unread _ _ c.requires (rw (c.in_default.is) at c.number_line.ensures)) refl
 
-pub returns-in-Found : goal.returns-in-Found
+pub returns-in-Some : goal.returns-in-Some
 unfolding key_of text LineReads
-returns-in-Found c = let l = rw (c.in-Found.is) at c.number_line-line.ensures in rw (called_is _ _ c.requires l)
+returns-in-Some c = let l = rw (c.in-Some.is) at c.number_line.ensures in rw (called_is _ _ c.requires l)
     c.call_records.ensures

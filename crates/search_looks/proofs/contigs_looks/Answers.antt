@@ -5,8 +5,8 @@ use Rattle.combined_list.proofs.WrittenList.{measuring}
 use Rattle.search_looks.proofs.Figure.{sites_ready, walk_accepted, walk_refused}
 use Rattle.search_looks.proofs.contigs_looks.Goals as goal
 
-pub walk_contigs-measured-requires : goal.walk_contigs-measured-requires
-walk_contigs-measured-requires c = (
+pub walk_contigs-requires : goal.walk_contigs-requires
+walk_contigs-requires c = (
   measuring c.requires.0.list,
   record {
     for_chosen = c.requires.1;
@@ -18,12 +18,12 @@ walk_contigs-measured-requires c = (
 pub asked_looks-requires : goal.asked_looks-requires
 asked_looks-requires c = (
   sites_ready c.requires.0,
-  omega (arith, c.requires.1, c.walk_contigs-measured.auto.chosen),
-  omega (arith, c.requires.2, c.walk_contigs-measured.auto.scratch),
+  omega (arith, c.requires.1, c.walk_contigs.auto.chosen),
+  omega (arith, c.requires.2, c.walk_contigs.auto.scratch),
 )
 
-pub returns-in-Refused : goal.returns-in-Refused
-returns-in-Refused c = λ ready. walk_refused ready _ _ c.walk_contigs-measured.ensures c.in-Refused.is
+pub returns-in_err-walk_contigs : goal.returns-in_err-walk_contigs
+returns-in_err-walk_contigs c = ?
 
-pub returns-in-To : goal.returns-in-To
-returns-in-To c = λ ready. walk_accepted ready _ _ c.walk_contigs-measured.ensures c.in-To.is c.asked_looks.ensures
+pub returns : goal.returns
+returns c = ?

@@ -1,6 +1,0 @@
--- The answer of the entry as three numbers.
-use Rattle.wintabol.proofs.Exported.{exported_look_up}
-use Rattle.wintabol.proofs.wintabol_look_up.Goals as goal
-
-pub returns : goal.returns
-returns c = exported_look_up _ _ _ _ _ _ _ _ c.look_up-answer.ensures c.give_lookup.ensures
