@@ -283,9 +283,9 @@ cohort_unread s clipped clip referenced reference names₀ names rows₀ rows No
 pub tried_longer : (texts : Texts) (scratch : ℕ) (out out' : List ℕ) (places more : ℕ) (r : Result ℕ LoadError) → more < max_sites * 22
     → TriedWith texts scratch out out' places r → TriedWith texts scratch out out' more r
 unfolding TriedWith
-tried_longer texts scratch out out' places more (Ok written) fit t = t
-tried_longer texts scratch out out' places more (Err (Refused refusal)) fit t = t
-tried_longer texts scratch out out' places more (Err NoRoom) fit t = (t.0, fit)
+tried_longer t scratch out out' places more (Ok written) fit tried = tried
+tried_longer t scratch out out' places more (Err (Refused refusal)) fit tried = tried
+tried_longer t scratch out out' places more (Err NoRoom) fit tried = (tried.0, fit)
 
 -- texts that are not read into the tables are refused, or the tables have no room
 pub not_loaded : (s : List ℕ) (clipped : Bool) (clip : List ℕ) (referenced : Bool) (reference names rows : List ℕ) (places scratch : ℕ) (out : List ℕ)

@@ -77,7 +77,10 @@ fn read_clip_and_reference(
     requires { CohortHeld s.now names.now rows.old size.samples size.sites clipped clip.now referenced reference.now }
     ensures { ReadTo s.now clipped clip.now referenced reference.now names.now rows.new (length rows.old) result }
 {
-    if !clip_in_order(clipped, clip) || !reference_in_order(referenced, reference) {
+    if !clip_in_order(clipped, clip) {
+        return Err(LoadError::Refused(Refusal::ClipOrReference));
+    }
+    if !reference_in_order(referenced, reference) {
         return Err(LoadError::Refused(Refusal::ClipOrReference));
     }
     index_reference(referenced, reference, rows);

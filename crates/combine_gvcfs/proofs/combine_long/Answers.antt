@@ -10,13 +10,13 @@ combine_with-tried-requires c = (c.requires, long_fit refl refl refl refl refl)
 
 pub returns-in-Ok : goal.returns-in-Ok
 unfolding TriedWith
-returns-in-Ok c = rw c.in-Ok.is at c.combine_with-tried.ensures
+returns-in-Ok c = c.in-Ok.ensures
 
 pub returns-in-Err-Refused : goal.returns-in-Err-Refused
 unfolding TriedWith
-returns-in-Err-Refused c = rw c.in-Err-Refused.is at c.combine_with-tried.ensures
+returns-in-Err-Refused c = rw c.in-Err-Refused.field-0-is at c.in-Err-Refused.ensures
 
 pub returns-in-Err-NoRoom : goal.returns-in-Err-NoRoom
 unfolding TriedWith
-returns-in-Err-NoRoom c = let no_room = rw c.in-Err-NoRoom.is at c.combine_with-tried.ensures in
+returns-in-Err-NoRoom c = let no_room = rw c.in-Err-NoRoom.field-0-is at c.in-Err-NoRoom.ensures in
     full_table _ refl no_room.1

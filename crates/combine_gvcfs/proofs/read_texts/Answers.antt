@@ -8,11 +8,13 @@ use Rattle.combine_gvcfs.specs.Combined.{ReadTo}
 use Rattle.combine_gvcfs.proofs.read_texts.Goals as goal
 
 pub returns-in_err-size : goal.returns-in_err-size
-returns-in_err-size c = ?
+returns-in_err-size c = let p = err_from_is_err_and c.from_residual.result c.from_residual.ensures.1 in
+    rw (p.1, p.2) (cohort_unread _ _ _ _ _ _ _ _ _ _ c.requires.0 c.requires.1.for_names c.in_err-size.ensures.tables)
 
 pub read_clip_and_reference-requires : goal.read_clip_and_reference-requires
 unfolding CohortAt
-read_clip_and_reference-requires c = ?
+read_clip_and_reference-requires c = cohort_held _ _ _ _ _ c.requires.0 (omega (arith, c.requires.1.for_names, c.read_cohort.auto.names))
+    c.read_cohort.auto.rows c.requires.1.whole c.in_ok-size.ensures.tables
 
 pub returns : goal.returns
-returns c = ?
+returns c = rw c.read_cohort.auto.rows at c.read_clip_and_reference.ensures

@@ -12,7 +12,7 @@ returns-then-list-gt16777216 c = answered_refused (too_long_lem _ _ c.if-list-gt
 
 pub call_samples-requires : goal.call_samples-requires
 unfolding Header
-call_samples-requires c = let h = rw (c.in-Ok.is) at c.read_samples.ensures in
+call_samples-requires c = let h = rw c.in-Ok.is at c.read_samples.ensures in
     record {
       short = short_enough _ c.if-list-gt16777216.false;
       value = h.value;
@@ -23,11 +23,11 @@ call_samples-requires c = let h = rw (c.in-Ok.is) at c.read_samples.ensures in
 
 pub returns-in-Err-NoRoom : goal.returns-in-Err-NoRoom
 unfolding Header
-returns-in-Err-NoRoom c = let h = rw (c.in-Err-NoRoom.is) at c.read_samples.ensures in absurd (omega (arith, h.no_room))
+returns-in-Err-NoRoom c = let h = rw c.in-Err-NoRoom.field-0-is at c.in-Err-NoRoom.ensures in absurd (omega (arith, h.no_room))
 
 pub returns-in-Err-Refused : goal.returns-in-Err-Refused
 unfolding Header
-returns-in-Err-Refused c = let h = rw (c.in-Err-Refused.is) at c.read_samples.ensures in
+returns-in-Err-Refused c = let h = rw c.in-Err-Refused.field-0-is at c.in-Err-Refused.ensures in
     answered_refused (header_refused _ _ (short_enough _ c.if-list-gt16777216.false) h.value) refl
 
 pub returns-in-Ok : goal.returns-in-Ok

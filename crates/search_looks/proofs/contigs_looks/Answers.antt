@@ -1,6 +1,7 @@
 -- All contigs are walked over; then the figure of the one that is asked for.
 use borrow.Author.Rules.{rules}
 use native.Mathlib.Omega.{arith}
+use Rattle.std.proofs.lemmas.Result.{err_from_is_err_and}
 use Rattle.combined_list.proofs.WrittenList.{measuring}
 use Rattle.search_looks.proofs.Figure.{sites_ready, walk_accepted, walk_refused}
 use Rattle.search_looks.proofs.contigs_looks.Goals as goal
@@ -23,7 +24,9 @@ asked_looks-requires c = (
 )
 
 pub returns-in_err-walk_contigs : goal.returns-in_err-walk_contigs
-returns-in_err-walk_contigs c = ?
+returns-in_err-walk_contigs c = λ ready.
+    let p = err_from_is_err_and c.from_residual.result c.from_residual.ensures.1 in
+    rw (p.1, p.2) (walk_refused ready _ _ c.in_err-walk_contigs.ensures)
 
 pub returns : goal.returns
-returns c = ?
+returns c = λ ready. walk_accepted ready _ _ c.in_ok-walk_contigs.ensures c.asked_looks.ensures

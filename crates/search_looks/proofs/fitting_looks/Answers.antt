@@ -13,19 +13,17 @@ read_texts-read-requires c = (c.requires, record { for_names = omega arith; whol
 
 pub loaded_looks-requires : goal.loaded_looks-requires
 unfolding ReadTo
-loaded_looks-requires c = let loaded = rw c.in-Ok.is at c.read_texts-read.ensures in
-    let few = loaded.few_sites in
-    (tables_ready loaded, record { for_order = omega arith; for_firsts = omega arith; for_chosen = omega arith })
+loaded_looks-requires c = let few = c.in-Ok.ensures.few_sites in
+    (tables_ready c.in-Ok.ensures, record { for_order = omega arith; for_firsts = omega arith; for_chosen = omega arith })
 
 pub returns-in-Err-NoRoom : goal.returns-in-Err-NoRoom
 unfolding ReadTo
-returns-in-Err-NoRoom c = full_table _ refl (rw c.in-Err-NoRoom.is at c.read_texts-read.ensures)
+returns-in-Err-NoRoom c = full_table _ refl (rw c.in-Err-NoRoom.field-0-is at c.in-Err-NoRoom.ensures)
 
 pub returns-in-Err-Refused : goal.returns-in-Err-Refused
 unfolding ReadTo
-returns-in-Err-Refused c = texts_refused _ _ _ (rw c.in-Err-Refused.is at c.read_texts-read.ensures)
+returns-in-Err-Refused c = texts_refused _ _ _ (rw c.in-Err-Refused.field-0-is at c.in-Err-Refused.ensures)
 
 pub returns-in-Ok : goal.returns-in-Ok
 unfolding ReadTo
-returns-in-Ok c = let loaded = rw c.in-Ok.is at c.read_texts-read.ensures in
-    loaded_answered loaded _ _ c.loaded_looks.result c.loaded_looks.ensures
+returns-in-Ok c = loaded_answered c.in-Ok.ensures _ _ c.loaded_looks.result c.loaded_looks.ensures
