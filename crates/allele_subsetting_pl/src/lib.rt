@@ -138,7 +138,7 @@ pub fn subset_log10_genotype_likelihoods(
 fn alt_count(alts: &[u8]) -> usize
     ensures { result ≡ length (alt_fields alts.now) }
 {
-    if alts.is_empty() {
+    if alts.len() == 0 {
         return 0;
     }
     kv_text::count_fields(alts, b',')

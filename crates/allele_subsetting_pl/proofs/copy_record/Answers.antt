@@ -2,17 +2,17 @@
 use Prim.Native.Nat.{◌≤◌}
 use borrow.Author.Rules.{rules}
 use lib.ListN.{drop, length}
-use lib.Seq.{sets, sets-eq}
+use lib.Seq.{sets}
 use mathlib.Core.List.{List, ◌++◌}
-use native.Mathlib.Omega.{arith}
 use mathlib.Core.Path.{◌∙◌, ◌≡◌, refl, sym}
 use Rattle.allele_subsetting_pl.proofs.UnusedAltSubsets.{answered_refused, answered_written, room_of, with_room_lem, without_room}
 use Rattle.allele_subsetting_pl.specs.UnusedAlts.{outputs, whole_record}
+use Rattle.kv_write.proofs.Laying.{sets_front}
 use Rattle.allele_subsetting_pl.proofs.copy_record.Goals as goal
 
 -- a list copied to the front of an output
 copied : {A : Type 0} (out values : List A) {part : List A} → length values ≤ length out → part ≡ values → part ++ drop (length values) out ≡ sets out 0 values
-copied out values room e = rw e (sym (sets-eq values out 0 (omega arith)))
+copied out values room e = rw e (sym (sets_front out values room))
 
 pub returns-then-not-has_room : goal.returns-then-not-has_room
 returns-then-not-has_room c = let whole = whole_record c.args.alts.now c.args.gl.now c.args.ad.now in

@@ -27,7 +27,7 @@ loop-place-preserved c = let keep = c.args.map.now in
     (omega (arith, c.num_genotype_likelihoods-count.ensures)) in
     next_stored (picked_at keep gl) (genotype_pairs n) no_pair (omega
     (arith, c.num_genotype_likelihoods-count.ensures, genotype_pairs_length n))
-    (c.mapped_likelihood-x.ensures ∙ there) c.put_value.ensures c.loop-place.invariant
+    (c.mapped_likelihood-x.ensures ∙ there) c.store.ensures c.loop-place.invariant
 
 pub shape_of-picked : goal.shape_of-picked
 shape_of-picked c = unstored_length c.loop-place.invariant
