@@ -39,7 +39,8 @@ pub fn among_alleles(allele: &[u8], list: &[u8]) -> bool
         .any(|other| kv_text::same_letters(allele, other))
 }
 
-// Whether no two fields of a list have the same letters. Each is compared with those behind it.
+// Whether no two fields of a list have the same letters. Each is compared with those behind it, so it goes by offsets: `split` does not tell
+// what is left.
 pub fn distinct_fields(list: &[u8]) -> bool
     ensures { result ≡ all_distinct same_letters (fields_of comma list.now) }
 {
@@ -66,7 +67,8 @@ fn is_allele(field: &[u8], most: usize) -> bool
 fn are_alleles(list: &[u8], most: usize) -> bool
     ensures { result ≡ all_of (λ f. is_there (allele_of most f)) (fields_of comma list.now) }
 {
-    list.split(|b| *b == b',').all(|field| is_allele(field, most))
+    list.split(|b| *b == b',')
+        .all(|field| is_allele(field, most))
 }
 
 // How many alleles a REF and its ALTs are, and whether `<NON_REF>` is there.

@@ -49,7 +49,7 @@ pub fn not_after(
 }
 
 // How many pairs a text has; or why it is refused: row 1 or 18. The first pair is compared with the empty name at 0, after which every pair
-// stands.
+// stands. A pair says where the next begins.
 pub fn count_pairs(s: &[u8]) -> Result<usize, Refusal>
     ensures { PlacesRead s.now result }
 {

@@ -43,7 +43,8 @@ pub fn span_at(s: &[u8], at: usize) -> Option<ClipGroup>
     Some(ClipGroup { contig, loc, next })
 }
 
-// Whether every group of clip.kv is in order.
+// Whether every group of clip.kv is in order. A group says where the next begins. `check_reference` is its twin: one function of both would
+// take a closure, and a contract about what it may answer, in place of this loop.
 pub fn check_clip(s: &[u8]) -> bool
     ensures { result ≡ is_accepted (optional_groups span_of (some s.now)) }
 {

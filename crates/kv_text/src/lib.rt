@@ -59,7 +59,7 @@ pub fn field_end(s: &[u8], at: usize, separator: u8) -> usize
     }
 }
 
-// The field with this number, from 0, of a text.
+// The field with this number, from 0, of a text. It is found by offsets, since the answer is where it stands, which `split` does not tell.
 pub fn field_at(s: &[u8], separator: u8, number: usize) -> Option<Part>
     ensures { FieldFound s.now separator number result }
 {
@@ -107,6 +107,7 @@ fn is_field_end(s: &[u8], at: usize) -> bool
 }
 
 // The number in the field at an offset of a list, and where the field ends: decimal digits, 0 to 2147483647, with no leading zero.
+// The loop counts, since where it stops is answered.
 fn read_digits(s: &[u8], at: usize) -> Option<(u32, usize)>
     ensures { digits_read result s.now at }
 {
@@ -153,6 +154,7 @@ pub fn read_number(s: &[u8]) -> Option<u32>
 }
 
 // The numbers of a list with commas, as many as fit, into a slice, and how many they are; at a fault, those before it.
+// It goes by offsets: `split` would look for each comma before the digits are read, and so go over the bytes twice.
 pub fn read_numbers(s: &[u8], out: &mut [u32]) -> Option<usize>
     ensures { numbers_read result s.now × (out.new ≡ sets out.old 0 (first_numbers (fields_of comma s.now))) }
 {

@@ -1,6 +1,5 @@
 -- The two numbers are stored behind the rows.
 use Prim.Native.Nat.{◌≤◌}
-use borrow.Author.Rules.{rules}
 use lib.ListN.{length, length-set}
 use native.Mathlib.Omega.{arith}
 use Rattle.indexed_groups.proofs.Storing.{no_segments_given, segments_given}

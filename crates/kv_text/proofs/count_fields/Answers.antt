@@ -13,5 +13,5 @@ pub returns : goal.returns
 returns c =
     count_from_yields_List c.split.result c.count.result c.count.ensures.ran
     (YieldsList-from_slice_split _ (λ b. eqb b c.args.separator) c.args.s.now c.split.ensures.rest c.split.ensures.done
-     c.split.ensures.closure (λ x b q k. search (rules, tests)))
+    c.split.ensures.closure (λ x b q k. search (rules, tests)))
     ∙ ap length (fields_split c.args.separator c.args.s.now)
