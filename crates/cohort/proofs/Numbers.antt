@@ -94,7 +94,7 @@ module _ {samples : ℕ} {s : List ℕ} {at₀ : ℕ} {rows₀ rows : List ℕ} 
   after_long = length-sets rows (count * 22) (row_of p contig a v block)
 
   site_is : site_at s after count ≡ site_from s p a v
-  site_is = site_here s rows count p contig a v block fits to.dp_small
+  site_is = site_here s rows count p contig a v block fits to.small
 
   ad_same : SameRows s after with_ad (count * 22 + 22)
   unfolding site_at

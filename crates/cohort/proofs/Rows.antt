@@ -1,5 +1,6 @@
 -- A row stored behind the others: the table then has one site more.
 use Prim.Native.Nat.{◌*◌, ◌+◌, ◌<◌, ◌≤◌, suc, ℕ}
+use borrow.Author.Tests.{le-leb}
 use lib.Dec.{eqb}
 use lib.ListN.{drop, get_or, length, length-map}
 use lib.Seq.{drop-drop, sets}
@@ -10,16 +11,20 @@ use mathlib.Core.Option.{Option, none, some}
 use mathlib.Core.Path.{◌∙◌, ◌≡◌, ap, refl, sym}
 use native.Mathlib.Decide.{ℕ_discrete}
 use native.Mathlib.Omega.{arith}
+use Rattle.std.specs.Prelude as std
+use Rattle.answers.specs.Options.{option_of}
 use Rattle.definitions.specs.Alleles.{is_block}
 use Rattle.definitions.specs.Bytes.{same_bytes}
 use Rattle.definitions.specs.Cohort.{Site}
-use Rattle.definitions.specs.Lists.{index_where, numbers_from}
-use Rattle.definitions.specs.Numbers.{number_list}
+use Rattle.definitions.specs.Lists.{index_where, numbers_from, only_if}
+use Rattle.definitions.specs.Numbers.{max_number, number_list}
 use Rattle.kv_text.specs.Fields.{between}
 use Rattle.laws.proofs.Bytes.{same_refl}
+use Rattle.laws.proofs.Decimals.{InRange}
+use Rattle.laws.proofs.Every.{IfThere}
 use Rattle.laws.proofs.Members.{length_numbers}
 use Rattle.laws.proofs.Tests.{not_none}
-use Rattle.site_groups.specs.SiteGroups.{site_from}
+use Rattle.site_groups.specs.SiteGroups.{ValuesSmall, site_from}
 use Rattle.site_groups.specs.declared.SiteAlleles.{SiteAlleles}
 use Rattle.site_groups.specs.declared.SitePlace.{SitePlace}
 use Rattle.site_groups.specs.declared.SiteValues.{SiteValues}
@@ -29,7 +34,7 @@ use Rattle.tables.proofs.Stored.{drop_sets, get_before, get_here, map_same, one_
 use Rattle.tables.proofs.StoredLists.{first_half, second_half}
 use Rattle.tables.specs.Tables.{SiteRows, code_option, column, depth_at, dp_at, half_at, is_stored, min_dp_at, numbers_at, part_at, site_at}
 use Rattle.cohort.proofs.Contigs.{names_length}
-use Rattle.cohort.specs.Cohort.{ContigsNumbered, contig_names, first_on, row_of, sites_in}
+use Rattle.cohort.specs.Cohort.{ContigsNumbered, code_of, contig_names, first_on, row_of, sites_in}
 
 -- ---- index_where
 
@@ -55,6 +60,19 @@ module _ {A : Type 0} (p : A → Bool) where
       go true o q = refl
       go false none q = rw q
       go false (some k) q = rw q
+
+-- ---- a number that may be missing
+
+-- its number in a row stands for it, and is below 2^32
+code_back : (n : std.Option ℕ) → IfThere InRange (option_of n) → code_option (code_of n) ≡ option_of n
+unfolding code_option only_if max_number
+code_back std.None h = refl
+code_back (std.Some n) h = rw (le-leb n 2147483647 h)
+
+code_small : (n : std.Option ℕ) → IfThere InRange (option_of n) → code_of n < 4294967296
+unfolding max_number
+code_small std.None h = omega arith
+code_small (std.Some n) h = omega arith
 
 -- ---- a row
 
@@ -135,20 +153,23 @@ module _ (s rows : List ℕ) (count : ℕ) (p : SitePlace) (contig : ℕ) (a : S
       ∙ rw (part_here (k + 1) (k + 2) (omega arith) h)
 
   -- DP and MIN_DP share a column
-  depths_here : v.dp < 4294967296 → (dp_at after count ≡ code_option v.dp) × (min_dp_at after count ≡ code_option v.mindp)
+  depths_here : ValuesSmall v → (dp_at after count ≡ option_of v.dp) × (min_dp_at after count ≡ option_of v.mindp)
   unfolding depth_at
   depths_here small = (
-    ap code_option (ap (half_at 0) (here 6 (omega arith)) ∙ first_half v.dp v.mindp small),
-    ap code_option (ap (half_at 1) (here 6 (omega arith)) ∙ second_half v.dp v.mindp small),
+    ap code_option (ap (half_at 0) (here 6 (omega arith)) ∙ first_half (code_of v.dp) (code_of v.mindp) (code_small v.dp small.dp))
+        ∙ code_back v.dp small.dp,
+    ap code_option (ap (half_at 1) (here 6 (omega arith)) ∙ second_half (code_of v.dp) (code_of v.mindp) (code_small v.dp small.dp))
+        ∙ code_back v.mindp small.mindp,
   )
 
-  pub site_here : v.dp < 4294967296 → site_at s after count ≡ site_from s p a v
+  pub site_here : ValuesSmall v → site_at s after count ≡ site_from s p a v
   unfolding site_at
   site_here small = rw (
     here 0 (omega arith),
     here 2 (omega arith),
     here 3 (omega arith),
     here 5 (omega arith),
+    code_back v.gq small.gq,
     (depths_here small).0,
     (depths_here small).1,
     part_here 7 8 (omega arith) (omega arith),
@@ -158,7 +179,7 @@ module _ (s rows : List ℕ) (count : ℕ) (p : SitePlace) (contig : ℕ) (a : S
     list_here 16 10 (omega arith) refl,
   )
 
-  pub sites_more : v.dp < 4294967296 → sites_in s after (count + 1) ≡ sites_in s rows count ++ (site_from s p a v ∷ [])
+  pub sites_more : ValuesSmall v → sites_in s after (count + 1) ≡ sites_in s rows count ++ (site_from s p a v ∷ [])
   unfolding sites_in
   sites_more small = one_more (site_at s after) count
       ∙ rw (map_same (site_at s after) (site_at s rows) 0 count (λ i h. site_before rows row count refl room s i (omega arith)), site_here small)
@@ -169,7 +190,7 @@ module _ (s rows : List ℕ) (count : ℕ) (p : SitePlace) (contig : ℕ) (a : S
       ∙ rw (map_same (part_at 7 8 s after) (part_at 7 8 s rows) 0 count
       (λ i h. part_before rows row count refl room s 7 8 i (omega arith) (omega arith) (omega arith)))
 
-  module _ (small : v.dp < 4294967296) (numbered : Numbered s rows count) (first : contig ≡ first_on s rows count (between s p.contig.at p.contig.end))
+  module _ (small : ValuesSmall v) (numbered : Numbered s rows count) (first : contig ≡ first_on s rows count (between s p.contig.at p.contig.end))
       (is_Block : block ≡ is_block (site_from s p a v).alleles) where
     contigs_more : ContigsNumbered s after (count + 1)
     contigs_more site h = rw names_more (go (ℕ_discrete site count))

@@ -8,6 +8,10 @@ use mathlib.Core.List.{List, [], ◌++◌, ◌∷◌, reverse, reverse-append, r
 use mathlib.Core.Path.{◌∙◌, ◌≡◌, ap, refl, sym}
 use native.Mathlib.Nat.{zero-add}
 use native.Mathlib.Omega.{arith}
+use Rattle.std.specs.Prelude as std
+use Rattle.answers.specs.Answered as answered
+use Rattle.answers.specs.declared.LoadError.TheVariants as load
+use Rattle.answers.specs.declared.Refusal.{Refusal}
 use Rattle.definitions.specs.Checked.{Checked, accepted, read_each, refused}
 use Rattle.definitions.specs.Cohort.{Site, checked_site, site_lines, site_of}
 use Rattle.definitions.specs.Lines.{lines_of}
@@ -22,7 +26,6 @@ use Rattle.site_groups.specs.declared.SiteValues.{SiteValues}
 use Rattle.cohort.proofs.FirstGroups.{none_left, some_accepted, some_refused}
 use Rattle.cohort.proofs.Rows.{Numbered, numbered_more, numbered_none, numbered_rows, rest_more, sites_count, sites_more}
 use Rattle.cohort.specs.Cohort.{SitesAnswered, SitesRead, first_on, first_sites, row_of, sites_answer, sites_from, sites_in}
-use Rattle.cohort.specs.declared.SitesAt.TheVariants as sites
 
 -- an accepted site had fewer than 4,096 before it
 pub few_before : (s : List ℕ) (at samples before : ℕ) {x : Site} → site_group_of s at samples before ≡ accepted x → before < 4096
@@ -83,21 +86,23 @@ module _ (samples : ℕ) (s : List ℕ) (at₀ : ℕ) (rows₀ : List ℕ) where
         (some_refused 11 (omega arith) (site_of names) (reverse (sites_in s rows count)) s next row m more (same_group rows next count names n ∙ e))
         ∙ continued_refused (reverse (sites_in s rows count)) row
 
-    pub site_refused : (row : ℕ) → site_group_of s next samples count ≡ refused row → SitesRead samples s at₀ rows₀ rows (sites.Refused row)
+    pub site_refused : (r : Refusal) → site_group_of s next samples count ≡ refused (answered.row_of r)
+        → SitesRead samples s at₀ rows₀ rows (std.Err (load.Refused r))
     unfolding SitesRead
-    site_refused row e names n =
+    site_refused r e names n =
         all_groups names s at₀ (count + suc (length (groups_of site_lines (lines_of (drop at₀ s))))) (omega arith)
-        ∙ first_refused row e names n (length (groups_of site_lines (lines_of (drop at₀ s))))
+        ∙ first_refused (answered.row_of r) e names n (length (groups_of site_lines (lines_of (drop at₀ s))))
 
-    pub refused_answer : (row : ℕ) → site_group_of s next samples count ≡ refused row → SitesAnswered samples s at₀ (length rows₀) (sites.Refused row)
+    pub refused_answer : (r : Refusal) → site_group_of s next samples count ≡ refused (answered.row_of r)
+        → SitesAnswered samples s at₀ (length rows₀) (std.Err (load.Refused r))
     unfolding sites_answer
-    refused_answer row e names n =
+    refused_answer r e names n =
         let within = rows_within (length rows₀) count inv.room in
         let there : suc (length rows₀ / 22) ≡ count + suc (length rows₀ / 22 - count) = omega arith in
-        rw (there, first_refused row e names n (length rows₀ / 22 - count))
+        rw (there, first_refused (answered.row_of r) e names n (length rows₀ / 22 - count))
 
     pub no_row : {x : Site} → site_group_of s next samples count ≡ accepted x → length rows < count * 22 + 22
-        → SitesRead samples s at₀ rows₀ rows sites.NoRoom
+        → SitesRead samples s at₀ rows₀ rows (std.Err load.NoRoom)
     unfolding SitesRead
     no_row e short = omega (arith, few_before s next samples count e, inv.long)
 
@@ -114,7 +119,7 @@ module _ (samples : ℕ) (s : List ℕ) (at₀ : ℕ) (rows₀ : List ℕ) where
           ∙ inv.whole names n (suc m))
 
       -- a site that reads has no row
-      pub no_row_answer : length rows < count * 22 + 22 → SitesAnswered samples s at₀ (length rows₀) sites.NoRoom
+      pub no_row_answer : length rows < count * 22 + 22 → SitesAnswered samples s at₀ (length rows₀) (std.Err load.NoRoom)
       unfolding sites_answer read_each
       no_row_answer short names n =
           let within = rows_within (length rows₀) count inv.room in
@@ -133,13 +138,13 @@ module _ (samples : ℕ) (s : List ℕ) (at₀ : ℕ) (rows₀ : List ℕ) where
             → Reading after v.next (count + 1)
         site_read after same e = record {
           long = same ∙ inv.long;
-          numbered = rw e (numbered_more s rows count p contig a v block fits to.dp_small inv.numbered first to.is_block_lem);
+          numbered = rw e (numbered_more s rows count p contig a v block fits to.small inv.numbered first to.is_block_lem);
           few = omega (arith, few_before s next samples count to.value);
           room = omega (arith, inv.long);
           rest = rw e (rest_more rows (row_of p contig a v block) count refl fits rows₀ inv.rest);
           whole = λ names n m.
               let there : count + 1 + m ≡ count + suc m = omega arith in
-              rw (e, sites_more s rows count p contig a v block fits to.dp_small, there) (first_accepted names n m);
+              rw (e, sites_more s rows count p contig a v block fits to.small, there) (first_accepted names n m);
         }
 
   module _ (rows : List ℕ) (next count : ℕ) (inv : Reading rows next count) (past : length s ≤ next) where
@@ -152,7 +157,7 @@ module _ (samples : ℕ) (s : List ℕ) (at₀ : ℕ) (rows₀ : List ℕ) where
         ∙ continued_end (reverse (sites_in s rows count))
         ∙ ap {B = Checked (List Site)} accepted (reverse-reverse (sites_in s rows count))
 
-    pub sites_end : SitesRead samples s at₀ rows₀ rows (sites.Sites count)
+    pub sites_end : SitesRead samples s at₀ rows₀ rows (std.Ok count)
     unfolding SitesRead
     sites_end = record {
       value = λ names n.
@@ -164,7 +169,7 @@ module _ (samples : ℕ) (s : List ℕ) (at₀ : ℕ) (rows₀ : List ℕ) where
       rest = inv.rest;
     }
 
-    pub sites_answer_lem : SitesAnswered samples s at₀ (length rows₀) (sites.Sites count)
+    pub sites_answer_lem : SitesAnswered samples s at₀ (length rows₀) (std.Ok count)
     unfolding sites_answer
     sites_answer_lem names n =
         let within = rows_within (length rows₀) count inv.room in

@@ -8,6 +8,9 @@ use mathlib.Core.List.{List, [], ◌∷◌}
 use mathlib.Core.Option.{Option, none, some}
 use mathlib.Core.Path.{◌∙◌, ◌≡◌, refl, sym}
 use native.Mathlib.Omega.{arith}
+use Rattle.std.specs.Prelude as std
+use Rattle.answers.specs.declared.Refusal.{Refusal}
+use Rattle.answers.specs.declared.Refusal.TheVariants as refusal
 use Rattle.alleles.specs.Alleles.{AllelesRight}
 use Rattle.definitions.specs.Alleles.{capital, has_non_ref, is_block, only_non_ref, ref_alts_of}
 use Rattle.definitions.specs.Bytes.{comma, fields_of}
@@ -21,16 +24,13 @@ use Rattle.laws.proofs.Tests.{bool_ext}
 use Rattle.site_groups.specs.SiteGroups.{bytes_of}
 use Rattle.laws.proofs.AllelesAsRead.{allele_as_read, ref_alts_as_read}
 use Rattle.list_reader.specs.RecordGroups.{PreviousOf, Ready, RecordChecked, RecordFound, TextTo, alleles_at, alts_at, comes_after_last, end_option, record_from, record_group, right_counts}
-use Rattle.list_reader.specs.declared.Previous.{Previous}
-use Rattle.list_reader.specs.declared.Previous.TheVariants.{Last, None}
-use Rattle.list_reader.specs.declared.RecordAt.TheVariants as found
-use Rattle.list_reader.specs.declared.RecordCheck.TheVariants as check
+use Rattle.list_reader.specs.declared.PreviousRecord.{PreviousRecord}
 use Rattle.list_reader.specs.declared.RecordHead.{RecordHead}
 use Rattle.list_reader.specs.declared.SamplesRead.{SamplesRead}
 
 -- ---- the rows
 
-module _ {s : List ℕ} {h : RecordHead} {last : Previous} {fit : Bool} {at samples records : ℕ} {before : List Record} {sample_data : List SampleData}
+module _ {s : List ℕ} {h : RecordHead} {last : std.Option PreviousRecord} {fit : Bool} {at samples records : ℕ} {before : List Record} {sample_data : List SampleData}
     (r : Ready s h last fit at samples records before sample_data) where
   abbrev answer : Checked Record
   answer = record_read samples records before (record_group s at samples)
@@ -79,11 +79,11 @@ module _ {s : List ℕ} {h : RecordHead} {last : Previous} {fit : Bool} {at samp
 
 -- ---- the tests of the code as those of the definitions
 
-pub came_after : (s : List ℕ) (before : List Record) (last : Previous) (contig : List ℕ) (pos : ℕ) → PreviousOf s before last
+pub came_after : (s : List ℕ) (before : List Record) (last : std.Option PreviousRecord) (contig : List ℕ) (pos : ℕ) → PreviousOf s before last
     → comes_after before contig pos ≡ comes_after_last s last contig pos
 unfolding PreviousOf comes_after record_end
-came_after s before None contig pos e = rw e
-came_after s before (Last part end) contig pos e = rw (e.nearest, e.on, e.to)
+came_after s before std.None contig pos e = rw e
+came_after s before (std.Some p) contig pos e = rw (e.nearest, e.on, e.to)
 
 -- a block by the numbers of alleles and of letters
 module _ (ref alt : List ℕ) (n : ℕ) (number : n ≡ suc (length (fields_of comma alt))) (has : has_non_ref (ref_alts_as_read ref (fields_of comma alt)) ≡ true) where
@@ -113,13 +113,13 @@ all_same p q e (x ∷ l) = rw (e x, all_same p q e l)
 
 -- ---- the tests of the code, one after the other
 
-module _ (s : List ℕ) (h : RecordHead) (last : Previous) (fit : Bool) where
-  pub position_0 : h.pos.0 < 1 → RecordChecked s h last fit (check.Refused 4)
+module _ (s : List ℕ) (h : RecordHead) (last : std.Option PreviousRecord) (fit : Bool) where
+  pub position_0 : h.pos.0 < 1 → RecordChecked s h last fit (std.Err refusal.Position)
   unfolding RecordChecked
   position_0 l at samples records before sample_data r = row_4 r (rw (lt-leb 1 h.pos.0 l))
 
   module _ (positive : 1 ≤ h.pos.0) where
-    pub end_not_past : missing_or (ltb h.pos.0) (end_option h.end) ≡ false → RecordChecked s h last fit (check.Refused 4)
+    pub end_not_past : missing_or (ltb h.pos.0) (end_option h.end) ≡ false → RecordChecked s h last fit (std.Err refusal.Position)
     unfolding RecordChecked
     end_not_past f at samples records before sample_data r = row_4 r (rw (le-leb 1 h.pos.0 positive, f))
 
@@ -129,18 +129,18 @@ module _ (s : List ℕ) (h : RecordHead) (last : Previous) (fit : Bool) where
       order b f {before = before} r =
           rw (le-leb 1 h.pos.0 positive, past, came_after s before last (bytes_of s h.contig) h.pos.0 r.previous) f
 
-      pub too_early : comes_after_last s last (bytes_of s h.contig) h.pos.0 ≡ false → RecordChecked s h last fit (check.Refused 4)
+      pub too_early : comes_after_last s last (bytes_of s h.contig) h.pos.0 ≡ false → RecordChecked s h last fit (std.Err refusal.Position)
       unfolding RecordChecked
       too_early f at samples records before sample_data r = row_4 r (order false f r)
 
       module _ (after : comes_after_last s last (bytes_of s h.contig) h.pos.0 ≡ true) where
         pub allele_faulty : ref_alts_of 255 16 (bytes_of s h.alleles.refs) (bytes_of s h.alleles.alts) ≡ none
-            → RecordChecked s h last fit (check.Refused 5)
+            → RecordChecked s h last fit (std.Err refusal.Alleles)
         unfolding RecordChecked
         allele_faulty f at samples records before sample_data r = row_5 r (order true after r) f
 
         module _ (n : ℕ) (has : Bool) (right : AllelesRight 255 16 (bytes_of s h.alleles.refs) (bytes_of s h.alleles.alts) n has) where
-          pub no_non_ref : has ≡ false → RecordChecked s h last fit (check.Refused 6)
+          pub no_non_ref : has ≡ false → RecordChecked s h last fit (std.Err refusal.NonRefAbsent)
           unfolding RecordChecked
           no_non_ref f at samples records before sample_data r = row_6 r (order true after r) right.right (sym right.has ∙ f)
 
@@ -154,7 +154,7 @@ module _ (s : List ℕ) (h : RecordHead) (last : Previous) (fit : Bool) where
             end_test : end_allowed (alleles_at s h.alleles) (end_option h.end) ≡ ended
             end_test = allowed _ _ n right.number has_it (end_option h.end)
 
-            pub end_wrong : ended ≡ false → RecordChecked s h last fit (check.Refused 7)
+            pub end_wrong : ended ≡ false → RecordChecked s h last fit (std.Err refusal.End)
             unfolding RecordChecked
             end_wrong f at samples records before sample_data r = row_7 r (order true after r) right.right has_it (end_test ∙ f)
 
@@ -168,12 +168,12 @@ module _ (s : List ℕ) (h : RecordHead) (last : Previous) (fit : Bool) where
                       let few : alts_at s h.alleles < 16 = omega (arith, right.number, right.few) in
                       unfold right_counts in rw (lt-ltb (alts_at s h.alleles) 16 few)
 
-              pub counts_wrong : fit ≡ false → RecordChecked s h last fit (check.Refused 8)
+              pub counts_wrong : fit ≡ false → RecordChecked s h last fit (std.Err refusal.Counts)
               unfolding RecordChecked
               counts_wrong f at samples records before sample_data r =
                   row_8 r (order true after r) right.right has_it (end_test ∙ ends) (counts sample_data r.counted ∙ f)
 
-              pub record_right : fit ≡ true → RecordChecked s h last fit (check.Right n)
+              pub record_right : fit ≡ true → RecordChecked s h last fit (std.Ok n)
               unfolding RecordChecked
               record_right f = record {
                 value = λ at samples records before sample_data r.
@@ -185,16 +185,16 @@ module _ (s : List ℕ) (h : RecordHead) (last : Previous) (fit : Bool) where
 -- ---- the lines and the checks together
 
 module _ {s : List ℕ} {at samples : ℕ} {rows₀ rows : List ℕ} {h : RecordHead} {r : SamplesRead} (t : TextTo s at samples rows₀ rows h r)
-    (last : Previous) where
+    (last : std.Option PreviousRecord) where
   ready : (records : ℕ) (before : List Record) → length before < records → PreviousOf s before last
       → Ready s h last r.fit at samples records before t.sample_data
   ready records before more previous = record { lines = t.lines; counted = t.fit; more = more; previous = previous }
 
-  pub record_refused : (row : ℕ) → RecordChecked s h last r.fit (check.Refused row) → RecordFound s at samples last rows₀ rows (found.Refused row)
+  pub record_refused : (e : Refusal) → RecordChecked s h last r.fit (std.Err e) → RecordFound s at samples last rows₀ rows (std.Err e)
   unfolding RecordChecked RecordFound
-  record_refused row c records before more previous = c at samples records before t.sample_data (ready records before more previous)
+  record_refused e c records before more previous = c at samples records before t.sample_data (ready records before more previous)
 
-  pub record_found : (n : ℕ) → RecordChecked s h last r.fit (check.Right n) → RecordFound s at samples last rows₀ rows (found.Record (record {
+  pub record_found : (n : ℕ) → RecordChecked s h last r.fit (std.Ok n) → RecordFound s at samples last rows₀ rows (std.Ok (record {
     contig = h.contig;
     pos = h.pos;
     end = h.end;

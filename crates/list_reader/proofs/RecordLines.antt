@@ -6,6 +6,8 @@ use mathlib.Core.List.{List, []}
 use mathlib.Core.Option.{Option, get_or, none, some}
 use mathlib.Core.Path.{◌≡◌, refl}
 use native.Mathlib.Omega.{arith}
+use Rattle.std.specs.Prelude as std
+use Rattle.answers.specs.Options.{option_of}
 use Rattle.bio_ids.specs.declared.GenomePosition.{GenomePosition}
 use Rattle.definitions.specs.Checked.{Checked, ◌>>=◌, ◌>>◌, or_refuse, refused, require}
 use Rattle.definitions.specs.Genotypes.{AllelePair}
@@ -16,12 +18,12 @@ use Rattle.kv_text.proofs.Groups.{behind_next, behind_start, line_read, line_unr
 use Rattle.kv_text.proofs.Lines.{line_within}
 use Rattle.kv_text.specs.Fields.{between}
 use Rattle.kv_text.specs.Lines.{Behind, LineReads, read_to, unread}
+use Rattle.kv_text.specs.declared.Part.{Part}
 use Rattle.laws.proofs.Checked.{then, then_refused}
-use Rattle.tables.specs.Tables.{code_option}
+use Rattle.site_groups.proofs.SiteLines.{is_small}
+use Rattle.site_groups.specs.SiteGroups.{Counted, bytes_of, numbers_of}
+use Rattle.site_groups.specs.declared.NumbersPart.{NumbersPart}
 use Rattle.list_reader.specs.RecordGroups.{HeadRead, SampleRead, end_option}
-use Rattle.list_reader.specs.declared.OptionalPosition.{OptionalPosition}
-use Rattle.list_reader.specs.declared.HeadAt.TheVariants as head
-use Rattle.list_reader.specs.declared.SampleAt.TheVariants as sample
 
 -- so many lines behind an offset, counted in another way
 pub behind_same : {s : List ℕ} {first k m at : ℕ} → Behind s first k at → k ≡ m → Behind s first m at
@@ -44,7 +46,7 @@ unless_1 false r h = refl
 -- ---- a sample's lines
 
 module _ (s : List ℕ) (at alts : ℕ) where
-  pub gt_wrong : LineReads s at (key_of "gt") (or_missing (gt_of (suc alts))) unread → SampleRead s at alts sample.Wrong
+  pub gt_wrong : LineReads s at (key_of "gt") (or_missing (gt_of (suc alts))) unread → SampleRead s at alts std.None
   unfolding SampleRead sample_data_read record_lines sample_lines
   gt_wrong l first samples i h b = then_refused _ _ (line_unread b "gt" (or_missing (gt_of (suc alts))) (5 + 6 * samples) (omega arith) l)
 
@@ -52,59 +54,52 @@ module _ (s : List ℕ) (at alts : ℕ) where
     b₁ : (first k : ℕ) → Behind s first k at → Behind s first (k + 1) (e₀ + 1)
     b₁ first k b = behind_next b "gt" (or_missing (gt_of (suc alts))) g e₀ l₀
 
-    pub gq_wrong : LineReads s (e₀ + 1) (key_of "gq") (or_missing number) unread → SampleRead s at alts sample.Wrong
+    pub gq_wrong : LineReads s (e₀ + 1) (key_of "gq") (or_missing number) unread → SampleRead s at alts std.None
     unfolding SampleRead sample_data_read record_lines sample_lines line_at
     gq_wrong l first samples i h b =
         skip _ _ λ _. then_refused _ _ (line_unread (b₁ first _ b) "gq" (or_missing number) (5 + 6 * samples) (omega arith) l)
 
-    module _ (gq e₁ : ℕ) (l₁ : LineReads s (e₀ + 1) (key_of "gq") (or_missing number) (read_to (code_option gq) e₁)) where
+    module _ (gq : std.Option ℕ) (e₁ : ℕ) (l₁ : LineReads s (e₀ + 1) (key_of "gq") (or_missing number) (read_to (option_of gq) e₁)) where
       b₂ : (first k : ℕ) → Behind s first k at → Behind s first (k + 2) (e₁ + 1)
       b₂ first k b = behind_same (behind_next (b₁ first k b) "gq" (or_missing number) _ e₁ l₁) (omega arith)
 
-      pub dp_wrong : LineReads s (e₁ + 1) (key_of "dp") (or_missing number) unread → SampleRead s at alts sample.Wrong
+      pub dp_wrong : LineReads s (e₁ + 1) (key_of "dp") (or_missing number) unread → SampleRead s at alts std.None
       unfolding SampleRead sample_data_read record_lines sample_lines line_at
       dp_wrong l first samples i h b =
           skip _ _ λ _. skip _ _ λ _. then_refused _ _ (line_unread (b₂ first _ b) "dp" (or_missing number) (5 + 6 * samples) (omega arith) l)
 
-      module _ (dp e₂ : ℕ) (l₂ : LineReads s (e₁ + 1) (key_of "dp") (or_missing number) (read_to (code_option dp) e₂)) where
+      module _ (dp : std.Option ℕ) (e₂ : ℕ) (l₂ : LineReads s (e₁ + 1) (key_of "dp") (or_missing number) (read_to (option_of dp) e₂)) where
         b₃ : (first k : ℕ) → Behind s first k at → Behind s first (k + 3) (e₂ + 1)
         b₃ first k b = behind_same (behind_next (b₂ first k b) "dp" (or_missing number) _ e₂ l₂) (omega arith)
 
-        pub mindp_wrong : LineReads s (e₂ + 1) (key_of "mindp") (or_missing number) unread → SampleRead s at alts sample.Wrong
+        pub mindp_wrong : LineReads s (e₂ + 1) (key_of "mindp") (or_missing number) unread → SampleRead s at alts std.None
         unfolding SampleRead sample_data_read record_lines sample_lines line_at
         mindp_wrong l first samples i h b =
             skip _ _ λ _. skip _ _ λ _. skip _ _ λ _. then_refused _ _ (line_unread (b₃ first _ b) "mindp" (or_missing number) (5 + 6 * samples) (omega arith) l)
 
-        module _ (mindp e₃ : ℕ) (l₃ : LineReads s (e₂ + 1) (key_of "mindp") (or_missing number) (read_to (code_option mindp) e₃)) where
+        module _ (mindp : std.Option ℕ) (e₃ : ℕ) (l₃ : LineReads s (e₂ + 1) (key_of "mindp") (or_missing number) (read_to (option_of mindp) e₃)) where
           b₄ : (first k : ℕ) → Behind s first k at → Behind s first (k + 4) (e₃ + 1)
           b₄ first k b = behind_same (behind_next (b₃ first k b) "mindp" (or_missing number) _ e₃ l₃) (omega arith)
 
-          pub ad_wrong : LineReads s (e₃ + 1) (key_of "ad") (or_missing number_list) unread → SampleRead s at alts sample.Wrong
+          pub ad_wrong : LineReads s (e₃ + 1) (key_of "ad") (or_missing number_list) unread → SampleRead s at alts std.None
           unfolding SampleRead sample_data_read record_lines sample_lines line_at
           ad_wrong l first samples i h b =
               skip _ _ λ _. skip _ _ λ _. skip _ _ λ _. skip _ _ λ _. then_refused _ _ (line_unread (b₄ first _ b) "ad" (or_missing number_list) (5 + 6 * samples) (omega arith) l)
 
-          module _ (a₄ e₄ n₄ : ℕ) (l₄ : LineReads s (e₃ + 1) (key_of "ad") (or_missing number_list) (read_to (number_list (between s a₄ e₄)) e₄))
-              (count₄ : n₄ ≡ length (get_or (number_list (between s a₄ e₄)) [])) where
-            b₅ : (first k : ℕ) → Behind s first k at → Behind s first (k + 5) (e₄ + 1)
-            b₅ first k b = behind_same (behind_next (b₄ first k b) "ad" (or_missing number_list) _ e₄ l₄) (omega arith)
+          module _ (ad : NumbersPart) (l₄ : LineReads s (e₃ + 1) (key_of "ad") (or_missing number_list) (read_to (numbers_of s ad) ad.end))
+              (count₄ : Counted s ad) where
+            b₅ : (first k : ℕ) → Behind s first k at → Behind s first (k + 5) (ad.end + 1)
+            b₅ first k b = behind_same (behind_next (b₄ first k b) "ad" (or_missing number_list) _ ad.end l₄) (omega arith)
 
-            pub pl_wrong : LineReads s (e₄ + 1) (key_of "pl") (or_missing number_list) unread → SampleRead s at alts sample.Wrong
+            pub pl_wrong : LineReads s (ad.end + 1) (key_of "pl") (or_missing number_list) unread → SampleRead s at alts std.None
             unfolding SampleRead sample_data_read record_lines sample_lines line_at
             pl_wrong l first samples i h b =
                 skip _ _ λ _. skip _ _ λ _. skip _ _ λ _. skip _ _ λ _. skip _ _ λ _.
                 then_refused _ _ (line_unread (b₅ first _ b) "pl" (or_missing number_list) (5 + 6 * samples) (omega arith) l)
 
-            module _ (a₅ e₅ n₅ : ℕ) (l₅ : LineReads s (e₄ + 1) (key_of "pl") (or_missing number_list) (read_to (number_list (between s a₅ e₅)) e₅))
-                (count₅ : n₅ ≡ length (get_or (number_list (between s a₅ e₅)) [])) (small : dp < 4294967296) where
-              pub sample_read_lem : SampleRead s at alts (sample.Sample (record {
-                gq = gq;
-                dp = dp;
-                mindp = mindp;
-                ad = record { at = a₄; end = e₄; count = n₄ };
-                pl = record { at = a₅; end = e₅; count = n₅ };
-                next = e₅ + 1;
-              }))
+            module _ (pl : NumbersPart) (l₅ : LineReads s (ad.end + 1) (key_of "pl") (or_missing number_list) (read_to (numbers_of s pl) pl.end))
+                (count₅ : Counted s pl) where
+              pub sample_read_lem : SampleRead s at alts (std.Some (record { gq = gq; dp = dp; mindp = mindp; ad = ad; pl = pl; next = pl.end + 1 }))
               unfolding SampleRead sample_data_read record_lines sample_lines LineReads
               sample_read_lem = record {
                 gt = g;
@@ -114,78 +109,78 @@ module _ (s : List ℕ) (at alts : ℕ) where
                       (then _ _ (line_read (b₁ first _ b) "gq" (or_missing number) (5 + 6 * samples) (omega arith) _ e₁ l₁)
                       (then _ _ (line_read (b₂ first _ b) "dp" (or_missing number) (5 + 6 * samples) (omega arith) _ e₂ l₂)
                       (then _ _ (line_read (b₃ first _ b) "mindp" (or_missing number) (5 + 6 * samples) (omega arith) _ e₃ l₃)
-                      (then _ _ (line_read (b₄ first _ b) "ad" (or_missing number_list) (5 + 6 * samples) (omega arith) _ e₄ l₄)
-                      (then _ _ (line_read (b₅ first _ b) "pl" (or_missing number_list) (5 + 6 * samples) (omega arith) _ e₅ l₅) refl)))));
-                  behind = behind_same (behind_next (b₅ first _ b) "pl" (or_missing number_list) _ e₅ l₅) (omega arith);
+                      (then _ _ (line_read (b₄ first _ b) "ad" (or_missing number_list) (5 + 6 * samples) (omega arith) _ ad.end l₄)
+                      (then _ _ (line_read (b₅ first _ b) "pl" (or_missing number_list) (5 + 6 * samples) (omega arith) _ pl.end l₅) refl)))));
+                  behind = behind_same (behind_next (b₅ first _ b) "pl" (or_missing number_list) _ pl.end l₅) (omega arith);
                 };
-                dp_small = small;
+                small = record { gq = is_small _ _ _ _ _ l₁; dp = is_small _ _ _ _ _ l₂; mindp = is_small _ _ _ _ _ l₃ };
                 ad_count = count₄;
                 pl_count = count₅;
                 forward = omega (arith, l₀.forward, l₁.forward, l₂.forward, l₃.forward, l₄.forward, l₅.forward);
-                within = let h = line_within s (e₄ + 1) (key_of "pl") (or_missing number_list) _ e₅ l₅ in omega arith;
+                within = let h = line_within s (ad.end + 1) (key_of "pl") (or_missing number_list) _ pl.end l₅ in omega arith;
               }
 
 -- ---- the first five lines
 
 module _ (s : List ℕ) (at : ℕ) where
-  pub contig_wrong : LineReads s at (key_of "contig") name unread → HeadRead s at head.Wrong
+  pub contig_wrong : LineReads s at (key_of "contig") name unread → HeadRead s at std.None
   unfolding HeadRead record_read record_lines sample_lines
   contig_wrong l samples records before =
       unless_1 _ _ (then_refused _ _ (line_unread (behind_start s at) "contig" name (5 + 6 * samples) (omega arith) l))
 
-  module _ (a₀ e₀ : ℕ) (l₀ : LineReads s at (key_of "contig") name (read_to (between s a₀ e₀) e₀)) where
-    h₁ : Behind s at 1 (e₀ + 1)
-    h₁ = behind_next (behind_start s at) "contig" name _ e₀ l₀
+  module _ (contig : Part) (l₀ : LineReads s at (key_of "contig") name (read_to (bytes_of s contig) contig.end)) where
+    h₁ : Behind s at 1 (contig.end + 1)
+    h₁ = behind_next (behind_start s at) "contig" name _ contig.end l₀
 
-    pub pos_wrong : LineReads s (e₀ + 1) (key_of "pos") number unread → HeadRead s at head.Wrong
+    pub pos_wrong : LineReads s (contig.end + 1) (key_of "pos") number unread → HeadRead s at std.None
     unfolding HeadRead record_read record_lines sample_lines line_at
     pos_wrong l samples records before =
         unless_1 _ _ (skip _ _ λ _. then_refused _ _ (line_unread h₁ "pos" number (5 + 6 * samples) (omega arith) l))
 
-    module _ (pos e₁ : ℕ) (l₁ : LineReads s (e₀ + 1) (key_of "pos") number (read_to pos e₁)) where
+    module _ (pos e₁ : ℕ) (l₁ : LineReads s (contig.end + 1) (key_of "pos") number (read_to pos e₁)) where
       h₂ : Behind s at 2 (e₁ + 1)
       h₂ = behind_next h₁ "pos" number pos e₁ l₁
 
-      pub end_wrong : LineReads s (e₁ + 1) (key_of "end") (or_missing number) unread → HeadRead s at head.Wrong
+      pub end_wrong : LineReads s (e₁ + 1) (key_of "end") (or_missing number) unread → HeadRead s at std.None
       unfolding HeadRead record_read record_lines sample_lines line_at
       end_wrong l samples records before =
           unless_1 _ _ (skip _ _ λ _. skip _ _ λ _. then_refused _ _ (line_unread h₂ "end" (or_missing number) (5 + 6 * samples) (omega arith) l))
 
-      module _ (end : OptionalPosition) (e₂ : ℕ) (l₂ : LineReads s (e₁ + 1) (key_of "end") (or_missing number) (read_to (end_option end) e₂)) where
+      module _ (end : std.Option GenomePosition) (e₂ : ℕ) (l₂ : LineReads s (e₁ + 1) (key_of "end") (or_missing number) (read_to (end_option end) e₂)) where
         h₃ : Behind s at 3 (e₂ + 1)
         h₃ = behind_next h₂ "end" (or_missing number) _ e₂ l₂
 
-        pub ref_wrong : LineReads s (e₂ + 1) (key_of "ref") some unread → HeadRead s at head.Wrong
+        pub ref_wrong : LineReads s (e₂ + 1) (key_of "ref") some unread → HeadRead s at std.None
         unfolding HeadRead record_read record_lines sample_lines line_at
         ref_wrong l samples records before =
             unless_1 _ _ (skip _ _ λ _. skip _ _ λ _. skip _ _ λ _. then_refused _ _ (line_unread h₃ "ref" some (5 + 6 * samples) (omega arith) l))
 
-        module _ (a₃ e₃ : ℕ) (l₃ : LineReads s (e₂ + 1) (key_of "ref") some (read_to (between s a₃ e₃) e₃)) where
-          h₄ : Behind s at 4 (e₃ + 1)
-          h₄ = behind_next h₃ "ref" some _ e₃ l₃
+        module _ (refs : Part) (l₃ : LineReads s (e₂ + 1) (key_of "ref") some (read_to (bytes_of s refs) refs.end)) where
+          h₄ : Behind s at 4 (refs.end + 1)
+          h₄ = behind_next h₃ "ref" some _ refs.end l₃
 
-          pub alt_wrong : LineReads s (e₃ + 1) (key_of "alt") some unread → HeadRead s at head.Wrong
+          pub alt_wrong : LineReads s (refs.end + 1) (key_of "alt") some unread → HeadRead s at std.None
           unfolding HeadRead record_read record_lines sample_lines line_at
           alt_wrong l samples records before =
               unless_1 _ _ (skip _ _ λ _. skip _ _ λ _. skip _ _ λ _. skip _ _ λ _. then_refused _ _ (line_unread h₄ "alt" some (5 + 6 * samples) (omega arith) l))
 
-          module _ (a₄ e₄ : ℕ) (l₄ : LineReads s (e₃ + 1) (key_of "alt") some (read_to (between s a₄ e₄) e₄)) where
-            pub head_read : {first : GenomePosition} → first.0 ≡ pos → HeadRead s at (head.Head (record {
-              contig = record { at = a₀; end = e₀ };
+          module _ (alts : Part) (l₄ : LineReads s (refs.end + 1) (key_of "alt") some (read_to (bytes_of s alts) alts.end)) where
+            pub head_read : {first : GenomePosition} → first.0 ≡ pos → HeadRead s at (std.Some (record {
+              contig = contig;
               pos = first;
               end = end;
-              alleles = record { refs = record { at = a₃; end = e₃ }; alts = record { at = a₄; end = e₄ }; next = e₄ + 1 };
+              alleles = record { refs = refs; alts = alts; next = alts.end + 1 };
             }))
             unfolding HeadRead record_lines sample_lines LineReads
             head_read same = record {
               lines = λ samples. record {
-                contig = line_read (behind_start s at) "contig" name (5 + 6 * samples) (omega arith) _ e₀ l₀;
+                contig = line_read (behind_start s at) "contig" name (5 + 6 * samples) (omega arith) _ contig.end l₀;
                 pos = rw same (line_read h₁ "pos" number (5 + 6 * samples) (omega arith) _ e₁ l₁);
                 end = line_read h₂ "end" (or_missing number) (5 + 6 * samples) (omega arith) _ e₂ l₂;
-                ref = line_read h₃ "ref" some (5 + 6 * samples) (omega arith) _ e₃ l₃;
-                alt = line_read h₄ "alt" some (5 + 6 * samples) (omega arith) _ e₄ l₄;
+                ref = line_read h₃ "ref" some (5 + 6 * samples) (omega arith) _ refs.end l₃;
+                alt = line_read h₄ "alt" some (5 + 6 * samples) (omega arith) _ alts.end l₄;
               };
-              behind = behind_same (behind_next h₄ "alt" some _ e₄ l₄) (omega arith);
+              behind = behind_same (behind_next h₄ "alt" some _ alts.end l₄) (omega arith);
               forward = omega (arith, h₄.forward, l₄.forward);
-              within = let h = line_within s (e₃ + 1) (key_of "alt") some _ e₄ l₄ in omega arith;
+              within = let h = line_within s (refs.end + 1) (key_of "alt") some _ alts.end l₄ in omega arith;
             }

@@ -11,6 +11,7 @@ use mathlib.Core.Path.{◌∙◌, ◌≡◌, ap, refl, sym}
 use native.Mathlib.Nat.{sub-zero}
 use native.Mathlib.Numerals.{add-one}
 use native.Mathlib.Omega.{arith}
+use Rattle.std.specs.Prelude as std
 use Rattle.cohort.proofs.Rows.{rest_more, sites_more}
 use Rattle.cohort.specs.Cohort.{row_of, sites_in}
 use Rattle.definitions.specs.Alleles.{genotype_count}
@@ -34,7 +35,6 @@ use Rattle.tables.specs.Tables.{site_at}
 use Rattle.list_reader.proofs.RecordLines.{unless_1}
 use Rattle.list_reader.specs.RecordGroups.{HeadTo, Misspelled, SampleRead, SampleTo, TextTo, alts_at, group_lines, record_group, right_counts, sample_at, sample_from, without_gt}
 use Rattle.list_reader.specs.declared.RecordHead.{RecordHead}
-use Rattle.list_reader.specs.declared.SampleAt.TheVariants.{Wrong}
 
 -- ---- answers in order
 
@@ -181,7 +181,7 @@ module _ (s : List ℕ) (at samples : ℕ) (rows₀ : List ℕ) (h : RecordHead)
       one_less : samples - i ≡ suc (samples - (i + 1))
       one_less = omega arith
 
-      pub sample_wrong : HeadTo s at h → SampleRead s next alts Wrong → Misspelled s at samples
+      pub sample_wrong : HeadTo s at h → SampleRead s next alts std.None → Misspelled s at samples
       unfolding SampleRead record_read
       sample_wrong head w records before =
           let l = head.lines samples in
@@ -208,7 +208,7 @@ module _ (s : List ℕ) (at samples : ℕ) (rows₀ : List ℕ) (h : RecordHead)
                   map-append without_gt inv.sample_data (sample_from s to.gt v ∷ [])
                   ∙ ap (λ (l : List SampleData). l ++ (without_gt (sample_from s to.gt v) ∷ [])) inv.table
                   ∙ sym (map-append site_sample (sites_in s rows i) (site_from s p h.alleles v ∷ []))
-                  ∙ rw (e, sites_more s rows i p 0 h.alleles v false fits to.dp_small);
+                  ∙ rw (e, sites_more s rows i p 0 h.alleles v false fits to.small);
               rest = rw e (rest_more rows (row_of p 0 h.alleles v false) i refl fits rows₀ inv.rest);
               some_pl =
                   e₁ ∙ rw (any_more (λ (w : SampleData). is_there w.pl) inv.sample_data (sample_from s to.gt v), ← inv.some_pl, pl_there _ _ to.pl_count);

@@ -1,6 +1,7 @@
 -- Each table is cleared.
-use borrow.Author.Rules.{rules}
+use Rattle.definitions.specs.Answers.{scratch_after}
 use Rattle.cohort.proofs.clear_tables.Goals as goal
 
 pub returns : goal.returns
+unfolding scratch_after
 returns c = (c.clear-2.ensures, c.clear.ensures)

@@ -1,8 +1,6 @@
 -- No site before this one is on the contig.
 use Prim.Native.Nat.{◌-◌}
-use borrow.Author.Rules.{rules}
-use mathlib.Core.Path.{◌∙◌, sym}
-use Rattle.cohort.proofs.Contigs.{NoneBefore, found_here, none_next, none_on, none_start}
+use Rattle.cohort.proofs.Contigs.{NoneBefore}
 use Rattle.cohort.proofs.contig_number.Given as goal
 
 abbrev pub invariant-loop-site : goal.invariant-loop-site

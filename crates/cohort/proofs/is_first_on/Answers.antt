@@ -1,7 +1,5 @@
 -- By the site's contig number, then by the name.
-use borrow.Author.Rules.{rules}
 use borrow.Author.Tests.{eq-eqb, ne_eqb}
-use mathlib.Core.Path.{◌∙◌}
 use Rattle.cohort.proofs.is_first_on.Goals as goal
 
 pub returns-then-contig_of-site : goal.returns-then-contig_of-site

@@ -1,5 +1,4 @@
 -- AD, then PL.
-use borrow.Author.Rules.{rules}
 use Rattle.cohort.proofs.put_numbers.Goals as goal
 
 pub returns : goal.returns

@@ -1,6 +1,13 @@
 -- The row is laid out in an array and stored.
-use borrow.Author.Rules.{rules}
 use Rattle.cohort.proofs.put_site.Goals as goal
 
 pub returns : goal.returns
-returns c = rw (← c.flag.ensures, ← c.get.ensures, ← c.get-2.ensures, ← c.get-3.ensures) c.store_row.ensures
+returns c = rw (
+  ← c.flag.ensures,
+  ← c.get.ensures,
+  ← c.get-2.ensures,
+  ← c.get-3.ensures,
+  ← c.unwrap_or-gq.ensures,
+  ← c.unwrap_or-dp.ensures,
+  ← c.unwrap_or-mindp.ensures,
+) c.store_row.ensures

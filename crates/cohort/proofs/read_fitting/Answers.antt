@@ -1,7 +1,6 @@
 -- The header, then the sites; there is room for the header.
-use borrow.Author.Rules.{rules}
-use native.Mathlib.Omega.{arith}
-use Rattle.cohort.proofs.Whole.{all_read, header_answer, header_refused, names_count, sites_refused, sites_said, too_long_lem, too_long_answer}
+use Rattle.site_groups.proofs.Refusals.{err_is}
+use Rattle.cohort.proofs.Whole.{all_read, header_fail, names_count, sites_fail, sites_said, too_long_lem, too_long_answer}
 use Rattle.cohort.specs.Cohort.{CohortFitting, SitesRead}
 use Rattle.sample_names.specs.Header.{Header}
 use Rattle.cohort.proofs.read_fitting.Goals as goal
@@ -10,30 +9,23 @@ pub returns-then-s-gt16777216 : goal.returns-then-s-gt16777216
 unfolding CohortFitting
 returns-then-s-gt16777216 c = record { answer = too_long_answer _ _ _ c.if-s-gt16777216.true; tables = too_long_lem _ c.if-s-gt16777216.true }
 
-pub returns-in-NoRoom : goal.returns-in-NoRoom
-unfolding CohortFitting Header
-returns-in-NoRoom c = let h = rw c.in-NoRoom.is at c.read_samples-header.ensures in absurd (omega (arith, h.no_room, c.requires))
+pub returns-in_err-header : goal.returns-in_err-header
+returns-in_err-header c =
+    let f = header_fail _ c.if-s-gt16777216.false _ _ _ c.args.rows.now _ c.requires c.in_err-header.ensures in
+    rw (err_is _ _ c.from_residual.ensures.1) (record { answer = f.0; tables = f.1 })
 
-pub returns-in-Refused : goal.returns-in-Refused
-unfolding CohortFitting Header
-returns-in-Refused c = let h = rw c.in-Refused.is at c.read_samples-header.ensures in
-    record { answer = header_answer _ c.if-s-gt16777216.false _ _ _ h.value; tables = header_refused _ c.if-s-gt16777216.false _ h.value }
+pub returns-in_err-sites : goal.returns-in_err-sites
+unfolding Header
+returns-in_err-sites c =
+    let h = c.in_ok-header.ensures in
+    let r = c.in_err-sites.ensures in
+    let f = sites_fail _ c.if-s-gt16777216.false _ _ _ h.value h.behind c.args.names.now _ _ _ r.answer r.table in
+    rw (err_is _ _ c.from_residual-in_err-sites.ensures.1) (record { answer = f.0; tables = f.1 })
 
-pub returns-in-NoRoom-sites : goal.returns-in-NoRoom-sites
+pub returns : goal.returns
 unfolding CohortFitting Header SitesRead
-returns-in-NoRoom-sites c = let h = rw c.in-Samples.is at c.read_samples-header.ensures in
-    let r = rw c.in-NoRoom-sites.is at c.read_sites-sites.ensures in
-    record { answer = sites_said _ c.if-s-gt16777216.false _ _ _ h.value h.behind _ _ (r.answer _ (names_count _ _ _)); tables = r.table }
-
-pub returns-in-Refused-sites : goal.returns-in-Refused-sites
-unfolding CohortFitting Header SitesRead
-returns-in-Refused-sites c = let h = rw c.in-Samples.is at c.read_samples-header.ensures in
-    let r = rw c.in-Refused-sites.is at c.read_sites-sites.ensures in record { answer = sites_said _ c.if-s-gt16777216.false _ _ _ h.value h.behind _ _ (r.answer _ (names_count _ _ _)); tables = sites_refused _ c.if-s-gt16777216.false _ _ _ h.value h.behind _ (r.table _ (names_count _ _ _)) }
-
-pub returns-in-Sites : goal.returns-in-Sites
-unfolding CohortFitting Header SitesRead
-returns-in-Sites c = let h = rw c.in-Samples.is at c.read_samples-header.ensures in
-    let both = rw c.in-Sites.is at c.read_sites-sites.ensures in
+returns c = let h = c.in_ok-header.ensures in
+    let both = c.in_ok-sites.ensures in
     let r = both.table in
     record {
       answer = sites_said _ c.if-s-gt16777216.false _ _ _ h.value h.behind _ _ (both.answer _ (names_count _ _ _));

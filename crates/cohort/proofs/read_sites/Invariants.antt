@@ -1,12 +1,8 @@
 -- Group by group, each behind the sites in the table, as long as there is a row.
 use Prim.Native.Nat.{◌-◌}
-use borrow.Author.Rules.{rules}
 use lib.ListN.{length}
-use mathlib.Core.Path.{◌∙◌, ◌≡◌, refl, sym}
-use native.Mathlib.Omega.{arith}
-use Rattle.cohort.proofs.Numbers.{numbers_read_lem}
-use Rattle.cohort.proofs.Sites.{Reading, no_row, no_row_answer, reading_start, refused_answer, site_refused, sites_answer_lem, sites_end}
-use Rattle.site_groups.specs.SiteGroups.{SiteRead}
+use mathlib.Core.Path.{◌≡◌}
+use Rattle.cohort.proofs.Sites.{Reading}
 use Rattle.cohort.proofs.read_sites.Given as goal
 
 abbrev pub invariant-loop-next : goal.invariant-loop-next

@@ -12,13 +12,13 @@ use Rattle.laws.proofs.Tests.{is_there_lem, not_there}
 use Rattle.list_reader.specs.RecordGroups.{GtRead}
 use Rattle.list_reader.proofs.gt_line.Goals as goal
 
-pub returns-in_default : goal.returns-in_default
+pub returns-in_err-line : goal.returns-in_err-line
 unfolding GtRead key_of text
-returns-in_default c = read_absent _ _ _ (or_missing (gt_of (suc c.args.alts))) (rw c.in_default.is at c.value_line-line.ensures).0
+returns-in_err-line c = rw c.from_residual.ensures (read_absent _ _ _ (or_missing (gt_of (suc c.args.alts))) c.in_err-line.ensures.0)
 
 pub returns-then-same_bytes : goal.returns-then-same_bytes
 unfolding GtRead key_of text
-returns-then-same_bytes c = let l = rw c.in-At.is at c.value_line-line.ensures in
+returns-then-same_bytes c = let l = c.in_ok-line.ensures in
     record {
       gt = none;
       line = read_right _ _ _ (or_missing (gt_of (suc c.args.alts))) _ _ none l.0
@@ -27,7 +27,7 @@ returns-then-same_bytes c = let l = rw c.in-At.is at c.value_line-line.ensures i
 
 pub returns-then-is_gt : goal.returns-then-is_gt
 unfolding GtRead key_of text
-returns-then-is_gt c = let l = rw c.in-At.is at c.value_line-line.ensures in
+returns-then-is_gt c = let l = c.in_ok-line.ensures in
     let g = is_there_lem _ (rw c.part-value.ensures at (sym c.is_gt.ensures ∙ c.if-is_gt.true)) in
     record {
       gt = some g.0;
@@ -38,7 +38,7 @@ returns-then-is_gt c = let l = rw c.in-At.is at c.value_line-line.ensures in
 
 pub returns : goal.returns
 unfolding GtRead key_of text
-returns c = let l = rw c.in-At.is at c.value_line-line.ensures in
+returns c = let l = c.in_ok-line.ensures in
     read_wrong _ _ _ (or_missing (gt_of (suc c.args.alts))) _ _ l.0
     (missing_none (gt_of (suc c.args.alts)) _ (rw c.part-value.ensures at (sym c.same_bytes.ensures ∙ c.if-same_bytes.false))
     (not_there _ (rw c.part-value.ensures at (sym c.is_gt.ensures ∙ c.if-is_gt.false))))

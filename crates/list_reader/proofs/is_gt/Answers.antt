@@ -12,10 +12,10 @@ pub returns-then-end-value : goal.returns-then-end-value
 returns-then-end-value c = gt_three _ _ _ c.field_end-slash.ensures (omega arith) _ c.field_end-end.ensures c.if-end-value.true
 
 pub returns-in_default : goal.returns-in_default
-returns-in_default c = gt_low_wrong _ _ _ c.field_end-slash.ensures (omega arith) _ c.field_end-end.ensures c.if-end-value.false (rw (c.part.ensures, c.in_default.is) at (sym c.read_number-first.ensures))
+returns-in_default c = gt_low_wrong _ _ _ c.field_end-slash.ensures (omega arith) _ c.field_end-end.ensures c.if-end-value.false (rw (c.part.ensures, c.in_default.is) at (sym c.read_number.ensures))
 
-pub returns-in_default-second : goal.returns-in_default-second
-returns-in_default-second c = gt_high_wrong _ _ _ c.field_end-slash.ensures (omega arith) _ c.field_end-end.ensures c.if-end-value.false _ (rw (c.part.ensures, c.in-Value.is) at (sym c.read_number-first.ensures)) (rw (c.part-2.ensures, c.in_default-second.is) at (sym c.read_number-second.ensures))
+pub returns-in_default-high : goal.returns-in_default-high
+returns-in_default-high c = gt_high_wrong _ _ _ c.field_end-slash.ensures (omega arith) _ c.field_end-end.ensures c.if-end-value.false _ (rw (c.part.ensures, c.in-Some.is) at (sym c.read_number.ensures)) (rw (c.part-2.ensures, c.in_default-2.is) at (sym c.read_number-2.ensures))
 
 pub returns : goal.returns
-returns c = c.is_pair.ensures ∙ gt_two _ _ _ c.field_end-slash.ensures (omega arith) _ c.field_end-end.ensures c.if-end-value.false _ (rw (c.part.ensures, c.in-Value.is) at (sym c.read_number-first.ensures)) _ (rw (c.part-2.ensures, c.in-Value-second.is) at (sym c.read_number-second.ensures))
+returns c = c.is_pair.ensures ∙ gt_two _ _ _ c.field_end-slash.ensures (omega arith) _ c.field_end-end.ensures c.if-end-value.false _ (rw (c.part.ensures, c.in-Some.is) at (sym c.read_number.ensures)) _ (rw (c.part-2.ensures, c.in-Some-2.is) at (sym c.read_number-2.ensures))

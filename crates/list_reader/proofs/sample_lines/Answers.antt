@@ -11,71 +11,55 @@ use Rattle.list_reader.proofs.RecordLines.{ad_wrong, dp_wrong, gq_wrong, gt_wron
 use Rattle.list_reader.specs.RecordGroups.{GtRead}
 use Rattle.list_reader.proofs.sample_lines.Goals as goal
 
-pub returns-in_default : goal.returns-in_default
+pub returns-in_err-e0 : goal.returns-in_err-e0
 unfolding GtRead
-returns-in_default c = gt_wrong _ _ _ (rw c.in_default.is at c.gt_line-genotype.ensures)
+returns-in_err-e0 c = rw c.from_residual.ensures (gt_wrong _ _ _ c.in_err-e0.ensures)
 
 pub overflow_add-e0 : goal.overflow_add-e0
 unfolding GtRead
-overflow_add-e0 c = let g = rw c.in-End.is at c.gt_line-genotype.ensures in
-    let h = line_within _ _ _ (or_missing (gt_of (suc c.args.alts))) _ _ g.line in omega arith
+overflow_add-e0 c = let h = line_within _ _ _ (or_missing (gt_of (suc c.args.alts))) _ _ c.in_ok-e0.ensures.line in omega arith
 
-pub returns-in_default-quality : goal.returns-in_default-quality
+pub returns-in_err-gq : goal.returns-in_err-gq
 unfolding GtRead key_of text
-returns-in_default-quality c = let g = rw c.in-End.is at c.gt_line-genotype.ensures in
-    gq_wrong _ _ _ _ _ g.line (rw c.in_default-quality.is at c.code_line-quality.ensures)
+returns-in_err-gq c = rw c.from_residual-in_err-gq.ensures (gq_wrong _ _ _ _ _ c.in_ok-e0.ensures.line c.in_err-gq.ensures)
 
 pub overflow_add-e1 : goal.overflow_add-e1
-overflow_add-e1 c = let h = line_within _ _ _ (or_missing number) _ _ (rw c.in-Found.is at c.code_line-quality.ensures) in omega arith
+overflow_add-e1 c = let h = line_within _ _ _ (or_missing number) _ _ c.in_ok-gq.ensures in omega arith
 
-pub returns-in_default-depth : goal.returns-in_default-depth
+pub returns-in_err-dp : goal.returns-in_err-dp
 unfolding GtRead key_of text
-returns-in_default-depth c = let g = rw c.in-End.is at c.gt_line-genotype.ensures in
-    dp_wrong _ _ _ _ _ g.line _ _ (rw c.in-Found.is at c.code_line-quality.ensures)
-    (rw c.in_default-depth.is at c.code_line-depth.ensures)
+returns-in_err-dp c = rw c.from_residual-in_err-dp.ensures
+    (dp_wrong _ _ _ _ _ c.in_ok-e0.ensures.line _ _ c.in_ok-gq.ensures c.in_err-dp.ensures)
 
 pub overflow_add-e2 : goal.overflow_add-e2
-overflow_add-e2 c = let h = line_within _ _ _ (or_missing number) _ _ (rw c.in-Found-depth.is at c.code_line-depth.ensures) in omega arith
+overflow_add-e2 c = let h = line_within _ _ _ (or_missing number) _ _ c.in_ok-dp.ensures in omega arith
 
-pub returns-in_default-least : goal.returns-in_default-least
+pub returns-in_err-mindp : goal.returns-in_err-mindp
 unfolding GtRead key_of text
-returns-in_default-least c = let g = rw c.in-End.is at c.gt_line-genotype.ensures in
-    mindp_wrong _ _ _ _ _ g.line _ _ (rw c.in-Found.is at c.code_line-quality.ensures) _ _
-    (rw c.in-Found-depth.is at c.code_line-depth.ensures) (rw c.in_default-least.is at c.code_line-least.ensures)
+returns-in_err-mindp c = rw c.from_residual-in_err-mindp.ensures
+    (mindp_wrong _ _ _ _ _ c.in_ok-e0.ensures.line _ _ c.in_ok-gq.ensures _ _ c.in_ok-dp.ensures c.in_err-mindp.ensures)
 
 pub overflow_add-e3 : goal.overflow_add-e3
-overflow_add-e3 c = let h = line_within _ _ _ (or_missing number) _ _ (rw c.in-Found-least.is at c.code_line-least.ensures) in omega arith
+overflow_add-e3 c = let h = line_within _ _ _ (or_missing number) _ _ c.in_ok-mindp.ensures in omega arith
 
-pub returns-in_default-depths : goal.returns-in_default-depths
+pub returns-in_err-ad : goal.returns-in_err-ad
 unfolding GtRead key_of text
-returns-in_default-depths c = let g = rw c.in-End.is at c.gt_line-genotype.ensures in
-    ad_wrong _ _ _ _ _ g.line _ _ (rw c.in-Found.is at c.code_line-quality.ensures) _ _
-    (rw c.in-Found-depth.is at c.code_line-depth.ensures) _ _
-    (rw c.in-Found-least.is at c.code_line-least.ensures) (rw c.in_default-depths.is at c.part_line-depths.ensures).0
+returns-in_err-ad c = rw c.from_residual-in_err-ad.ensures
+    (ad_wrong _ _ _ _ _ c.in_ok-e0.ensures.line _ _ c.in_ok-gq.ensures _ _ c.in_ok-dp.ensures _ _ c.in_ok-mindp.ensures c.in_err-ad.ensures.0)
 
-pub overflow_add-e4 : goal.overflow_add-e4
-overflow_add-e4 c = let h = line_within _ _ _ (or_missing number_list) _ _ (rw c.in-Part.is at c.part_line-depths.ensures).0 in omega
-    (arith, h, c.well_formed)
+pub overflow_add-ad : goal.overflow_add-ad
+overflow_add-ad c = let h = line_within _ _ _ (or_missing number_list) _ _ c.in_ok-ad.ensures.0 in omega (arith, h, c.well_formed)
 
-pub returns-in_default-likelihoods : goal.returns-in_default-likelihoods
+pub returns-in_err-pl : goal.returns-in_err-pl
 unfolding GtRead key_of text
-returns-in_default-likelihoods c = let g = rw c.in-End.is at c.gt_line-genotype.ensures in
-    let depths = rw c.in-Part.is at c.part_line-depths.ensures in
-    pl_wrong _ _ _ _ _ g.line _ _ (rw c.in-Found.is at c.code_line-quality.ensures) _ _
-    (rw c.in-Found-depth.is at c.code_line-depth.ensures) _ _
-    (rw c.in-Found-least.is at c.code_line-least.ensures) _ _ _ depths.0 depths.1
-    (rw c.in_default-likelihoods.is at c.part_line-likelihoods.ensures).0
+returns-in_err-pl c = rw c.from_residual-in_err-pl.ensures
+    (pl_wrong _ _ _ _ _ c.in_ok-e0.ensures.line _ _ c.in_ok-gq.ensures _ _ c.in_ok-dp.ensures _ _ c.in_ok-mindp.ensures
+    _ c.in_ok-ad.ensures.0 c.in_ok-ad.ensures.1 c.in_err-pl.ensures.0)
 
 pub overflow_add-next : goal.overflow_add-next
-overflow_add-next c = let h = line_within _ _ _ (or_missing number_list) _ _ (rw c.in-Part-likelihoods.is at c.part_line-likelihoods.ensures).0 in omega
-    (arith, h, c.well_formed)
+overflow_add-next c = let h = line_within _ _ _ (or_missing number_list) _ _ c.in_ok-pl.ensures.0 in omega (arith, h, c.well_formed)
 
 pub returns : goal.returns
 unfolding GtRead key_of text
-returns c = let g = rw c.in-End.is at c.gt_line-genotype.ensures in
-    let depths = rw c.in-Part.is at c.part_line-depths.ensures in
-    let likelihoods = rw c.in-Part-likelihoods.is at c.part_line-likelihoods.ensures in
-    sample_read_lem _ _ _ _ _ g.line _ _ (rw c.in-Found.is at c.code_line-quality.ensures) _ _
-    (rw c.in-Found-depth.is at c.code_line-depth.ensures) _ _
-    (rw c.in-Found-least.is at c.code_line-least.ensures) _ _ _ depths.0 depths.1 _ _ _ likelihoods.0 likelihoods.1
-    (omega (arith, c.in-Found-depth.known_told-in-Found-depth-1-own.given))
+returns c = sample_read_lem _ _ _ _ _ c.in_ok-e0.ensures.line _ _ c.in_ok-gq.ensures _ _ c.in_ok-dp.ensures _ _ c.in_ok-mindp.ensures
+    _ c.in_ok-ad.ensures.0 c.in_ok-ad.ensures.1 _ c.in_ok-pl.ensures.0 c.in_ok-pl.ensures.1
