@@ -46,18 +46,14 @@ module _ {all : List ℕ} {spans : List Span} {past : ℕ} {entry exit : List �
     unfolding end
     parts = ap length (windows ordered past n.limit) ∙ length-append (window past n.limit all) _
 
-    fewer : {past' : ℕ} {again : Bool} → past' ≡ window_end past (window past n.limit all) → again ≡ true
-        → length (filter_by (ltb past') all) + cond r.more 1 0 < length (filter_by (ltb past) all) + cond again 1 0
+    fewer : {past' : ℕ} → past' ≡ window_end past (window past n.limit all) → r.more ≡ true
+        → length (filter_by (ltb past') all) < length (filter_by (ltb past) all)
     unfolding end
-    fewer {past'} {again} e taken =
-        rw (taken, e, n.more) (go (ltb 0 (length (filter_by (ltb end) all))) refl)
-      where
-        go : (b : Bool) → ltb 0 (length (filter_by (ltb end) all)) ≡ b → length (filter_by (ltb end) all) + cond b 1 0 < length (filter_by (ltb past) all) + 1
-        go false t = omega (arith, parts, ltb-false 0 (length (filter_by (ltb end) all)) t)
-        go true t =
-            let some_left = ltb-true 0 (length (filter_by (ltb end) all)) t in
-            let some_count : 0 < r.count = ltb-true 0 r.count (n.some_there ∙ lt-ltb 0 (length (filter_by (ltb past) all)) (omega (arith, parts))) in
-            omega (arith, parts, counted)
+    fewer {past'} e h =
+        let later = length (filter_by (ltb past) all) in
+        let some_left = ltb-true 0 (length (filter_by (ltb end) all)) (sym n.more ∙ h) in
+        let some_count : 0 < r.count = ltb-true 0 r.count (n.some_there ∙ lt-ltb 0 later (omega (arith, parts))) in
+        rw e (omega (arith, parts, counted))
 
     -- without more of them none is left
     nothing_left : {past' : ℕ} → past' ≡ window_end past (window past n.limit all) → r.more ≡ false → filter_by (ltb past') all ≡ []
@@ -103,14 +99,13 @@ module _ {x : Input} {rows sites : List ℕ} {clipped : Bool} {clip contig : Lis
           ∙ ap (λ (l : List ℕ). map (place_of (spans_on contig x.clip)) (window past n.limit l)) b.all_places;
     }
 
-    -- past its end fewer are left, and without more of them none
+    -- past its end fewer are left, if there are more, and otherwise none
     module _ {past' : ℕ} (e : past' ≡ contig_window_end x contig past n.limit) where
       ends : past' ≡ window_end past (window past n.limit read)
       ends = e ∙ ap (λ (l : List ℕ). window_end past (window past n.limit l)) (sym b.all_places)
 
-      pub fewer_left : {again : Bool} → again ≡ true
-          → length (filter_by (ltb past') read) + cond r.more 1 0 < length (filter_by (ltb past) read) + cond again 1 0
-      fewer_left taken = fewer n in_order_lem ends taken
+      pub fewer_left : r.more ≡ true → length (filter_by (ltb past') read) < length (filter_by (ltb past) read)
+      fewer_left h = fewer n in_order_lem ends h
 
       pub none_left : r.more ≡ false → filter_by (ltb past') read ≡ []
       none_left h = nothing_left n in_order_lem ends h

@@ -67,19 +67,19 @@ module _ {rows sites : List ℕ} {past : ℕ} {places₀ places : List ℕ} {add
   unfolding of_sites
   ended h = rw (take_all i sites h) at inv.filled
 
-pub loop-i-init : goal.loop-i-init
-loop-i-init c = start _ _ _ _ c.requires.in_bounds
+pub loop-site-init : goal.loop-site-init
+loop-site-init c = start _ _ _ _ c.requires.in_bounds
 
 pub add_site-adding-requires : goal.add_site-adding-requires
 add_site-adding-requires c = let rows = c.requires.every in
-    record { row_in_range = every_at _ 0 c.loop-i-test.true rows; ready = c.loop-i.invariant.filled.ready; run_taken = c.loop-i.invariant.run }
+    record { row_in_range = every_at _ 0 c.loop-site-test.true rows; ready = c.loop-site.invariant.filled.ready; run_taken = c.loop-site.invariant.run }
 
-pub loop-i-preserved : goal.loop-i-preserved
-loop-i-preserved c = let put = c.add_site-adding in
-    turn c.loop-i.invariant c.loop-i-test.true put.auto.places put.ensures
+pub loop-site-preserved : goal.loop-site-preserved
+loop-site-preserved c = let put = c.add_site-adding in
+    turn c.loop-site.invariant c.loop-site-test.true put.auto.places put.ensures
 
 pub shape_of-places : goal.shape_of-places
-shape_of-places c = c.loop-i.invariant.long
+shape_of-places c = c.loop-site.invariant.long
 
 pub returns : goal.returns
-returns c = ended c.loop-i.invariant c.loop-i-test.false
+returns c = ended c.loop-site.invariant c.loop-site-test.false

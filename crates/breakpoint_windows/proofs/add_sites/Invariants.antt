@@ -26,8 +26,6 @@ pub record Inv (rows sites : List ℕ) (past : ℕ) (places₀ places : List ℕ
   pub filled : FromNone past (map plain_place (of_sites rows (take i sites))) places adding.taken
   pub run : RunTaken past adding places
 
-abbrev pub invariant-loop-i : goal.invariant-loop-i
-invariant-loop-i l = Inv l.rows l.sites l.past l.initial.places l.places l.adding l.i
+abbrev pub invariant-loop-site : goal.invariant-loop-site
+invariant-loop-site l = Inv l.rows l.sites l.past l.initial.places l.places l.adding l.site-index
 
-abbrev pub decreases-loop-i : goal.decreases-loop-i
-decreases-loop-i l = l.i-end - l.i

@@ -96,26 +96,26 @@ module _ {clip contig : List ℕ} {past : ℕ} {places₀ : List ℕ} {taken : T
 pub loop-at-init : goal.loop-at-init
 loop-at-init c = start _ _ c.requires.ready
 
-pub shape_of-places-in_default : goal.shape_of-places-in_default
-shape_of-places-in_default c = c.loop-at.invariant.long
+pub shape_of-places-in-None : goal.shape_of-places-in-None
+shape_of-places-in-None c = c.loop-at.invariant.long
 
-pub returns-in_default : goal.returns-in_default
+pub returns-in-None : goal.returns-in-None
 unfolding SpanRead
-returns-in_default c = faulty c.loop-at.invariant (rw c.in_default.is at c.span_at-group.ensures)
+returns-in-None c = faulty c.loop-at.invariant (rw c.in-None.is at c.span_at.ensures)
 
 pub add_span-now-requires : goal.add_span-now-requires
 unfolding SpanRead span_gives span_places
-add_span-now-requires c = let g = rw c.in-Span.is at c.span_at-group.ensures in
+add_span-now-requires c = let g = rw c.in-Some.is at c.span_at.ensures in
     let sound = span_sound _ _ g.0.value in record { ready = c.loop-at.invariant.added.ready; start_le_max_number = (omega (arith, sound.ordered, sound.in_range_lem), sound.in_range_lem); loc_bound = light-here c.loop-at.invariant g.0 c.is_on-on.ensures c.requires.contig_bound }
 
 pub loop-at-smaller : goal.loop-at-smaller
 unfolding SpanRead
-loop-at-smaller c = let g = rw c.in-Span.is at c.span_at-group.ensures in
+loop-at-smaller c = let g = rw c.in-Some.is at c.span_at.ensures in
     omega (arith, g.0.forward, g.0.within)
 
 pub loop-at-preserved : goal.loop-at-preserved
 unfolding SpanRead span_gives span_places
-loop-at-preserved c = let g = rw c.in-Span.is at c.span_at-group.ensures in
+loop-at-preserved c = let g = rw c.in-Some.is at c.span_at.ensures in
     let put = c.add_span-now in
     turn c.loop-at.invariant g.0 c.is_on-on.ensures c.requires.contig_bound put.auto.places put.ensures
 

@@ -17,51 +17,34 @@ use Rattle.breakpoint_windows.proofs.next_breakpoints.Reads as next-breakpoints-
 use Rattle.contig_looks.proofs.count_window.Reads as count-window-reads
 use Rattle.contig_looks.proofs.count_intervals.Goals as goal
 
-pub loop-more-init : goal.loop-more-init
-loop-more-init c = record {
-  scratch-long = refl;
-  none-past = λ never. let z : ◌≡◌ {A = ℕ} 0 1 = cc in absurd (omega arith);
-  so_far = λ ready. so_far_start ready;
-}
+pub loop-along-init : goal.loop-along-init
+loop-along-init c = record { scratch-long = refl; so_far = λ ready. so_far_start ready }
 
 pub next_breakpoints-window-requires : goal.next_breakpoints-window-requires
 next_breakpoints-window-requires c = let (ready, room) = c.requires in
-    record { in_bounds = omega (arith, c.loop-more.invariant.scratch-long, room); every = ready.points.rows_in_range; clip_len_bound = ready.points.short }
-
-pub slice_bounds-count_window-end : goal.slice_bounds-count_window-end
-slice_bounds-count_window-end c = stored_within c.next_breakpoints-window.ensures
-
-pub slice_bounds-count_window-end-in-loop-more : goal.slice_bounds-count_window-end-in-loop-more
-slice_bounds-count_window-end-in-loop-more c = stored_exactly c.next_breakpoints-window.ensures
+    record {
+      in_bounds = omega (arith, c.loop-along.invariant.scratch-long, room);
+      every = ready.points.rows_in_range;
+      clip_len_bound = ready.points.short;
+    }
 
 pub count_window-along-requires : goal.count_window-along-requires
 unfolding count_ready
 count_window-along-requires c = let ready = c.requires.0 in
-    count_ready ready (c.loop-more.invariant.so_far ready) c.next_breakpoints-window.ensures
+    count_ready ready (c.loop-along.invariant.so_far ready) c.next_breakpoints-window.ensures
 
-pub loop-more-smaller : goal.loop-more-smaller
+pub loop-along-smaller : goal.loop-along-smaller
 unfolding count_ready contig_window
-loop-more-smaller c = let found = c.next_breakpoints-window.ensures in
+loop-along-smaller c = let found = c.next_breakpoints-window.ensures in
     let ready = c.requires.0 in
-    let counted = c.count_window-along.ensures (count_ready ready (c.loop-more.invariant.so_far ready) found) in
-    fewer_left ready.points found counted.there c.loop-more-test.true
+    let counted = c.count_window-along.ensures (count_ready ready (c.loop-along.invariant.so_far ready) found) in
+    fewer_left ready.points found counted.there ?
 
-pub loop-more-preserved : goal.loop-more-preserved
-unfolding count_ready contig_window
-loop-more-preserved c = let found = c.next_breakpoints-window.ensures in
-    let inv = c.loop-more.invariant in
-    let ready = c.requires.0 in
-    let counted = c.count_window-along.ensures (count_ready ready (inv.so_far ready) found) in
+pub loop-along-preserved : goal.loop-along-preserved
+unfolding count_ready
+loop-along-preserved c = let found = c.next_breakpoints-window.ensures in
+    let inv = c.loop-along.invariant in
     record {
       scratch-long = found.long ∙ inv.scratch-long;
-      none-past = none_left ready.points found counted.there;
       so_far = λ ready. (c.count_window-along.ensures (count_ready ready (inv.so_far ready) found)).so_far;
     }
-
-pub shape_of-scratch : goal.shape_of-scratch
-shape_of-scratch c = c.loop-more.invariant.scratch-long
-
-pub returns : goal.returns
-returns c = λ ready.
-    let inv = c.loop-more.invariant in
-    so_far_end ready (inv.so_far ready) (inv.none-past c.loop-more-test.false)

@@ -17,13 +17,12 @@ use Rattle.breakpoint_windows.proofs.next_breakpoints.Reads as next-breakpoints-
 use Rattle.contig_looks.proofs.count_window.Reads as count-window-reads
 use Rattle.contig_looks.proofs.count_intervals.Given as goal
 
-pub record Inv (rows sites : List ℕ) (clipped : Bool) (clip contig scratch₀ scratch : List ℕ) (along : Along) (more : Bool) : Type 0 where
+pub record Inv (rows sites : List ℕ) (clipped : Bool) (clip contig scratch₀ scratch : List ℕ) (along : Along) : Type 0 where
   pub scratch-long : length scratch ≡ length scratch₀
-  pub none-past : more ≡ false → filter_by (ltb along.past) (all_breakpoints rows sites (spans_of clip contig)) ≡ []
   pub so_far : (ready : LooksReady rows sites clipped clip contig) → SoFar ready.input contig along
 
-abbrev pub invariant-loop-more : goal.invariant-loop-more
-invariant-loop-more l = Inv l.rows l.sites l.clipped l.clip l.contig l.initial.scratch l.scratch l.along l.more
+abbrev pub invariant-loop-along : goal.invariant-loop-along
+invariant-loop-along l = Inv l.rows l.sites l.clipped l.clip l.contig l.initial.scratch l.scratch l.along
 
-abbrev pub decreases-loop-more : goal.decreases-loop-more
-decreases-loop-more l = length (filter_by (ltb l.along.past) (all_breakpoints l.rows l.sites (spans_of l.clip l.contig))) + cond l.more 1 0
+abbrev pub decreases-loop-along : goal.decreases-loop-along
+decreases-loop-along l = length (filter_by (ltb l.along.past) (all_breakpoints l.rows l.sites (spans_of l.clip l.contig)))

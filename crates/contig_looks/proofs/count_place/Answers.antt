@@ -16,14 +16,14 @@ pub overflow_sub-depth : goal.overflow_sub-depth
 overflow_sub-depth c = let (rest, ready) = c.requires in
     depth_from ready.window ready.so_far.deep
 
-pub returns-then-not-has_interval : goal.returns-then-not-has_interval
-returns-then-not-has_interval c = λ rest ready.
-    counted_on ready false (sym (c.if-not-has_interval.true) ∙ c.has_interval.ensures) _ (omega arith)
-
-pub overflow_add-result : goal.overflow_add-result
-overflow_add-result c = let (rest, ready) = c.requires in
+pub overflow_add-intervals : goal.overflow_add-intervals
+overflow_add-intervals c = let (rest, ready) = c.requires in
     omega (arith, count_few ready)
 
-pub returns : goal.returns
-returns c = λ rest ready.
-    counted_on ready true (sym (c.if-not-has_interval.false) ∙ c.has_interval.ensures) _ (omega arith)
+pub returns-then-has_interval : goal.returns-then-has_interval
+returns-then-has_interval c = λ rest ready.
+    counted_on ready true (sym (c.if-has_interval.true) ∙ c.has_interval.ensures) _ (omega arith)
+
+pub returns-else-has_interval : goal.returns-else-has_interval
+returns-else-has_interval c = λ rest ready.
+    counted_on ready false (sym (c.if-has_interval.false) ∙ c.has_interval.ensures) _ (omega arith)

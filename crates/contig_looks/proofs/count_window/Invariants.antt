@@ -9,8 +9,5 @@ use Rattle.contig_looks.specs.Counting.{CountReady}
 use Rattle.contig_looks.proofs.count_place.Reads as count-place-reads
 use Rattle.contig_looks.proofs.count_window.Given as goal
 
-abbrev pub invariant-loop-k : goal.invariant-loop-k
-invariant-loop-k l = (ready : CountReady l.clipped l.places l.initial.along) → Through ready l.along l.k
-
-abbrev pub decreases-loop-k : goal.decreases-loop-k
-decreases-loop-k l = length l.places - l.k
+abbrev pub invariant-loop-place : goal.invariant-loop-place
+invariant-loop-place l = (ready : CountReady l.clipped l.places l.initial.along) → Through ready l.along l.place-index
