@@ -23,41 +23,41 @@ use Rattle.record_laws.specs.Pending.{and_later, finish}
 use Rattle.coalescing.proofs.HeldBlocks.{held_joins, held_printed, holds_joined}
 use Rattle.coalescing.specs.Held.{HeldBlock, Holds, behind_pending, held_after, joined_to, joins_pending, of_option, pending_bytes, pending_count}
 use Rattle.coalescing.specs.Steps.{OtherRecord, Progress, StepTo, block_lays, block_stepped, pending_laid, record_stepped}
-use Rattle.coalescing.specs.declared.Pending.{Pending}
-use Rattle.coalescing.specs.declared.Pending.TheVariants.{Block, Nothing}
+use Rattle.coalescing.specs.declared.PendingBlock.{PendingBlock}
 use Rattle.coalescing.specs.declared.Stepped.{Stepped}
+use Rattle.std.specs.Prelude as std
 
 -- where the list goes on and how many records it has, behind the one that was held back
-pub pending_counted : (contig held : List ℕ) (pending : Pending) (at count : ℕ) {behind at' count' : ℕ}
+pub pending_counted : (contig held : List ℕ) (pending : std.Option PendingBlock) (at count : ℕ) {behind at' count' : ℕ}
     → behind ≡ at + length (pending_bytes contig held pending) → at' ≡ min limit behind → count' ≡ pending_count pending count
-    → ◌≡◌ {A = Stepped} (record { pending = Nothing; at = at'; count = count' }) (pending_laid contig held pending at count)
+    → ◌≡◌ {A = Stepped} (record { pending = std.None; at = at'; count = count' }) (pending_laid contig held pending at count)
 unfolding pending_laid behind_pending
 pending_counted contig held pending at count b a c = rw (a, b, c)
 
 -- the list goes on at 2^63 at most
-pub within_limit : (contig held : List ℕ) (pending : Pending) (at count : ℕ) {r : Stepped} → r ≡ pending_laid contig held pending at count
+pub within_limit : (contig held : List ℕ) (pending : std.Option PendingBlock) (at count : ℕ) {r : Stepped} → r ≡ pending_laid contig held pending at count
     → r.at ≤ 2 ^ 63
 unfolding pending_laid behind_pending
 within_limit contig held pending at count e = rw e (omega arith)
 
 -- what a block leaves that does not join: it is held back in place of the one that was laid
-pub held_instead : (contig held : List ℕ) (pending : Pending) (loc : GenomeLoc) (base : ℕ) (fresh : List ℕ) (at count : ℕ)
-    → joins_pending held pending loc.start.0 base fresh ≡ false
+pub held_instead : (contig held : List ℕ) (pending : std.Option PendingBlock) (loc : GenomeLoc) (letter : ℕ) (fresh : List ℕ) (at count : ℕ)
+    → joins_pending held pending loc.start.0 letter fresh ≡ false
     → {before : Stepped} {len : ℕ} → before ≡ pending_laid contig held pending at count → len ≡ 0 + length fresh
-    → ◌≡◌ {A = Stepped} (record { pending = Block loc base len; at = before.at; count = before.count })
-    (block_stepped contig held pending loc base fresh at count)
+    → ◌≡◌ {A = Stepped} (record { pending = std.Some (record { loc = loc; letter = letter; len = len }); at = before.at; count = before.count })
+    (block_stepped contig held pending loc letter fresh at count)
 unfolding block_stepped pending_laid
-held_instead contig held pending loc base fresh at count apart laid lines = rw (apart, laid, lines, zero-add (length fresh))
+held_instead contig held pending loc letter fresh at count apart laid lines = rw (apart, laid, lines, zero-add (length fresh))
 
 module _ (samples : ℕ) (contig held : List ℕ) (d₀ bytes : List ℕ) (records : ℕ) where
   -- the record that was held back is laid
-  count_laid : (pending : Pending) (waiting : Option Record) → Holds samples contig held pending waiting → {count : ℕ}
+  count_laid : (pending : std.Option PendingBlock) (waiting : Option Record) → Holds samples contig held pending waiting → {count : ℕ}
       → Counted records count → Counted (records + length (of_option waiting)) (pending_count pending count)
   unfolding Holds of_option pending_count
-  count_laid Nothing waiting h c = rw (h, add-zero records) c
-  count_laid (Block loc base len) waiting (p, e, b) c = rw e (counted_more c)
+  count_laid std.None waiting h c = rw (h, add-zero records) c
+  count_laid (std.Some block) waiting (p, e, b) c = rw e (counted_more c)
 
-  pub laid_pending : (pending : Pending) (waiting : Option Record) → Holds samples contig held pending waiting
+  pub laid_pending : (pending : std.Option PendingBlock) (waiting : Option Record) → Holds samples contig held pending waiting
       → {out out' : List ℕ} {at count r : ℕ} → Progress d₀ bytes records out at count
       → Laid out at (pending_bytes contig held pending) out' r
       → Progress d₀ (bytes ++ flat_map printed_record (of_option waiting)) (records + length (of_option waiting)) out' (min limit r) (pending_count pending count)
@@ -68,29 +68,29 @@ module _ (samples : ℕ) (contig held : List ℕ) (d₀ bytes : List ℕ) (recor
 
   -- ---- a block
 
-  module _ (loc : GenomeLoc) (base : ℕ) (fresh : List ℕ) (new : Record)
-      (b : HeldBlock samples contig fresh loc.start.0 loc.end.0 base (length fresh) new) where
+  module _ (loc : GenomeLoc) (letter : ℕ) (fresh : List ℕ) (new : Record)
+      (b : HeldBlock samples contig fresh (record { loc = loc; letter = letter; len = length fresh }) new) where
     lines : flat_map printed_sample_data b.values ≡ fresh
     lines = sym b.printed ∙ take-length fresh
 
-    same_joins : (l : GenomeLoc) (own len : ℕ) (p : Record) → HeldBlock samples contig held l.start.0 l.end.0 own len p
-        → joins_pending held (Block l own len) loc.start.0 base fresh ≡ coalesces p new
-    same_joins l own len p h =
-        held_joins samples contig held l own len p h loc.start.0 loc.end.0 base b.values fresh b.derived lines
+    same_joins : (block : PendingBlock) (p : Record) → HeldBlock samples contig held block p
+        → joins_pending held (std.Some block) loc.start.0 letter fresh ≡ coalesces p new
+    same_joins block p h =
+        held_joins samples contig held block p h loc.start.0 loc.end.0 letter b.values fresh b.derived lines
         ∙ ap (coalesces p) (sym b.record_is)
 
-    step_joined : (pending : Pending) (waiting : Option Record) → Holds samples contig held pending waiting
-        → joins_pending held pending loc.start.0 base fresh ≡ true
+    step_joined : (pending : std.Option PendingBlock) (waiting : Option Record) → Holds samples contig held pending waiting
+        → joins_pending held pending loc.start.0 letter fresh ≡ true
         → (out : List ℕ) (at count : ℕ) → Progress d₀ bytes records out at count
         → StepTo samples contig held out waiting new d₀ bytes records (record { pending = joined_to pending loc.end; at = at; count = count })
     unfolding Holds joins_pending flat_map
-    step_joined Nothing waiting h j out at count p = clash j refl
-    step_joined (Block l own len) waiting (q, e, h) j out at count p =
-        let c : coalesces q new ≡ true = sym (same_joins l own len q h) ∙ j in
+    step_joined std.None waiting h j out at count p = clash j refl
+    step_joined (std.Some block) waiting (q, e, h) j out at count p =
+        let c : coalesces q new ≡ true = sym (same_joins block q h) ∙ j in
         record {
           laid = [];
           waits = some (coalesced q new);
-          holds = rw b.record_is (holds_joined samples contig held l own len q h loc.start.0 loc.end base b.values
+          holds = rw b.record_is (holds_joined samples contig held block q h loc.start.0 loc.end letter b.values
               b.ordered b.in_range_lem (rw (← b.record_is) c));
           progress = rw (append-nil bytes, add-zero records) p;
           turned = λ done m later k. rw (e, append-nil done) (turn_joined done m later q k c);
@@ -98,7 +98,7 @@ module _ (samples : ℕ) (contig held : List ℕ) (d₀ bytes : List ℕ) (recor
 
     -- the new block is held back
     held_new : (after : List ℕ) (len : ℕ) → length fresh ≤ length held → Laid held 0 fresh after len
-        → HeldBlock samples contig after loc.start.0 loc.end.0 base len new
+        → HeldBlock samples contig after (record { loc = loc; letter = letter; len = len }) new
     held_new after len room l =
         let same : len ≡ length fresh = l.next ∙ zero-add (length fresh) in
         record {
@@ -112,22 +112,22 @@ module _ (samples : ℕ) (contig held : List ℕ) (d₀ bytes : List ℕ) (recor
           in_range_lem = b.in_range_lem;
         }
 
-    apart_turned : (pending : Pending) (waiting : Option Record) → Holds samples contig held pending waiting
-        → joins_pending held pending loc.start.0 base fresh ≡ false
+    apart_turned : (pending : std.Option PendingBlock) (waiting : Option Record) → Holds samples contig held pending waiting
+        → joins_pending held pending loc.start.0 letter fresh ≡ false
         → (done : List Record) (m : Checked Record) (c : Checked (List Record)) → m ≡ accepted new
         → finish done waiting (and_later m c) ≡ finish (done ++ of_option waiting) (some new) c
     unfolding Holds of_option
-    apart_turned Nothing waiting h j done m c k = rw (h, append-nil done) (turn_held done m c k)
-    apart_turned (Block l own len) waiting (q, e, h) j done m c k =
-        rw e (turn_apart done m c q k (sym (same_joins l own len q h) ∙ j))
+    apart_turned std.None waiting h j done m c k = rw (h, append-nil done) (turn_held done m c k)
+    apart_turned (std.Some block) waiting (q, e, h) j done m c k =
+        rw e (turn_apart done m c q k (sym (same_joins block q h) ∙ j))
 
-    step_apart : (pending : Pending) (waiting : Option Record) → Holds samples contig held pending waiting
-        → joins_pending held pending loc.start.0 base fresh ≡ false
+    step_apart : (pending : std.Option PendingBlock) (waiting : Option Record) → Holds samples contig held pending waiting
+        → joins_pending held pending loc.start.0 letter fresh ≡ false
         → (after : List ℕ) (len : ℕ) → length fresh ≤ length held → Laid held 0 fresh after len
         → (out out' : List ℕ) (at count r : ℕ) → Progress d₀ bytes records out at count
         → Laid out at (pending_bytes contig held pending) out' r
         → StepTo samples contig after out' waiting new d₀ bytes records
-        (record { pending = Block loc base len; at = min limit r; count = pending_count pending count })
+        (record { pending = std.Some (record { loc = loc; letter = letter; len = len }); at = min limit r; count = pending_count pending count })
     unfolding Holds
     step_apart pending waiting h j after len room l out out' at count r p laid = record {
       laid = of_option waiting;
@@ -138,24 +138,24 @@ module _ (samples : ℕ) (contig held : List ℕ) (d₀ bytes : List ℕ) (recor
     }
 
     -- what `coalesce_homref_blocks` leaves is such a step
-    pub block_step : (pending : Pending) (waiting : Option Record) → Holds samples contig held pending waiting → length fresh ≤ length held
+    pub block_step : (pending : std.Option PendingBlock) (waiting : Option Record) → Holds samples contig held pending waiting → length fresh ≤ length held
         → (out : List ℕ) (at count : ℕ) → Progress d₀ bytes records out at count
         → (held' out' : List ℕ) (r : Stepped)
-        → r ≡ block_stepped contig held pending loc base fresh at count
-        → out' ≡ sets out at (block_lays contig held pending loc.start.0 base fresh)
-        → held' ≡ held_after held pending loc.start.0 base fresh
+        → r ≡ block_stepped contig held pending loc letter fresh at count
+        → out' ≡ sets out at (block_lays contig held pending loc.start.0 letter fresh)
+        → held' ≡ held_after held pending loc.start.0 letter fresh
         → StepTo samples contig held' out' waiting new d₀ bytes records r
     unfolding block_stepped block_lays held_after behind_pending
     block_step pending waiting h room out at count p held' out' r stepped laid after =
-        rw (stepped, laid, after) (go (joins_pending held pending loc.start.0 base fresh) refl)
+        rw (stepped, laid, after) (go (joins_pending held pending loc.start.0 letter fresh) refl)
       where
-        go : (j : Bool) → joins_pending held pending loc.start.0 base fresh ≡ j
+        go : (j : Bool) → joins_pending held pending loc.start.0 letter fresh ≡ j
             → StepTo samples contig (cond j held (sets held 0 fresh))
             (sets out at (cond j [] (pending_bytes contig held pending)))
             waiting new d₀ bytes records
             (cond j (record { pending = joined_to pending loc.end; at = at; count = count })
             (record {
-              pending = Block loc base (length fresh);
+              pending = std.Some (record { loc = loc; letter = letter; len = length fresh });
               at = behind_pending contig held pending at;
               count = pending_count pending count;
             }))
@@ -167,19 +167,19 @@ module _ (samples : ℕ) (contig held : List ℕ) (d₀ bytes : List ℕ) (recor
   -- ---- another record
 
   module _ (lines : List ℕ) (new : Record) (o : OtherRecord lines new) where
-    done_turned : (pending : Pending) (waiting : Option Record) → Holds samples contig held pending waiting
+    done_turned : (pending : std.Option PendingBlock) (waiting : Option Record) → Holds samples contig held pending waiting
         → (done : List Record) (m : Checked Record) (c : Checked (List Record)) → m ≡ accepted new
         → finish done waiting (and_later m c) ≡ finish (done ++ (of_option waiting ++ (new ∷ []))) none c
     unfolding Holds of_option
-    done_turned Nothing waiting h done m c k = rw h (turn_done done m c k o.not_block)
-    done_turned (Block l own len) waiting (q, e, h) done m c k = rw e (turn_both_done done m c q k o.not_block)
+    done_turned std.None waiting h done m c k = rw h (turn_done done m c k o.not_block)
+    done_turned (std.Some block) waiting (q, e, h) done m c k = rw e (turn_both_done done m c q k o.not_block)
 
-    step_other : (pending : Pending) (waiting : Option Record) → Holds samples contig held pending waiting
+    step_other : (pending : std.Option PendingBlock) (waiting : Option Record) → Holds samples contig held pending waiting
         → (out middle out' : List ℕ) (at count r end : ℕ) → Progress d₀ bytes records out at count
         → Laid out at (pending_bytes contig held pending) middle r
         → Laid middle (min limit r) lines out' end
         → StepTo samples contig held out' waiting new d₀ bytes records
-        (record { pending = Nothing; at = min limit end; count = min most_count (pending_count pending count + 1) })
+        (record { pending = std.None; at = min limit end; count = min most_count (pending_count pending count + 1) })
     unfolding Holds
     step_other pending waiting h out middle out' at count r end p laid laid-new =
         let q = laid_pending pending waiting h p laid in
@@ -206,7 +206,7 @@ module _ (samples : ℕ) (contig held : List ℕ) (d₀ bytes : List ℕ) (recor
         one_more = omega (arith, length-append (of_option waiting) (new ∷ []))
 
     -- the lines of such a record, laid behind what `lay_pending` leaves, are such a step
-    pub record_step : (pending : Pending) (waiting : Option Record) → Holds samples contig held pending waiting
+    pub record_step : (pending : std.Option PendingBlock) (waiting : Option Record) → Holds samples contig held pending waiting
         → (out : List ℕ) (at count : ℕ) → Progress d₀ bytes records out at count
         → (before r : Stepped) → before ≡ pending_laid contig held pending at count → r ≡ record_stepped before.at lines before.count
         → (middle out' : List ℕ) → middle ≡ sets out at (pending_bytes contig held pending) → out' ≡ sets middle before.at lines

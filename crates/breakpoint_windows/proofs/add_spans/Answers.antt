@@ -96,12 +96,12 @@ module _ {clip contig : List ℕ} {past : ℕ} {places₀ : List ℕ} {taken : T
 pub loop-at-init : goal.loop-at-init
 loop-at-init c = start _ _ c.requires.ready
 
-pub shape_of-places-in-None : goal.shape_of-places-in-None
-shape_of-places-in-None c = c.loop-at.invariant.long
+pub shape_of-places-in_default : goal.shape_of-places-in_default
+shape_of-places-in_default c = c.loop-at.invariant.long
 
-pub returns-in-None : goal.returns-in-None
+pub returns-in_default : goal.returns-in_default
 unfolding SpanRead
-returns-in-None c = faulty c.loop-at.invariant (rw c.in-None.is at c.span_at.ensures)
+returns-in_default c = faulty c.loop-at.invariant (rw c.in_default.is at c.span_at.ensures)
 
 pub add_span-now-requires : goal.add_span-now-requires
 unfolding SpanRead span_gives span_places

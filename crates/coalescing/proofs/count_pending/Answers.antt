@@ -3,10 +3,10 @@ use borrow.Author.Rules.{rules}
 use Rattle.coalescing.specs.Held.{pending_count}
 use Rattle.coalescing.proofs.count_pending.Goals as goal
 
-pub returns-in_default : goal.returns-in_default
+pub returns-in-Some : goal.returns-in-Some
 unfolding pending_count
-returns-in_default c = rw c.in_default.is
+returns-in-Some c = rw c.in-Some.is c.count_more.ensures
 
-pub returns : goal.returns
+pub returns-in-None : goal.returns-in-None
 unfolding pending_count
-returns c = rw c.in-Block.is c.count_more.ensures
+returns-in-None c = rw c.in-None.is

@@ -7,16 +7,16 @@ use Rattle.kv_write.proofs.Laying.{laid_none}
 use Rattle.coalescing.proofs.put_pending.Goals as goal
 
 pub put_record_head-next-requires : goal.put_record_head-next-requires
-put_record_head-next-requires c = block_head_fits _ _ _ _ _ _ (rw c.in-Block.is at c.requires)
+put_record_head-next-requires c = block_head_fits _ _ _ _ (rw c.in-Some.is at c.requires)
 
 pub put_bytes-requires : goal.put_bytes-requires
-put_bytes-requires c = rw (c.part-lines.ensures, sub-zero) (block_lines_fit _ _ _ _ _ _ (rw c.in-Block.is at c.requires) c.put_record_head-next.ensures)
+put_bytes-requires c = rw (c.part-lines.ensures, sub-zero) (block_lines_fit _ _ _ _ (rw c.in-Some.is at c.requires) c.put_record_head-next.ensures)
 
-pub returns-in-Nothing : goal.returns-in-Nothing
+pub returns-in_default : goal.returns-in_default
 unfolding pending_bytes
-returns-in-Nothing c = rw c.in-Nothing.is laid_none
+returns-in_default c = rw c.in_default.is laid_none
 
-pub returns-in-Block : goal.returns-in-Block
-returns-in-Block c = rw c.in-Block.is
-    (block_laid _ _ _ _ _ _ (rw c.in-Block.is at c.requires) c.put_record_head-next.ensures
+pub returns : goal.returns
+returns c = rw c.in-Some.is
+    (block_laid _ _ _ _ (rw c.in-Some.is at c.requires) c.put_record_head-next.ensures
     (rw (c.part-lines.ensures, sub-zero) at c.put_bytes.ensures))

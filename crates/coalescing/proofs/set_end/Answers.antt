@@ -1,12 +1,12 @@
--- Variant by variant.
+-- Nothing stays nothing.
 use borrow.Author.Rules.{rules}
 use Rattle.coalescing.specs.Held.{joined_to}
 use Rattle.coalescing.proofs.set_end.Goals as goal
 
-pub returns-in-Nothing : goal.returns-in-Nothing
+pub returns-in_err-block : goal.returns-in_err-block
 unfolding joined_to
-returns-in-Nothing c = rw c.in-Nothing.is
+returns-in_err-block c = search rules
 
-pub returns-in-Block : goal.returns-in-Block
+pub returns : goal.returns
 unfolding joined_to
-returns-in-Block c = rw c.in-Block.is
+returns c = search rules

@@ -1,6 +1,7 @@
 -- Window by window.
 use Prim.Native.Nat.{◌+◌, ℕ}
 use borrow.Author.Rules.{rules}
+use borrow.Author.Tests.{not-false, not-true}
 use lib.Dec.{ltb}
 use lib.ListN.{length}
 use mathlib.Core.Bool.{Bool, cond, false}
@@ -38,7 +39,7 @@ unfolding count_ready contig_window
 loop-along-smaller c = let found = c.next_breakpoints-window.ensures in
     let ready = c.requires.0 in
     let counted = c.count_window-along.ensures (count_ready ready (c.loop-along.invariant.so_far ready) found) in
-    fewer_left ready.points found counted.there ?
+    fewer_left ready.points found counted.there (not-false c.if-not-window.false)
 
 pub loop-along-preserved : goal.loop-along-preserved
 unfolding count_ready
@@ -48,3 +49,10 @@ loop-along-preserved c = let found = c.next_breakpoints-window.ensures in
       scratch-long = found.long ∙ inv.scratch-long;
       so_far = λ ready. (c.count_window-along.ensures (count_ready ready (inv.so_far ready) found)).so_far;
     }
+
+pub returns-then-not-window : goal.returns-then-not-window
+unfolding count_ready
+returns-then-not-window c = λ ready.
+    let found = c.next_breakpoints-window.ensures in
+    let counted = c.count_window-along.ensures (count_ready ready (c.loop-along.invariant.so_far ready) found) in
+    so_far_end ready counted.so_far (none_left ready.points found counted.there (not-true c.if-not-window.true))
