@@ -12,8 +12,8 @@ use native.Mathlib.Nat.{zero-add}
 use native.Mathlib.Omega.{arith}
 use Rattle.coalescing.specs.Held.{HeldBlock}
 use Rattle.coalescing.specs.Steps.{OtherRecord, record_stepped}
-use Rattle.coalescing.specs.declared.Pending.{Pending}
-use Rattle.coalescing.specs.declared.Pending.TheVariants.{Nothing}
+use Rattle.bio_ids.specs.declared.GenomeLoc.{GenomeLoc}
+use Rattle.coalescing.specs.declared.PendingBlock.{PendingBlock}
 use Rattle.coalescing.specs.declared.Stepped.{Stepped}
 use Rattle.definitions.specs.Alleles.{capital, is_block, only_non_ref, written_alleles}
 use Rattle.definitions.specs.Bytes.{comma, fields_of, text}
@@ -47,6 +47,7 @@ use Rattle.sample_alleles.specs.Readings.{alleles_in}
 use Rattle.tables.specs.Tables.{site_at}
 use Rattle.contig_walk.proofs.OwnRows.{own_data, own_enough, own_sound}
 use Rattle.contig_walk.specs.Laying.{LayReady, laid_record}
+use Rattle.std.specs.Prelude as std
 
 and_true : (b : Bool) → b && true ≡ b
 and_true true = refl
@@ -60,7 +61,7 @@ only_letter (a ∷ b ∷ l) e = absurd (omega arith)
 
 -- where the list goes on and how many records it has, behind a record
 pub record_counted : (at count : ℕ) (lines : List ℕ) {end at' count' : ℕ} → end ≡ at + length lines → at' ≡ min limit end → count' ≡ min most_count (count + 1)
-    → ◌≡◌ {A = Stepped} (record { pending = Nothing; at = at'; count = count' }) (record_stepped at lines count)
+    → ◌≡◌ {A = Stepped} (record { pending = std.None; at = at'; count = count' }) (record_stepped at lines count)
 unfolding record_stepped
 record_counted at count lines e a c = rw (a, e, c)
 
@@ -74,7 +75,7 @@ contig_named {s} {rows} on =
     rw on.name (every_member {a = on.first} (numbers_member 0 (length sites) (omega arith) (omega (arith, on.known))) all).contig
 
 module _ {s rows : List ℕ} {samples : ℕ} {contig : List ℕ} {first last : ℕ} {allele : List ℕ} {number : ℕ} {own alts : List ℕ}
-    {pending : Pending} {held fresh : List ℕ} {at : ℕ}
+    {pending : std.Option PendingBlock} {held fresh : List ℕ} {at : ℕ}
     (r : LayReady s rows samples contig first last allele number own alts pending held fresh at) where
   -- ---- the ALTs
 
@@ -130,11 +131,11 @@ module _ {s rows : List ℕ} {samples : ℕ} {contig : List ℕ} {first last : �
     pub one_letter : length allele ≡ 1
     one_letter = sym (length-map allele capital) ∙ ap length r.allele_is ∙ (block_is (laid_record r).alleles block).1
 
-    derived : Every (Derived 2) (record_data r.on first r.to)
+    pub derived : Every (Derived 2) (record_data r.on first r.to)
     derived = subst (λ (k : ℕ). Every (Derived (suc k)) (record_data r.on first r.to)) one_alt
         (all_data_derived _ _ first (covering r.on first) samples (sites_are_sound r.on first r.to))
 
-    samples_count : length (record_data r.on first r.to) ≡ samples
+    pub samples_count : length (record_data r.on first r.to) ≡ samples
     samples_count = length-map (numbers_from 0 samples) _ ∙ length_numbers 0 samples
 
     pub lines_few : length (flat_map printed_sample_data (record_data r.on first r.to)) ≤ 8192
@@ -161,22 +162,6 @@ module _ {s rows : List ℕ} {samples : ℕ} {contig : List ℕ} {first last : �
           exact = sym (length-take-le len after within);
           lines = rw front (take_at _ _ len (sym count));
         }
-
-    pub new_block : (base : ℕ) → base ≡ capital (get_or allele 0 0)
-        → (lines : List ℕ) → lines ≡ flat_map printed_sample_data (record_data r.on first r.to)
-        → HeldBlock samples contig lines first last base (length lines) (laid_record r)
-    new_block base b lines e = record {
-      values = record_data r.on first r.to;
-      record_is =
-          block_record_lem contig (record { first = first; last = last }) (record_alleles r.on first r.to) (record_data r.on first r.to) block
-          ∙ ap (λ (ref : List ℕ). block_record contig first last ref (record_data r.on first r.to))
-          (sym r.allele_is ∙ ap (map capital) (only_letter allele one_letter) ∙ ap (λ (c : ℕ). c ∷ []) (sym b));
-      derived = derived;
-      all_samples = samples_count;
-      printed = take-length lines ∙ e;
-      ordered = r.ordered;
-      in_range_lem = r.in_range_lem;
-    }
 
   -- ---- another record
 
@@ -222,3 +207,25 @@ module _ {s rows : List ℕ} {samples : ℕ} {contig : List ℕ} {first last : �
 
       end_short : length (written_or_missing decimal (end_from first first)) ≤ 10
       end_short = rw (le-ltb first first (omega arith)) (omega arith)
+
+-- a block as it is held back
+pub new_block : {s rows : List ℕ} {samples : ℕ} {contig : List ℕ} (loc : GenomeLoc) {allele : List ℕ} {number : ℕ} {own alts : List ℕ}
+    {pending : std.Option PendingBlock} {held fresh : List ℕ} {at : ℕ}
+    (r : LayReady s rows samples contig loc.start.0 loc.end.0 allele number own alts pending held fresh at)
+    → is_block (laid_record r).alleles ≡ true → (letter : ℕ) → letter ≡ capital (get_or allele 0 0)
+    → (lines : List ℕ) → lines ≡ flat_map printed_sample_data (record_data r.on loc.start.0 r.to)
+    → HeldBlock samples contig lines (record { loc = loc; letter = letter; len = length lines }) (laid_record r)
+new_block {contig = contig} loc {allele = allele} r block letter b lines e =
+    let data = record_data r.on loc.start.0 r.to in
+    record {
+      values = data;
+      record_is =
+          block_record_lem contig (record { first = loc.start.0; last = loc.end.0 }) (record_alleles r.on loc.start.0 r.to) data block
+          ∙ ap (λ (ref : List ℕ). block_record contig loc.start.0 loc.end.0 ref data)
+          (sym r.allele_is ∙ ap (map capital) (only_letter allele (one_letter r block)) ∙ ap (λ (c : ℕ). c ∷ []) (sym b));
+      derived = derived r block;
+      all_samples = samples_count r block;
+      printed = take-length lines ∙ e;
+      ordered = r.ordered;
+      in_range_lem = r.in_range_lem;
+    }

@@ -11,7 +11,9 @@ use native.Mathlib.Nat.{add-zero, sub-zero}
 use native.Mathlib.Omega.{arith}
 use Rattle.coalescing.specs.Held.{Holds}
 use Rattle.coalescing.specs.Steps.{Progress, StepTo}
-use Rattle.coalescing.specs.declared.Pending.{Pending}
+use Rattle.answers.specs.Answered.{row_of}
+use Rattle.answers.specs.declared.Refusal.{Refusal}
+use Rattle.coalescing.specs.declared.PendingBlock.{PendingBlock}
 use Rattle.coalescing.specs.declared.Stepped.{Stepped}
 use Rattle.definitions.specs.Alleles.{capital}
 use Rattle.definitions.specs.Checked.{Checked, refused}
@@ -29,7 +31,7 @@ use Rattle.record_laws.proofs.Walking.{with_interval}
 use Rattle.record_laws.specs.Pending.{and_later}
 use Rattle.tables.specs.Tables.{column, site_at}
 use Rattle.contig_walk.specs.Laying.{LayReady, TurnReady, Turns, laid_record, own_of}
-use Rattle.contig_walk.specs.declared.Turned.TheVariants as turned
+use Rattle.std.specs.Prelude as std
 
 -- as many as were found are there
 pub front_within : {n : ℕ} (l : List ℕ) → n ≡ length (take n l) → n ≤ length l
@@ -42,12 +44,12 @@ text_front t alts len e = e ∙ rw (sub-zero len)
 -- ---- a turn
 
 -- nothing changes
-pub unchanged : (x : Input) (samples : ℕ) (contig : List ℕ) (first last : ℕ) (pending : Pending) (held : List ℕ) (at : ℕ)
+pub unchanged : (x : Input) (samples : ℕ) (contig : List ℕ) (first last : ℕ) (pending : std.Option PendingBlock) (held : List ℕ) (at : ℕ)
     (waiting : Option Record) (d₀ bytes : List ℕ) (records : ℕ) → Holds samples contig held pending waiting
     → (out : List ℕ) (count : ℕ) → Progress d₀ bytes records out at count
     → ((later : Checked (List Record)) → with_interval x contig (record { first = first; last = last }) later ≡ later)
     → Turns x samples contig held out first last waiting d₀ bytes records
-    (turned.To (record { pending = pending; at = at; count = count }))
+    (std.Ok (record { pending = pending; at = at; count = count }))
 unfolding Turns flat_map
 unchanged x samples contig first last pending held at waiting d₀ bytes records h out count p same = record {
   laid = [];
@@ -58,7 +60,7 @@ unchanged x samples contig first last pending held at waiting d₀ bytes records
 }
 
 module _ {s rows : List ℕ} {samples : ℕ} {referenced : Bool} {reference contig chosen from bounds : List ℕ}
-    {first last : ℕ} {pending : Pending} {held fresh found₀ owners₀ alts₀ : List ℕ} {at : ℕ}
+    {first last : ℕ} {pending : std.Option PendingBlock} {held fresh found₀ owners₀ alts₀ : List ℕ} {at : ℕ}
     (ready : TurnReady s rows samples referenced reference contig chosen from bounds first last pending held fresh found₀ owners₀ alts₀ at) where
   abbrev on : OnContig s rows samples referenced reference contig
   on = ready.runs.on
@@ -129,7 +131,7 @@ module _ {s rows : List ℕ} {samples : ℕ} {referenced : Bool} {reference cont
         }
 
 module _ {s rows : List ℕ} {samples : ℕ} {referenced : Bool} {reference contig chosen from bounds : List ℕ}
-    {first last : ℕ} {pending : Pending} {held fresh found₀ owners₀ alts₀ : List ℕ} {at : ℕ}
+    {first last : ℕ} {pending : std.Option PendingBlock} {held fresh found₀ owners₀ alts₀ : List ℕ} {at : ℕ}
     (ready : TurnReady s rows samples referenced reference contig chosen from bounds first last pending held fresh found₀ owners₀ alts₀ at)
     (waiting : Option Record) (d₀ bytes : List ℕ) (records : ℕ)
     (h : Holds samples contig held pending waiting) where
@@ -138,28 +140,28 @@ module _ {s rows : List ℕ} {samples : ℕ} {referenced : Bool} {reference cont
 
   pub turn_bare : covering on' first ≡ [] → (out : List ℕ) (count : ℕ) → Progress d₀ bytes records out at count
       → Turns on'.loaded.input samples contig held out first last waiting d₀ bytes records
-      (turned.To (record { pending = pending; at = at; count = count }))
+      (std.Ok (record { pending = pending; at = at; count = count }))
   unfolding with_interval
   turn_bare e out count p =
       unchanged on'.loaded.input samples contig first last pending held at waiting d₀ bytes records h out count p
       (λ later. rw (ready.inside, e))
 
   -- a position without sites has no record to refuse
-  pub turn_none : (row : ℕ) → 0 < length (covering on' first)
-      → ((last : ℕ) → interval_record on'.loaded.input contig (record { first = first; last = last }) ≡ refused row)
+  pub turn_none : (refusal : Refusal) → 0 < length (covering on' first)
+      → ((last : ℕ) → interval_record on'.loaded.input contig (record { first = first; last = last }) ≡ refused (row_of refusal))
       → (out : List ℕ) → out ≡ sets d₀ 0 bytes
-      → Turns on'.loaded.input samples contig held out first last waiting d₀ bytes records (turned.Refused row)
+      → Turns on'.loaded.input samples contig held out first last waiting d₀ bytes records (std.Err refusal)
   unfolding Turns
-  turn_none row some_site e out same = record {
+  turn_none refusal some_site e out same = record {
     unlaid = same;
-    refuses = λ done later. rw (has_record ready some_site later) (turn_refused done _ later waiting row (e last));
+    refuses = λ done later. rw (has_record ready some_site later) (turn_refused done _ later waiting (row_of refusal) (e last));
   }
 
   module _ (found alts : List ℕ) (n : ℕ) (place : RefAt) (len number : ℕ) (to : RecordTo on' first (take n found) alts n place len number) where
     pub turn_laid : (text : List ℕ) (e : text ≡ between alts 0 len) (own : List ℕ) (o : own ≡ own_of rows (take n found))
         (allele : List ℕ) (a : map capital allele ≡ record_ref on' first to) (held' out : List ℕ) (step : Stepped)
         → StepTo samples contig held' out waiting (laid_record (lay_ready ready found alts n place len number to text e own o allele a)) d₀ bytes records step
-        → Turns on'.loaded.input samples contig held' out first last waiting d₀ bytes records (turned.To step)
+        → Turns on'.loaded.input samples contig held' out first last waiting d₀ bytes records (std.Ok step)
     unfolding Turns lay_ready
     turn_laid text e own o allele a held' out step t = record {
       laid = t.laid;

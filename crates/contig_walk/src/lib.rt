@@ -48,12 +48,11 @@ fn lay_block(
     let len = record_lines::merge_genotypes(
         s, rows, samples, own, loc.start, allele, alts, fresh, 0,
     );
-    let letter = allele[0];
-    let capital = kv_text::capital(letter);
+    let letter = kv_text::capital(allele[0]);
     coalescing::coalesce_homref_blocks(
         contig,
         loc,
-        capital,
+        letter,
         &fresh[..len],
         pending,
         held,

@@ -16,8 +16,9 @@ pub fn put_header(s: &[u8], names: &[usize], samples: usize, records: u32, out: 
         out.new result }
 {
     let mut next = kv_write::put_number_line(out, 0, b"samples=", samples as u32);
-    for pair in names[..2 * samples].chunks_exact(2) {
-        let name = tables::part(s, pair[0], pair[1]);
+    let (parts, _) = names.as_chunks::<2>();
+    for part in &parts[..samples] {
+        let name = tables::part(s, part[0], part[1]);
         next = kv_write::put_line(out, next, b"sample=", name);
     }
     kv_write::put_number_line(out, next, b"records=", records)

@@ -1,8 +1,9 @@
 -- Test by test.
 use borrow.Author.Rules.{rules}
-use borrow.Author.Tests.{eqb-false, eqb-true}
+use borrow.Author.Tests.{eq-eqb, eqb-false, eqb-true}
+use mathlib.Core.Bool.{not}
 use Prim.Native.Nat.{◌-◌}
-use mathlib.Core.Path.{◌∙◌, ◌≡◌, sym}
+use mathlib.Core.Path.{◌∙◌, ◌≡◌, ap, sym}
 use native.Mathlib.Omega.{arith}
 use Rattle.coalescing.proofs.Touching.{at_zero, not_touching, other_ref, same_ref}
 use Rattle.coalescing.specs.Held.{joins_pending}
@@ -21,9 +22,9 @@ returns-then-block-letter c = elim c.if-first-get.branch [
       let touches = eqb-true _ _ (sym v.value-is ∙ w.if-first-get.true) in
       let agrees = eqb-true _ _ (sym w.value-is ∙ c.if-block-letter.true) in
       c.samples_pl_ad_eq.ensures ∙ rw c.in-Some.is (same_ref _ _ _ _ _ (λ e. omega arith) (omega arith) agrees)
-    | else-first-ne0 v ↦ clash w.if-first-get.true v.value-is
+    | else-first-ne0 v ↦ clash w.if-first-get.true (v.value-is ∙ ap not (eq-eqb _ _ (omega arith)))
   ]
-  | else-first-get w ↦ clash c.if-block-letter.true w.value-is
+  | else-first-get w ↦ clash c.if-block-letter.true (w.value-is ∙ w.if-first-get.false)
 ]
 
 pub returns-else-block-letter : goal.returns-else-block-letter

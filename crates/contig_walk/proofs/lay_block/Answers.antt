@@ -31,5 +31,6 @@ pub returns : goal.returns
 returns c = λ ready block way.
     let f = fresh_lines ready block _ _ c.merge_genotypes-len.ensures in
     block_step _ _ _ way.begun.d₀ way.begun.bytes way.begun.records _ _ _
-    (laid_record ready) (new_block ready block _ c.capital-base.ensures _ f.lines) _ way.waiting way.holds
-    (omega (arith, ap length f.lines, ready.room, lines_few ready block)) _ _ _ way.begun.progress _ _ _ c.coalesce_homref_blocks.ensures.step c.coalesce_homref_blocks.ensures.laid c.coalesce_homref_blocks.ensures.lines
+    (laid_record ready) (new_block c.args.loc ready block _ c.capital-letter.ensures _ f.lines) _ way.waiting way.holds
+    (omega (arith, ap length f.lines, ready.room, lines_few ready block)) _ _ _ way.begun.progress _ _ _
+    c.coalesce_homref_blocks.ensures.step c.coalesce_homref_blocks.ensures.laid c.coalesce_homref_blocks.ensures.lines

@@ -23,4 +23,5 @@ returns c = λ ready way.
     let other = by_numbers ready ∙ sym c.is_homref_nonref_only.ensures ∙ c.if-is_homref_nonref_only.false in
     record_step _ _ _ way.begun.d₀ way.begun.bytes way.begun.records _
     (laid_record ready) (other_record ready other) _ way.waiting way.holds
-    _ _ _ way.begun.progress _ _ c.lay_pending-before.ensures.step c.lay_behind.ensures.step _ _ c.lay_pending-before.ensures.laid c.lay_behind.ensures.laid
+    _ _ _ way.begun.progress _ _ c.lay_pending-before.ensures.step c.lay_behind.ensures.step
+    _ _ c.lay_pending-before.ensures.laid c.lay_behind.ensures.laid

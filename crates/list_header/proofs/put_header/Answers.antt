@@ -10,7 +10,7 @@ use Rattle.definitions.specs.Lines.{key_of}
 use Rattle.definitions.specs.Numbers.{decimal}
 use Rattle.kv_write.proofs.Laying.{Left, fits_first, fits_rest, laid_append, last, left_length, recast, room, several, start}
 use Rattle.kv_write.specs.Keyed.{keyed}
-use Rattle.list_header.proofs.HeaderLines.{header_fits, lines_end, lines_next, lines_start, lines_from}
+use Rattle.list_header.proofs.HeaderLines.{header_fits, lines_end, lines_next, lines_start, lines_from, pair_name, pairs_length}
 use Rattle.list_header.specs.HeaderNames.{HeaderNames}
 use Rattle.tables.specs.Tables.{name_at}
 use Rattle.list_header.proofs.put_header.Goals as goal
@@ -37,64 +37,43 @@ put_number_line-next-requires c = let pre = c.requires in
     let fits = whole-fits _ _ _ c.args.records pre (omega arith) in
     fits_first _ (keyed (key_of "samples") (decimal _)) _ fits
 
-pub loop-i-init : goal.loop-i-init
+pub loop-part-init : goal.loop-part-init
 unfolding key_of text
-loop-i-init c = let pre = c.requires in
+loop-part-init c = let pre = c.requires in
     let fits = whole-fits _ _ _ c.args.records pre (omega arith) in
     start (fits_rest _ c.put_number_line-next.ensures fits)
 
-pub overflow_mul-from : goal.overflow_mul-from
-overflow_mul-from c = omega arith
-
-pub offset_bounds-names-i : goal.offset_bounds-names-i
-offset_bounds-names-i c = omega arith
-
-pub bounds-names-i : goal.bounds-names-i
-bounds-names-i c = omega arith
-
-pub overflow_mul-to : goal.overflow_mul-to
-overflow_mul-to c = omega arith
-
-pub overflow_add-to : goal.overflow_add-to
-overflow_add-to c = omega arith
-
-pub offset_bounds-names-i-in-loop-i : goal.offset_bounds-names-i-in-loop-i
-offset_bounds-names-i-in-loop-i c = omega arith
-
-pub bounds-names-i-in-loop-i : goal.bounds-names-i-in-loop-i
-bounds-names-i-in-loop-i c = omega arith
-
 pub put_line-next-requires : goal.put_line-next-requires
-unfolding key_of text name_at
-put_line-next-requires c = let here = c.part-name.ensures in
-    let below = c.loop-i-test.true in
-    fits-name _ _ _ _ _ _ here below c.loop-i.invariant
+unfolding key_of text
+put_line-next-requires c =
+    let count = pairs_length c.args.s.now _ _ _ c.as_chunks.ensures.front c.as_chunks.ensures.front_len c.requires.in_table in
+    let below : c.loop-part.part-index < c.args.samples = omega (arith, count, c.loop-part-test.true) in
+    let here = c.part-name.ensures ∙ pair_name _ _ _ _ c.as_chunks.ensures.front c.as_chunks.ensures.front_len c.requires.in_table _ _ below in
+    fits-name _ _ _ _ _ _ here below c.loop-part.invariant
 
-pub overflow_step-i : goal.overflow_step-i
-overflow_step-i c = omega arith
-
-pub loop-i-smaller : goal.loop-i-smaller
-loop-i-smaller c = omega arith
-
-pub loop-i-preserved : goal.loop-i-preserved
-unfolding key_of text name_at
-loop-i-preserved c = let here = c.part-name.ensures in
-    let below = c.loop-i-test.true in
-    let inv = c.loop-i.invariant in
-    several c.put_line-next.ensures (recast (lines_next _ _ _ _ _ _ here below) inv)
+pub loop-part-preserved : goal.loop-part-preserved
+unfolding key_of text
+loop-part-preserved c =
+    let count = pairs_length c.args.s.now _ _ _ c.as_chunks.ensures.front c.as_chunks.ensures.front_len c.requires.in_table in
+    let below : c.loop-part.part-index < c.args.samples = omega (arith, count, c.loop-part-test.true) in
+    let here = c.part-name.ensures ∙ pair_name _ _ _ _ c.as_chunks.ensures.front c.as_chunks.ensures.front_len c.requires.in_table _ _ below in
+    several c.put_line-next.ensures (recast (lines_next _ _ _ _ _ _ here below) c.loop-part.invariant)
 
 pub put_number_line-requires : goal.put_number_line-requires
 unfolding key_of text
-put_number_line-requires c = (recast (lines_end _ _ _ _ _ c.loop-i-test.false) c.loop-i.invariant).fits
+put_number_line-requires c =
+    let count = pairs_length c.args.s.now _ _ _ c.as_chunks.ensures.front c.as_chunks.ensures.front_len c.requires.in_table in
+    (recast (lines_end _ _ _ _ _ (omega (arith, count, c.loop-part-test.false))) c.loop-part.invariant).fits
 
 pub shape_of-out : goal.shape_of-out
 shape_of-out c = c.put_number_line.auto.out
-    ∙ left_length c.loop-i.invariant
+    ∙ left_length c.loop-part.invariant
     ∙ c.put_number_line-next.auto.out
 
 pub returns : goal.returns
 unfolding key_of text
 returns c = let first = c.put_number_line-next.ensures in
-    let inv = c.loop-i.invariant in
-    let left = recast (lines_end _ _ _ _ _ c.loop-i-test.false) inv in
+    let inv = c.loop-part.invariant in
+    let count = pairs_length c.args.s.now _ _ _ c.as_chunks.ensures.front c.as_chunks.ensures.front_len c.requires.in_table in
+    let left = recast (lines_end _ _ _ _ _ (omega (arith, count, c.loop-part-test.false))) inv in
     rw lines_start (laid_append first (last c.put_number_line.ensures left))

@@ -15,8 +15,5 @@ use Rattle.list_header.specs.HeaderNames.{HeaderNames}
 use Rattle.tables.specs.Tables.{name_at}
 use Rattle.list_header.proofs.put_header.Given as goal
 
-abbrev pub invariant-loop-i : goal.invariant-loop-i
-invariant-loop-i l = Left l.initial.out l.initial.next (lines_from l.s l.names l.samples l.records 0) l.out l.next (lines_from l.s l.names l.samples l.records l.i)
-
-abbrev pub decreases-loop-i : goal.decreases-loop-i
-decreases-loop-i l = l.samples - l.i
+abbrev pub invariant-loop-part : goal.invariant-loop-part
+invariant-loop-part l = Left l.initial.out l.initial.next (lines_from l.s l.names l.samples l.records 0) l.out l.next (lines_from l.s l.names l.samples l.records l.part-index)
