@@ -1,5 +1,4 @@
 -- The first line, then the `sample` lines behind it.
-use borrow.Author.Rules.{rules}
 use native.Mathlib.Omega.{arith}
 use Rattle.std.proofs.lemmas.Result.{err_from_is_err_and}
 use Rattle.sample_names.proofs.Lines.{header_read, header_refused}

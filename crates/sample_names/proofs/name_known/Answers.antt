@@ -1,12 +1,8 @@
 -- The loop's invariant: a name is known if it is among those from here on.
-use Prim.Native.Nat.{◌-◌}
-use borrow.Author.Rules.{rules}
-use mathlib.Core.Path.{◌∙◌, ◌≡◌, sym}
+use mathlib.Core.Path.{◌∙◌, sym}
 use native.Mathlib.Omega.{arith}
-use Rattle.definitions.specs.Bytes.{same_bytes}
-use Rattle.definitions.specs.Lists.{any_of}
-use Rattle.sample_names.proofs.Names.{any_end, any_here, any_next, any_start, any_from}
-use Rattle.tables.specs.Tables.{name_at, names_in}
+use Rattle.sample_names.proofs.Names.{any_end, any_here, any_next, any_start}
+use Rattle.tables.specs.Tables.{name_at}
 use Rattle.sample_names.proofs.name_known.Goals as goal
 
 pub loop-i-init : goal.loop-i-init

@@ -1,12 +1,10 @@
 -- The loop's invariant: a name is known if it is among those from here on.
 use Prim.Native.Nat.{◌-◌}
-use borrow.Author.Rules.{rules}
-use mathlib.Core.Path.{◌∙◌, ◌≡◌, sym}
-use native.Mathlib.Omega.{arith}
+use mathlib.Core.Path.{◌≡◌}
 use Rattle.definitions.specs.Bytes.{same_bytes}
 use Rattle.definitions.specs.Lists.{any_of}
-use Rattle.sample_names.proofs.Names.{any_end, any_here, any_next, any_start, any_from}
-use Rattle.tables.specs.Tables.{name_at, names_in}
+use Rattle.sample_names.proofs.Names.{any_from}
+use Rattle.tables.specs.Tables.{names_in}
 use Rattle.sample_names.proofs.name_known.Given as goal
 
 abbrev pub invariant-loop-i : goal.invariant-loop-i

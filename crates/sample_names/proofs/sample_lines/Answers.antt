@@ -1,10 +1,7 @@
 -- The loop's invariant: all lines give the names of the table and then those of the lines left.
-use Prim.Native.Nat.{◌-◌}
-use borrow.Author.Rules.{rules}
-use lib.Seq.{lt-length-set}
 use native.Mathlib.Omega.{arith}
 use Rattle.std.proofs.lemmas.Result.{err_from_is_err_and}
-use Rattle.sample_names.proofs.Lines.{Turn, turn_end, turn_next, turn_refused, turn_start}
+use Rattle.sample_names.proofs.Lines.{turn_end, turn_next, turn_refused, turn_start}
 use Rattle.sample_names.specs.Header.{NamesRead, SampleRead}
 use Rattle.sample_names.proofs.sample_lines.Goals as goal
 

@@ -1,10 +1,5 @@
 -- The loop's invariant: all lines give the names of the table and then those of the lines left.
-use Prim.Native.Nat.{◌-◌}
-use borrow.Author.Rules.{rules}
-use lib.Seq.{lt-length-set}
-use native.Mathlib.Omega.{arith}
-use Rattle.sample_names.proofs.Lines.{Turn, turn_end, turn_next, turn_refused, turn_start}
-use Rattle.sample_names.specs.Header.{NamesRead, SampleRead}
+use Rattle.sample_names.proofs.Lines.{Turn}
 use Rattle.sample_names.proofs.sample_lines.Given as goal
 
 abbrev pub invariant-loop-i : goal.invariant-loop-i
