@@ -15,15 +15,10 @@ fn name_known(s: &[u8], names: &[usize], count: usize, name: &[u8]) -> bool
     requires { 2 * count ≤ length names.now }
     ensures { result ≡ any_of (same_bytes name.now) (names_in s.now names.now count) }
 {
-    for i in 0..count {
-        let from = names[2 * i];
-        let to = names[2 * i + 1];
-        let known = tables::part(s, from, to);
-        if kv_text::same_bytes(name, known) {
-            return true;
-        }
-    }
-    false
+    (0..count).any(|i| {
+        let known = tables::part(s, names[2 * i], names[2 * i + 1]);
+        kv_text::same_bytes(name, known)
+    })
 }
 
 // Where the name in the `sample` line at an offset stands, up to the line's LF; the first `count` names stand before it.

@@ -1,47 +1,36 @@
--- The loop's invariant: a name is known if it is among those from here on.
-use mathlib.Core.Path.{◌∙◌, sym}
+-- `any` tells whether one of the names, by their numbers, is the same.
+use Prim.Native.Nat.{◌-◌, suc, zero, ℕ}
+use borrow.Author.Rules.{rules}
+use borrow.Author.Tests.{tests}
+use mathlib.Core.Bool.{Bool, ◌||◌}
+use mathlib.Core.List.{List, [], ◌∷◌, map}
+use mathlib.Core.Path.{◌∙◌, ◌≡◌, ap, refl, sym}
+use native.Mathlib.Numerals.{add-one}
 use native.Mathlib.Omega.{arith}
-use Rattle.sample_names.proofs.Names.{any_end, any_here, any_next, any_start}
-use Rattle.tables.specs.Tables.{name_at}
+use Rattle.std.proofs.lemmas.Iterator.{YieldsList-from_range, cases_from_any}
+use Rattle.std.specs.List.{range_with_len}
+use Rattle.answers.proofs.Chains.{Fails, Passes, any_answer}
+use Rattle.definitions.specs.Bytes.{same_bytes}
+use Rattle.definitions.specs.Lists.{any_of, numbers_from}
+use Rattle.tables.specs.Tables.{name_at, names_in}
 use Rattle.sample_names.proofs.name_known.Goals as goal
 
-pub loop-i-init : goal.loop-i-init
-loop-i-init c = any_start _ _ _ _
+numbers : (first count : ℕ) → range_with_len first count ≡ numbers_from first count
+unfolding numbers_from
+numbers first zero = refl
+numbers first (suc n) = ap (λ (l : List ℕ). first ∷ l) (rw add-one (numbers (suc first) n))
 
-pub overflow_mul-from : goal.overflow_mul-from
-overflow_mul-from c = omega arith
-
-pub offset_bounds-names-i : goal.offset_bounds-names-i
-offset_bounds-names-i c = omega arith
-
-pub bounds-names-i : goal.bounds-names-i
-bounds-names-i c = omega arith
-
-pub overflow_mul-to : goal.overflow_mul-to
-overflow_mul-to c = omega arith
-
-pub overflow_add-to : goal.overflow_add-to
-overflow_add-to c = omega arith
-
-pub offset_bounds-names-i-in-loop-i : goal.offset_bounds-names-i-in-loop-i
-offset_bounds-names-i-in-loop-i c = omega arith
-
-pub bounds-names-i-in-loop-i : goal.bounds-names-i-in-loop-i
-bounds-names-i-in-loop-i c = omega arith
-
-pub returns-then-same_bytes : goal.returns-then-same_bytes
-unfolding name_at
-returns-then-same_bytes c = sym (c.loop-i.invariant ∙ any_here _ _ _ _ _ _ c.part-known.ensures c.loop-i-test.true (sym c.same_bytes.ensures ∙ c.if-same_bytes.true))
-
-pub overflow_step-i : goal.overflow_step-i
-overflow_step-i c = omega arith
-
-pub loop-i-smaller : goal.loop-i-smaller
-loop-i-smaller c = omega arith
-
-pub loop-i-preserved : goal.loop-i-preserved
-unfolding name_at
-loop-i-preserved c = c.loop-i.invariant ∙ any_next _ _ _ _ _ _ c.part-known.ensures c.loop-i-test.true (sym c.same_bytes.ensures ∙ c.if-same_bytes.false)
+any_map : {A : Type 0} (p : A → Bool) (f : ℕ → A) (l : List ℕ) → any_of (λ i. p (f i)) l ≡ any_of p (map f l)
+unfolding any_of
+any_map p f [] = refl
+any_map p f (i ∷ l) = ap (λ (b : Bool). p (f i) || b) (any_map p f l)
 
 pub returns : goal.returns
-returns c = sym (c.loop-i.invariant ∙ any_end _ _ _ _ _ c.loop-i-test.false)
+unfolding name_at names_in
+returns c =
+    let known : ℕ → Bool = λ i. same_bytes c.args.name.now (name_at c.args.s.now c.args.names.now i) in
+    any_answer known (range_with_len 0 c.args.count) c.any.result
+    (cases_from_any _ _ _ (Passes known) (Fails known) c.any.ensures.ran
+     (YieldsList-from_range 0 c.args.count c.args.count refl (omega arith)) (λ x q k. search (rules, tests)) (λ x q k. search (rules, tests)))
+    ∙ ap (any_of known) (numbers 0 c.args.count)
+    ∙ any_map (same_bytes c.args.name.now) (name_at c.args.s.now c.args.names.now) (numbers_from 0 c.args.count)
