@@ -117,10 +117,7 @@ fn put_alt(out: &mut [u8], at: usize, others: bool, dropped: bool, alt: &[u8]) -
 fn any_laid(others: bool, dropped: bool) -> bool
     ensures { result ≡ (others || not dropped) }
 {
-    if others {
-        return true;
-    }
-    !dropped
+    others || !dropped
 }
 
 // Lays the ALTs, given with commas, without `<NON_REF>`.

@@ -79,7 +79,8 @@ fn put_index_if(wanted: bool, map: &mut [u8], place: usize, index: AlleleIndex)
     ensures { map.new ≡ cond wanted (set map.old place index.0) map.old }
 {
     if wanted {
-        slices::store(map, place, index.get() as u8);
+        let byte = index.get() as u8;
+        slices::store(map, place, byte);
     }
 }
 
@@ -87,8 +88,9 @@ fn put_index_if(wanted: bool, map: &mut [u8], place: usize, index: AlleleIndex)
 fn put_absent(index: AlleleIndex, count: usize, map: &mut [u8])
     ensures { map.new ≡ sets map.old 1 (each_of (λ _. index.0) count) }
 {
+    let byte = index.get() as u8;
     for i in 0..count {
-        slices::store(map, i + 1, index.get() as u8);
+        slices::store(map, i + 1, byte);
     }
 }
 

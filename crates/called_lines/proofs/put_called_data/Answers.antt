@@ -2,7 +2,7 @@
 use borrow.Author.Rules.{rules}
 use Rattle.called_lines.proofs.SampleValues.{few_ad, few_pl, fronts_printed}
 use Rattle.genotype_values.proofs.Filled.{filled_front, filled_length, filled_within}
-use Rattle.kv_write.specs.Optional.{option_of}
+use Rattle.answers.specs.Options.{option_of}
 use Rattle.called_lines.proofs.put_called_data.Goals as goal
 
 pub slice_bounds-called_ad-end : goal.slice_bounds-called_ad-end

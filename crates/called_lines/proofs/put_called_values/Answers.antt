@@ -2,7 +2,7 @@
 use borrow.Author.Rules.{rules}
 use native.Mathlib.Omega.{arith}
 use Rattle.called_lines.proofs.SampleValues.{called_laid, called_length}
-use Rattle.kv_write.specs.Optional.{option_of}
+use Rattle.answers.specs.Options.{option_of}
 use Rattle.called_lines.proofs.put_called_values.Goals as goal
 
 pub put_optional_number_line-behind_gq-requires : goal.put_optional_number_line-behind_gq-requires

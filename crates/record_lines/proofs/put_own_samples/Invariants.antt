@@ -11,9 +11,6 @@ use Rattle.record_lines.proofs.OwnSamples.{own_next, own_none}
 use Rattle.record_lines.specs.Samples.{printed_own}
 use Rattle.record_lines.proofs.put_own_samples.Given as goal
 
-abbrev pub invariant-loop-i : goal.invariant-loop-i
-invariant-loop-i l = let printed = printed_own l.s l.rows l.position.0 (map capital l.reference) l.alts in
-    Left l.initial.out l.at (printed l.own) l.out l.next (printed (drop l.i l.own))
-
-abbrev pub decreases-loop-i : goal.decreases-loop-i
-decreases-loop-i l = l.i-end - l.i
+abbrev pub invariant-loop-site : goal.invariant-loop-site
+invariant-loop-site l = let printed = printed_own l.s l.rows l.position.0 (map capital l.reference) l.alts in
+    Left l.initial.out l.at (printed l.own) l.out l.next (printed (drop l.site-index l.own))

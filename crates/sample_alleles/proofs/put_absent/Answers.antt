@@ -20,10 +20,10 @@ pub loop-i-smaller : goal.loop-i-smaller
 loop-i-smaller c = omega (arith, c.loop-i-test.true)
 
 pub loop-i-preserved : goal.loop-i-preserved
-loop-i-preserved c = next_unput _ _ _ _ (c.loop-i.invariant) {wanted = true} (c.loop-i-test.true) refl (c.put_index.ensures) (c.put_index.auto.map)
+loop-i-preserved c = next_unput _ _ _ _ (c.loop-i.invariant) {wanted = true} (c.loop-i-test.true) refl c.store.ensures c.store.auto.out
 
 pub shape_of-map : goal.shape_of-map
 shape_of-map c = c.loop-i.invariant.long
 
 pub returns : goal.returns
-returns c = all_put _ _ _ _ (c.loop-i.invariant) (c.loop-i-test.false) ∙ put_all _ _ _
+returns c = rw c.get-byte.ensures at (all_put _ _ _ _ c.loop-i.invariant c.loop-i-test.false ∙ put_all _ _ _)

@@ -8,7 +8,7 @@ use Rattle.sample_alleles.proofs.Places.{Unput, all_put, all_unput, next_unput, 
 use Rattle.sample_alleles.proofs.put_absent.Given as goal
 
 abbrev pub invariant-loop-i : goal.invariant-loop-i
-invariant-loop-i l = Unput (λ _. true) l.index.0 l.count l.initial.map l.map l.i
+invariant-loop-i l = Unput (λ _. true) l.byte l.count l.initial.map l.map l.i
 
 abbrev pub decreases-loop-i : goal.decreases-loop-i
 decreases-loop-i l = l.count - l.i
