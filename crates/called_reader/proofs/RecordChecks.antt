@@ -8,6 +8,9 @@ use mathlib.Core.List.{List}
 use mathlib.Core.Option.{none, some}
 use mathlib.Core.Path.{◌∙◌, ◌≡◌, refl, sym}
 use native.Mathlib.Omega.{arith}
+use Rattle.std.specs.Prelude as std
+use Rattle.answers.specs.declared.Refusal.{Refusal}
+use Rattle.answers.specs.declared.Refusal.TheVariants as refusal
 use Rattle.alleles.specs.Alleles.{AllelesRight}
 use Rattle.definitions.specs.Alleles.{ref_alts_of}
 use Rattle.definitions.specs.Checked.{Checked, ◌>>=◌, ◌>>◌, accepted, or_refuse, refused, require}
@@ -19,17 +22,15 @@ use Rattle.definitions.specs.SelectionSheet.{called_record_read}
 use Rattle.laws.proofs.Checked.{not_required, or_refused, required, then, then_refused}
 use Rattle.list_reader.proofs.RecordChecks.{all_same, came_after}
 use Rattle.list_reader.specs.RecordGroups.{PreviousOf, alleles_at, alts_at, comes_after_last, right_counts}
-use Rattle.list_reader.specs.declared.Previous.{Previous}
+use Rattle.list_reader.specs.declared.PreviousRecord.{PreviousRecord}
 use Rattle.site_groups.specs.SiteGroups.{bytes_of}
 use Rattle.called_reader.specs.CalledGroups.{Ready, RecordChecked, RecordFound, TextTo, record_from, record_group}
 use Rattle.called_reader.specs.declared.CalledHead.{CalledHead}
-use Rattle.called_reader.specs.declared.RecordAt.TheVariants as found
-use Rattle.called_reader.specs.declared.RecordCheck.TheVariants as check
 use Rattle.called_reader.specs.declared.SamplesRead.{SamplesRead}
 
 -- ---- the rows
 
-module _ {s : List ℕ} {h : CalledHead} {last : Previous} {fit : Bool} {at samples records : ℕ} {before : List Record} {sample_data : List SampleData}
+module _ {s : List ℕ} {h : CalledHead} {last : std.Option PreviousRecord} {fit : Bool} {at samples records : ℕ} {before : List Record} {sample_data : List SampleData}
     (r : Ready s h last fit at samples records before sample_data) where
   abbrev answer : Checked Record
   answer = called_record_read samples records before (record_group s at samples)
@@ -68,8 +69,8 @@ module _ {s : List ℕ} {h : CalledHead} {last : Previous} {fit : Bool} {at samp
 
 -- ---- the tests of the code, one after the other
 
-module _ (s : List ℕ) (h : CalledHead) (last : Previous) (fit : Bool) where
-  pub position_0 : h.pos.0 < 1 → RecordChecked s h last fit (check.Refused 4)
+module _ (s : List ℕ) (h : CalledHead) (last : std.Option PreviousRecord) (fit : Bool) where
+  pub position_0 : h.pos.0 < 1 → RecordChecked s h last fit (std.Err refusal.Position)
   unfolding RecordChecked
   position_0 l at samples records before sample_data r = row_4 r (rw (lt-leb 1 h.pos.0 l))
 
@@ -79,13 +80,13 @@ module _ (s : List ℕ) (h : CalledHead) (last : Previous) (fit : Bool) where
     order b f {before = before} r =
         rw (le-leb 1 h.pos.0 positive, came_after s before last (bytes_of s h.contig) h.pos.0 r.previous) f
 
-    pub too_early : comes_after_last s last (bytes_of s h.contig) h.pos.0 ≡ false → RecordChecked s h last fit (check.Refused 4)
+    pub too_early : comes_after_last s last (bytes_of s h.contig) h.pos.0 ≡ false → RecordChecked s h last fit (std.Err refusal.Position)
     unfolding RecordChecked
     too_early f at samples records before sample_data r = row_4 r (order false f r)
 
     module _ (after : comes_after_last s last (bytes_of s h.contig) h.pos.0 ≡ true) where
       pub allele_faulty : ref_alts_of 255 16 (bytes_of s h.alleles.refs) (bytes_of s h.alleles.alts) ≡ none
-          → RecordChecked s h last fit (check.Refused 5)
+          → RecordChecked s h last fit (std.Err refusal.Alleles)
       unfolding RecordChecked
       allele_faulty f at samples records before sample_data r = row_5 r (order true after r) f
 
@@ -99,12 +100,12 @@ module _ (s : List ℕ) (h : CalledHead) (last : Previous) (fit : Bool) where
                 let few : alts_at s h.alleles < 16 = omega (arith, right.number, right.few) in
                 unfold right_counts in rw (lt-ltb (alts_at s h.alleles) 16 few)
 
-        pub counts_wrong : fit ≡ false → RecordChecked s h last fit (check.Refused 8)
+        pub counts_wrong : fit ≡ false → RecordChecked s h last fit (std.Err refusal.Counts)
         unfolding RecordChecked
         counts_wrong f at samples records before sample_data r =
             row_8 r (order true after r) right.right (counts sample_data r.counted ∙ f)
 
-        pub record_right : fit ≡ true → RecordChecked s h last fit (check.Right n)
+        pub record_right : fit ≡ true → RecordChecked s h last fit (std.Ok n)
         unfolding RecordChecked
         record_right f = record {
           value = λ at samples records before sample_data r.
@@ -116,16 +117,16 @@ module _ (s : List ℕ) (h : CalledHead) (last : Previous) (fit : Bool) where
 -- ---- the lines and the checks together
 
 module _ {s : List ℕ} {at samples : ℕ} {pls₀ pls : List ℕ} {h : CalledHead} {r : SamplesRead} (t : TextTo s at samples pls₀ pls h r)
-    (last : Previous) where
+    (last : std.Option PreviousRecord) where
   ready : (records : ℕ) (before : List Record) → length before < records → PreviousOf s before last
       → Ready s h last r.fit at samples records before t.sample_data
   ready records before more previous = record { lines = t.lines; counted = t.fit; more = more; previous = previous }
 
-  pub record_refused : (row : ℕ) → RecordChecked s h last r.fit (check.Refused row) → RecordFound s at samples last pls₀ pls (found.Refused row)
+  pub record_refused : (e : Refusal) → RecordChecked s h last r.fit (std.Err e) → RecordFound s at samples last pls₀ pls (std.Err e)
   unfolding RecordChecked RecordFound
-  record_refused row c records before more previous = c at samples records before t.sample_data (ready records before more previous)
+  record_refused e c records before more previous = c at samples records before t.sample_data (ready records before more previous)
 
-  pub record_found : (n : ℕ) → RecordChecked s h last r.fit (check.Right n) → RecordFound s at samples last pls₀ pls (found.Record (record {
+  pub record_found : (n : ℕ) → RecordChecked s h last r.fit (std.Ok n) → RecordFound s at samples last pls₀ pls (std.Ok (record {
     contig = h.contig;
     pos = h.pos;
     alleles = h.alleles;

@@ -10,6 +10,7 @@ use mathlib.Core.Path.{◌∙◌, ◌≡◌, ap, refl, sym}
 use native.Mathlib.Nat.{sub-zero}
 use native.Mathlib.Numerals.{add-one}
 use native.Mathlib.Omega.{arith}
+use Rattle.std.specs.Prelude as std
 use Rattle.definitions.specs.Alleles.{genotype_count}
 use Rattle.definitions.specs.Checked.{Checked, accepted, in_order}
 use Rattle.definitions.specs.Genotypes.{SampleData}
@@ -31,7 +32,6 @@ use Rattle.tables.specs.Tables.{name_at, names_in}
 use Rattle.called_reader.specs.CalledGroups.{HeadTo, Misspelled, SampleRead, SampleTo, TextTo, group_lines, pl_at, record_group, sample_from}
 use Rattle.called_reader.specs.declared.CalledHead.{CalledHead}
 use Rattle.called_reader.specs.declared.CalledValues.{CalledValues}
-use Rattle.called_reader.specs.declared.SampleAt.TheVariants.{Wrong}
 
 -- ---- the numbers of a sample's lists
 
@@ -106,7 +106,7 @@ module _ (s : List ℕ) (at samples : ℕ) (pls₀ : List ℕ) (h : CalledHead) 
       one_less : samples - i ≡ suc (samples - (i + 1))
       one_less = omega arith
 
-      pub sample_wrong : HeadTo s at h → SampleRead s next Wrong → Misspelled s at samples
+      pub sample_wrong : HeadTo s at h → SampleRead s next std.None → Misspelled s at samples
       unfolding SampleRead called_record_read
       sample_wrong head w records before =
           let l = head.lines samples in

@@ -1,9 +1,8 @@
 -- The lines of a record group, one after the other, and what their answers mean.
-use Prim.Native.Nat.{◌*◌, ◌+◌, ◌<◌, suc, ℕ}
-use lib.ListN.{length}
+use Prim.Native.Nat.{◌*◌, ◌+◌, suc, ℕ}
 use mathlib.Core.Bool.{Bool, false, true}
-use mathlib.Core.List.{List, []}
-use mathlib.Core.Option.{Option, get_or, none, some}
+use mathlib.Core.List.{List}
+use mathlib.Core.Option.{Option, none, some}
 use mathlib.Core.Path.{◌≡◌, refl}
 use native.Mathlib.Omega.{arith}
 use Rattle.std.specs.Prelude as std
@@ -16,7 +15,6 @@ use Rattle.definitions.specs.ListReader.{gt_of, record_lines, record_read, sampl
 use Rattle.definitions.specs.Numbers.{name, number, number_list, or_missing}
 use Rattle.kv_text.proofs.Groups.{behind_next, behind_start, line_read, line_unread}
 use Rattle.kv_text.proofs.Lines.{line_within}
-use Rattle.kv_text.specs.Fields.{between}
 use Rattle.kv_text.specs.Lines.{Behind, LineReads, read_to, unread}
 use Rattle.kv_text.specs.declared.Part.{Part}
 use Rattle.laws.proofs.Checked.{then, then_refused}

@@ -7,6 +7,8 @@ use mathlib.Core.Option.{bind, none}
 use mathlib.Core.Path.{◌∙◌, ◌≡◌, ap, refl}
 use native.Mathlib.Nat.{add-zero}
 use native.Mathlib.Omega.{arith}
+use Rattle.std.specs.Prelude as std
+use Rattle.answers.specs.declared.Refusal.{Refusal}
 use Rattle.cohort.proofs.Whole.{names_count}
 use Rattle.definitions.specs.Checked.{accepted, or_refuse, refused}
 use Rattle.definitions.specs.Cohort.{samples_of}
@@ -20,8 +22,6 @@ use Rattle.tables.proofs.Cleared.{scratch_same}
 use Rattle.tables.specs.Tables.{names_in}
 use Rattle.list_walk.specs.Walk as walk
 use Rattle.list_walk.specs.Walk.{FigureRead, FigureRefused, FigureTo, HeaderRead, heading_of}
-use Rattle.list_walk.specs.declared.HeaderAt.TheVariants as header
-use Rattle.list_walk.specs.declared.HeaderAt.{HeaderAt}
 use Rattle.list_walk.specs.declared.ListHeader.{ListHeader}
 
 pub samples_refused : (s : List ℕ) (row : ℕ) → samples_of (lines_of s) ≡ refused row → heading_of s ≡ refused row
@@ -53,8 +53,8 @@ module _ {s names₀ names : List ℕ} {samples at : ℕ} (held : HeaderTo s nam
     rest = rw (f.same, f.samples_are) held.rest;
   }
 
-  pub heading_read : (names' : List ℕ) (r : HeaderAt) → length names ≡ length names₀ → FigureRead s samples at names names' r
+  pub heading_read : (names' : List ℕ) (r : std.Result ListHeader Refusal) → length names ≡ length names₀ → FigureRead s samples at names names' r
       → HeaderRead s names₀ names' r
   unfolding FigureRead HeaderRead
-  heading_read names' (header.Header h) same f = figure_read f
-  heading_read names' (header.Refused row) same f = record { value = figure_refused f; cleared = f.cleared ∙ scratch_same names names₀ same }
+  heading_read names' (std.Ok h) same f = figure_read f
+  heading_read names' (std.Err e) same f = record { value = figure_refused f; cleared = f.cleared ∙ scratch_same names names₀ same }

@@ -7,6 +7,7 @@ use mathlib.Core.List.{List, [], ◌∷◌, append-nil}
 use mathlib.Core.Option.{get_or}
 use mathlib.Core.Path.{◌∙◌, ◌≡◌, refl, sym}
 use native.Mathlib.Omega.{arith}
+use Rattle.std.specs.Prelude as std
 use Rattle.bio_ids.specs.declared.GenomePosition.{GenomePosition}
 use Rattle.cohort.proofs.FirstGroups.{some_lines}
 use Rattle.definitions.specs.Answers.{scratch_after}
@@ -18,7 +19,7 @@ use Rattle.laws.proofs.Checked.{not_required}
 use Rattle.laws.proofs.Groups.{groups_cons}
 use Rattle.laws.proofs.Lines.{lines_end}
 use Rattle.list_reader.specs.RecordGroups.{PreviousOf, RecordRefused, RecordTo, end_option, group_lines, record_group}
-use Rattle.list_reader.specs.declared.Previous.TheVariants as previous
+use Rattle.list_reader.specs.declared.PreviousRecord.{PreviousRecord}
 use Rattle.list_reader.specs.declared.RecordPlace.{RecordPlace}
 use Rattle.list_walk.proofs.MissingGroups.{missing_next}
 use Rattle.list_walk.specs.Walk.{LastStep, RecordStep, RefusedStep, StandsBehind, groups_at, record_at}
@@ -83,7 +84,7 @@ module _ (s : List ℕ) (h : ListHeader) (c : ListCursor) where
 
     pub step_record : {p : RecordPlace} (last : GenomePosition) → RecordTo s c.next h.samples c.previous rows₀ rows p
         → last.0 ≡ get_or (end_option p.end) p.pos.0
-        → RecordStep s h c rows₀ rows p (record { next = p.next; read = c.read + 1; previous = previous.Last p.contig last })
+        → RecordStep s h c rows₀ rows p (record { next = p.next; read = c.read + 1; previous = std.Some (record { contig = p.contig; end = last }) })
     unfolding groups_at PreviousOf record_end
     step_record {p} last to last_is = record {
       to = to;

@@ -8,21 +8,21 @@ use Rattle.called_reader.specs.CalledGroups.{HeadRead, SampleRead, TextRead}
 use Rattle.definitions.specs.Bytes.{comma}
 use Rattle.called_reader.proofs.record_text.Goals as goal
 
-pub returns-in_default : goal.returns-in_default
+pub returns-in_err-head : goal.returns-in_err-head
 unfolding HeadRead TextRead
-returns-in_default c = (rw (c.in_default.is) at (c.record_head-first.ensures)) _
+returns-in_err-head c = rw c.from_residual.ensures (c.in_err-head.ensures _)
 
 pub loop-i-init : goal.loop-i-init
 unfolding HeadRead
-loop-i-init c = reading_start _ _ _ _ _ (rw c.in-Head.is at c.record_head-first.ensures)
+loop-i-init c = reading_start _ _ _ _ _ c.in_ok-head.ensures
 
-pub shape_of-pls-in_default-lines : goal.shape_of-pls-in_default-lines
-shape_of-pls-in_default-lines c = c.loop-i.invariant.long
+pub shape_of-pls-in_err-values : goal.shape_of-pls-in_err-values
+shape_of-pls-in_err-values c = c.loop-i.invariant.long
 
-pub returns-in_default-lines : goal.returns-in_default-lines
+pub returns-in_err-values : goal.returns-in_err-values
 unfolding HeadRead TextRead
-returns-in_default-lines c = sample_wrong _ _ _ _ _ _ _ _ _ c.loop-i.invariant c.loop-i-test.true
-    (rw c.in-Head.is at c.record_head-first.ensures) (rw c.in_default-lines.is at c.sample_lines-lines.ensures)
+returns-in_err-values c = rw c.from_residual-in_err-values.ensures (sample_wrong _ _ _ _ _ _ _ _ _ c.loop-i.invariant c.loop-i-test.true
+    c.in_ok-head.ensures c.in_err-values.ensures)
 
 pub overflow_mul-pls : goal.overflow_mul-pls
 overflow_mul-pls c = omega (arith, c.well_formed, c.requires, c.loop-i.invariant.long, c.loop-i-test.true)
@@ -54,7 +54,7 @@ loop-i-smaller c = omega (arith, c.loop-i-test.true)
 pub loop-i-preserved : goal.loop-i-preserved
 unfolding SampleRead comma
 loop-i-preserved c = sample_next _ _ _ _ _ _ _ _ _ c.loop-i.invariant c.loop-i-test.true
-    _ (rw c.in-Sample.is at c.sample_lines-lines.ensures) c.requires _
+    _ c.in_ok-values.ensures c.requires _
     (rw c.part.ensures at c.count_fields-alts.ensures) _ c.counts_fit-fit.ensures
 
 pub shape_of-pls : goal.shape_of-pls
@@ -62,4 +62,4 @@ shape_of-pls c = c.loop-i.invariant.long
 
 pub returns : goal.returns
 unfolding HeadRead TextRead
-returns c = samples_end _ _ _ _ _ _ _ _ _ c.loop-i.invariant (rw c.in-Head.is at c.record_head-first.ensures) c.loop-i-test.false
+returns c = samples_end _ _ _ _ _ _ _ _ _ c.loop-i.invariant c.in_ok-head.ensures c.loop-i-test.false

@@ -1,6 +1,5 @@
 -- The value of the line: a dot, or a genotype.
 use Prim.Native.Nat.{suc}
-use borrow.Author.Rules.{rules}
 use mathlib.Core.Option.{none, some}
 use mathlib.Core.Path.{◌∙◌, sym}
 use Rattle.definitions.specs.Bytes.{text}

@@ -1,9 +1,7 @@
 -- Sample by sample, each behind those in the table.
-use Prim.Native.Nat.{◌-◌}
-use borrow.Author.Rules.{rules}
 use native.Mathlib.Omega.{arith}
 use Rattle.definitions.specs.Bytes.{comma}
-use Rattle.list_reader.proofs.Samples.{Reading, reading_start, sample_next, sample_wrong, samples_end}
+use Rattle.list_reader.proofs.Samples.{reading_start, sample_next, sample_wrong, samples_end}
 use Rattle.list_reader.specs.RecordGroups.{HeadRead, SampleRead, TextRead}
 use Rattle.list_reader.proofs.record_text.Goals as goal
 

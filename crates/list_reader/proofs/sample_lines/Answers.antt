@@ -1,6 +1,5 @@
 -- One line after the other, each behind the one before it.
 use Prim.Native.Nat.{suc}
-use borrow.Author.Rules.{rules}
 use native.Mathlib.Omega.{arith}
 use Rattle.definitions.specs.Bytes.{text}
 use Rattle.definitions.specs.Lines.{key_of}

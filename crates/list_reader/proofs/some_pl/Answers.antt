@@ -1,5 +1,4 @@
 -- By whether one before has it.
-use borrow.Author.Rules.{rules}
 use Rattle.list_reader.proofs.some_pl.Goals as goal
 
 pub returns-else-before : goal.returns-else-before

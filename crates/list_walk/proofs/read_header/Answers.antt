@@ -6,16 +6,15 @@ use borrow.Author.Rules.{rules}
 use native.Mathlib.Omega.{arith}
 use Rattle.list_walk.proofs.read_header.Goals as goal
 
-pub returns-in-NoRoom : goal.returns-in-NoRoom
+pub returns-in-Ok : goal.returns-in-Ok
 unfolding Header
-returns-in-NoRoom c = let h = rw c.in-NoRoom.is at c.read_samples-read.ensures in absurd (omega (arith, h.no_room))
+returns-in-Ok c = let h = rw c.in-Ok.is at c.read_samples.ensures in heading_read h _ _ (omega arith) c.records_line.ensures
 
-pub returns-in-Refused : goal.returns-in-Refused
+pub returns-in-Err-Refused : goal.returns-in-Err-Refused
 unfolding Header HeaderRead
-returns-in-Refused c = let h = rw c.in-Refused.is at c.read_samples-read.ensures in
+returns-in-Err-Refused c = let h = rw c.in-Err-Refused.is at c.read_samples.ensures in
     record { value = samples_refused _ _ h.value; cleared = h.cleared }
 
-pub returns-in-Samples : goal.returns-in-Samples
+pub returns-in-Err-NoRoom : goal.returns-in-Err-NoRoom
 unfolding Header
-returns-in-Samples c = let h = rw c.in-Samples.is at c.read_samples-read.ensures in
-    heading_read h _ _ (omega arith) c.records_line.ensures
+returns-in-Err-NoRoom c = let h = rw c.in-Err-NoRoom.is at c.read_samples.ensures in absurd (omega (arith, h.no_room))
