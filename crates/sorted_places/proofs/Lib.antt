@@ -1,4 +1,1 @@
-pub mod LastPart
 pub mod Sorting
-pub mod Parting
-pub mod Halving
