@@ -82,9 +82,6 @@ impl GenomeLoc {
     pub fn contains(self, other: GenomeLoc) -> bool
         ensures { result ≡ leb self.start.0 other.start.0 && leb other.end.0 self.end.0 }
     {
-        if self.start.get() <= other.start.get() {
-            return other.end.get() <= self.end.get();
-        }
-        false
+        self.start <= other.start && other.end <= self.end
     }
 }
