@@ -4,6 +4,7 @@ use lib.ListN.{drop, get_or, length, length-set, set, take}
 use lib.Seq.{get_or-set_other, get_or-set_same, take-length, take-suc}
 use mathlib.Core.Bool.{Bool, cond, false, true}
 use mathlib.Core.List.{List, [], ◌++◌, ◌∷◌, map}
+use mathlib.Core.Option.{none, some}
 use mathlib.Core.Path.{◌∙◌, ◌≡◌, ap, ap₂, refl, sym}
 use native.Mathlib.Decide.{dec_lt}
 use native.Mathlib.Numerals.{add-one}
@@ -13,9 +14,9 @@ use Rattle.definitions.specs.Lists.{all_of, any_of, numbers_from}
 use Rattle.kv_text.specs.Fields.{between}
 use Rattle.laws.proofs.Every.{every_map, every_numbers}
 use Rattle.tables.proofs.Stored.{map_same, one_more}
-use Rattle.marker_groups.proofs.Find.{found_any, found_name, found_none}
+use Rattle.marker_groups.proofs.Find.{found, found_any, found_below, found_name, found_none}
 use Rattle.marker_groups.proofs.Values.{all_end, all_fails, all_step}
-use Rattle.marker_groups.specs.Markers.{AftersTo, after_names, find_from, name_of, names_in}
+use Rattle.marker_groups.specs.Markers.{AftersTo, after_names, name_of, names_in}
 
 -- a list with a name is no dot
 pub fields_named : (list : List ℕ) (i : ℕ) → i < length (after_names list) → after_names list ≡ fields_of comma list
@@ -46,13 +47,13 @@ module _ (s rows : List ℕ) (count : ℕ) (list : List ℕ) where
       name_is : get_or (after_names list) i [] ≡ between list a e
       name_is = ap (λ (l : List (List ℕ)). get_or l i []) (fields_named list i more) ∙ field
 
-      pub found_unnamed : count ≤ find_from s rows count (between list a e) 0 → all_of Named (after_names list) ≡ false
+      pub found_unnamed : found s rows count (between list a e) ≡ none → all_of Named (after_names list) ≡ false
       found_unnamed h = sym (all_fails _ _ _ f.all [] more (rw name_is (found_none s rows count (between list a e) h)))
 
-      pub found_more : length (after_names list) ≤ 4 → (k : ℕ) → k ≡ find_from s rows count (between list a e) 0 → k < count → Found (set numbers i k) (i + 1)
-      found_more four k is h =
+      pub found_more : length (after_names list) ≤ 4 → (k : ℕ) → found s rows count (between list a e) ≡ some k → Found (set numbers i k) (i + 1)
+      found_more four k is =
+          let h = found_below s rows count (between list a e) k is in
           let room : i < length numbers = omega (arith, f.long) in
-          let passes : find_from s rows count (between list a e) 0 < count = rw (← is) h in
           record {
             few = omega arith;
             long = length-set numbers i k ∙ f.long;
@@ -61,10 +62,10 @@ module _ (s rows : List ℕ) (count : ℕ) (list : List ℕ) where
                 ∙ ap₂ (λ (l m : List (List ℕ)). l ++ m)
                 (map_same _ _ 0 i (λ j b. ap (name_of s rows) (get_or-set_other numbers i j k 0 (λ q. absurd (omega arith)))) ∙ f.named)
                 (ap (λ (n : List ℕ). n ∷ [])
-                (ap (name_of s rows) (get_or-set_same numbers i k 0 room) ∙ found_name s rows count (between list a e) k is h ∙ sym name_is))
+                (ap (name_of s rows) (get_or-set_same numbers i k 0 room) ∙ found_name s rows count (between list a e) k is ∙ sym name_is))
                 ∙ sym (take_more (after_names list) i more);
             below = λ j b. below_at j b (dec_lt j i);
-            all = all_step _ _ _ f.all [] more (rw name_is (found_any s rows count (between list a e) passes));
+            all = all_step _ _ _ f.all [] more (rw name_is (found_any s rows count (between list a e) k is));
           }
         where
           take_more : (l : List (List ℕ)) (i : ℕ) → i < length l → take (i + 1) l ≡ take i l ++ (get_or l i [] ∷ [])
@@ -75,7 +76,7 @@ module _ (s rows : List ℕ) (count : ℕ) (list : List ℕ) where
           below_at j b (no c) =
               let last : j ≡ i = omega arith in
               let room : i < length numbers = omega (arith, f.long) in
-              rw (last, get_or-set_same numbers i k 0 room) h
+              rw (last, get_or-set_same numbers i k 0 room) (found_below s rows count (between list a e) k is)
 
     pub found_all : (names : ℕ) → names ≡ length (after_names list) → names ≤ i → AftersTo s rows count list numbers names
     found_all names is past =

@@ -18,7 +18,8 @@ use Rattle.definitions.specs.Numbers.{name, number}
 use Rattle.definitions.specs.SelectionSheet.{names_after, number_in, wanted_allele}
 use Rattle.kv_text.specs.Fields.{allele_read}
 use Rattle.kv_text.specs.Lines.{LineReads, line_value, read_to, unread}
-use Rattle.kv_text.specs.declared.AlleleRead.TheVariants.{Fault, Letters, NonRef, SpanDel}
+use Rattle.kv_text.specs.declared.AlleleKind.TheVariants.{Letters, NonRef, SpanDel}
+use Rattle.std.specs.Prelude.{None, Some}
 use Rattle.laws.proofs.AllelesAsRead.{allele_as_read_lem, allele_as_read}
 use Rattle.laws.proofs.Tests.{after_bind, after_only_if, both, both_of, clash, is_there_lem, not_none, not_there, only_if_there, some_same}
 use Rattle.marker_groups.specs.Markers.{after_names}
@@ -65,21 +66,21 @@ module _ (s : List ℕ) (at : ℕ) (key : List ℕ) (low high : ℕ) where
 -- ---- the wanted allele
 
 module _ (v : List ℕ) where
-  pub wanted_letters : allele_read Letters v ≡ allele_of 255 v → is_there (wanted_allele v) ≡ true
+  pub wanted_letters : allele_read (Some Letters) v ≡ allele_of 255 v → is_there (wanted_allele v) ≡ true
   unfolding wanted_allele is_there bind only_if same_allele
   wanted_letters e = rw (← e)
 
-  pub wanted_span_del : allele_read SpanDel v ≡ allele_of 255 v → is_there (wanted_allele v) ≡ true
+  pub wanted_span_del : allele_read (Some SpanDel) v ≡ allele_of 255 v → is_there (wanted_allele v) ≡ true
   unfolding wanted_allele is_there bind only_if same_allele
   wanted_span_del e = rw (← e)
 
-  pub unwanted_non_ref : allele_read NonRef v ≡ allele_of 255 v → is_there (wanted_allele v) ≡ false
+  pub unwanted_non_ref : allele_read (Some NonRef) v ≡ allele_of 255 v → is_there (wanted_allele v) ≡ false
   unfolding wanted_allele is_there bind only_if same_allele
   unwanted_non_ref e = rw (← e)
 
-  pub unwanted_fault : allele_read Fault v ≡ allele_of 255 v → is_there (wanted_allele v) ≡ false
+  pub unwanted_none : allele_read None v ≡ allele_of 255 v → is_there (wanted_allele v) ≡ false
   unfolding wanted_allele is_there bind only_if
-  unwanted_fault e = rw (← e)
+  unwanted_none e = rw (← e)
 
   pub wanted_as_read : is_there (wanted_allele v) ≡ true → wanted_allele v ≡ some (allele_as_read v)
   unfolding wanted_allele is_there

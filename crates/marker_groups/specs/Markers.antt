@@ -1,6 +1,6 @@
 -- What reading the marker file finds: the lines of a marker, and the table of all.
 use Rattle.std.specs.Prelude.{◌*◌, ◌+◌, ◌-◌, ◌<◌, ◌≤◌, ℕ, eqb, drop, get_or, length, take, cond, false, true, List, [], ◌∷◌, map, reverse, ◌≡◌}
-use Rattle.answers.specs.Answered.{row_of}
+use Rattle.answers.specs.Answered as answers
 use Rattle.answers.specs.declared.LoadError.{LoadError}
 use Rattle.answers.specs.declared.LoadError.TheVariants.{NoRoom, Refused}
 use Rattle.answers.specs.declared.Refusal.{Refusal}
@@ -135,7 +135,7 @@ pub record MarkerTo (s : List ℕ) (at : ℕ) (rows₀ rows : List ℕ) (count n
 
 unfoldable pub MarkerRead : List ℕ → ℕ → List ℕ → List ℕ → ℕ → std.Result ℕ Refusal → Type 0
 MarkerRead s at rows₀ rows count (std.Ok next) = MarkerTo s at rows₀ rows count next
-MarkerRead s at rows₀ rows count (std.Err r) = marker_of (reverse (markers_in s rows₀ count)) (marker_group s at) ≡ refused (row_of r)
+MarkerRead s at rows₀ rows count (std.Err r) = marker_of (reverse (markers_in s rows₀ count)) (marker_group s at) ≡ refused (answers.row_of r)
 
 -- the table has the markers of the text, and behind them it is as it was
 pub record MarkersTo (s rows₀ rows : List ℕ) (count : ℕ) : Type 0 where
@@ -155,5 +155,5 @@ pub record MarkersUnread (rows₀ rows : List ℕ) : Type 0 where
 
 unfoldable pub MarkersRead : List ℕ → List ℕ → List ℕ → std.Result ℕ LoadError → Type 0
 MarkersRead s rows₀ rows (std.Ok count) = MarkersTo s rows₀ rows count
-MarkersRead s rows₀ rows (std.Err (Refused r)) = MarkersRefused s rows₀ rows (row_of r)
+MarkersRead s rows₀ rows (std.Err (Refused r)) = MarkersRefused s rows₀ rows (answers.row_of r)
 MarkersRead s rows₀ rows (std.Err NoRoom) = MarkersUnread rows₀ rows

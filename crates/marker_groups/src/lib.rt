@@ -145,11 +145,7 @@ pub fn column(rows: &[usize], marker: usize, k: usize) -> usize
     if TOO_MANY_NUMBERS <= k {
         return 0;
     }
-    let place = marker * 13 + k;
-    if rows.len() <= place {
-        return 0;
-    }
-    rows[place]
+    slices::value_or(rows, marker * 13 + k, 0)
 }
 
 // The part of the text between the offsets in two columns.

@@ -1,5 +1,4 @@
 -- Outside the table there is nothing.
-use borrow.Author.Rules.{rules}
 use native.Mathlib.Omega.{arith}
 use Rattle.marker_groups.proofs.Rows.{column_past}
 use Rattle.marker_groups.specs.Markers.{column}
@@ -11,9 +10,6 @@ returns-then-marker-ge-TOO_MANY_MARKERS c = column_past (c.args.k) _ (c.args.mar
 pub returns-then-k-ge-TOO_MANY_NUMBERS : goal.returns-then-k-ge-TOO_MANY_NUMBERS
 returns-then-k-ge-TOO_MANY_NUMBERS c = column_past (c.args.k) _ (c.args.marker) (omega arith)
 
-pub returns-then-rows-place : goal.returns-then-rows-place
-returns-then-rows-place c = column_past (c.args.k) _ (c.args.marker) (omega arith)
-
 pub returns : goal.returns
 unfolding column
-returns c = search rules
+returns c = c.value_or.ensures
