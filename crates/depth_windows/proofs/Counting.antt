@@ -1,9 +1,8 @@
 -- The second reading: the counts along the records of a list that was read before.
 use Prim.Native.Nat.{ℕ}
 use lib.ListN.{length}
-use mathlib.Core.List.{List, [], ◌∷◌}
+use mathlib.Core.List.{List, [], ◌∷◌, map}
 use mathlib.Core.Path.{◌∙◌, ◌≡◌, ap, refl}
-use Rattle.definitions.specs.Answers.{scratch_after}
 use Rattle.definitions.specs.Checked.{accepted}
 use Rattle.list_reader.specs.declared.RecordPlace.{RecordPlace}
 use Rattle.list_walk.specs.Walk.{RecordStep, start_of}
@@ -33,8 +32,8 @@ module _ {s : List ℕ} {h : ListHeader} {contig : List ℕ} {asked : Asked} {w 
       adds_ready back.later step walking.stands contig asked w counts ready.windows ready.sample_there (rw back.same ready.fits)
 
 -- counts of 0
-pub cleared_zeros : (l : List ℕ) → scratch_after l ≡ zeros (length l)
-unfolding scratch_after zeros
+pub cleared_zeros : (l : List ℕ) → map (λ _. 0) l ≡ zeros (length l)
+unfolding zeros
 cleared_zeros [] = refl
 cleared_zeros (x ∷ l) = ap (λ (k : List ℕ). 0 ∷ k) (cleared_zeros l)
 

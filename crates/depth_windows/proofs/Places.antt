@@ -17,7 +17,8 @@ use Rattle.laws.proofs.Members.{at_map, get_d_some, numbers_at_lem}
 use Rattle.laws.proofs.SoundList.{record_sound}
 use Rattle.laws.proofs.SoundRecords.{SoundRecord}
 use Rattle.list_reader.specs.RecordGroups.{RecordTo, record_group, sample_at, without_gt}
-use Rattle.list_reader.specs.declared.Previous.{Previous}
+use Rattle.list_reader.specs.declared.PreviousRecord.{PreviousRecord}
+use Rattle.std.specs.Prelude as std
 use Rattle.list_reader.specs.declared.RecordPlace.{RecordPlace}
 use Rattle.list_walk.specs.Walk.{RecordStep, StandsBehind, record_at}
 use Rattle.list_walk.specs.declared.ListCursor.{ListCursor}
@@ -52,7 +53,7 @@ table_dp s rows sample_data samples sample e h =
     let here : sample ≡ 0 + sample = omega arith in
     ap (dp_at rows) here ∙ sym (ap (λ (v : SampleData). v.dp) row) ∙ sym same ∙ without
 
-module _ {s : List ℕ} {at samples : ℕ} {last : Previous} {rows₀ rows : List ℕ} {p : RecordPlace} (to : RecordTo s at samples last rows₀ rows p) where
+module _ {s : List ℕ} {at samples : ℕ} {last : std.Option PreviousRecord} {rows₀ rows : List ℕ} {p : RecordPlace} (to : RecordTo s at samples last rows₀ rows p) where
   pub place_end_lem : place_end p ≡ record_end (record_at to)
   unfolding record_end
   place_end_lem = refl

@@ -10,9 +10,9 @@ use mathlib.Core.Option.{Option, none, some}
 use mathlib.Core.Path.{◌∙◌, ◌≡◌, ap, ap₂, refl, sym}
 use native.Mathlib.Omega.{arith}
 use Rattle.answers.proofs.Answers.{is_within, not_within}
-use Rattle.answers.specs.Answered.{Answered}
-use Rattle.answers.specs.declared.Outcome.TheVariants as outcome
-use Rattle.answers.specs.declared.Outcome.{Outcome}
+use Rattle.answers.specs.Answered.{Answered, row_of}
+use Rattle.answers.specs.declared.Refusal.{Refusal}
+use Rattle.bio_ids.specs.declared.GenomeLoc.{GenomeLoc}
 use Rattle.bio_ids.specs.declared.GenomePosition.{GenomePosition}
 use Rattle.cohort.proofs.Whole.{names_count}
 use Rattle.definitions.specs.Answers.{output_after, scratch_after, written_of}
@@ -44,25 +44,24 @@ use Rattle.depth_windows.proofs.Walking.{along_back}
 use Rattle.depth_windows.specs.Along.{CountReady, FillReady, all_counted, along_records, counts_along, extent_span, filled_counts, records_at}
 use Rattle.depth_windows.specs.Windowed.{Given, OverReady, Placed, counts_of, filled_with, placed_of, windowed_answer, windows_behind, windows_over_span}
 use Rattle.depth_windows.specs.declared.Asked.{Asked}
-use Rattle.depth_windows.specs.declared.Extent.{Extent}
-use Rattle.depth_windows.specs.declared.Windowed.TheVariants as windowed
-use Rattle.depth_windows.specs.declared.Windowed.{Windowed}
+use Rattle.depth_windows.specs.declared.WindowRun.{WindowRun}
+use Rattle.std.specs.Prelude as std
 
 -- ---- what a call gives
 
-pub given_refused : {windows : Checked Windows} {out out' : List ℕ} {row : ℕ} → windows ≡ refused row → out' ≡ out
-    → Given windows out out' (windowed.Refused row)
+pub given_refused : {windows : Checked Windows} {out out' : List ℕ} {r : Refusal} → windows ≡ refused (row_of r) → out' ≡ out
+    → Given windows out out' (std.Err r)
 unfolding placed_of counts_of output_after
 given_refused e same = rw e (record { answer = refl; output = same })
 
 pub given_windows : {windows : Checked Windows} {w : Windows} {out out' : List ℕ} (first : GenomePosition) {n : ℕ} → windows ≡ accepted w
     → first.0 ≡ w.first → n ≡ length w.counts → out' ≡ w.counts ++ drop (length w.counts) out
-    → Given windows out out' (windowed.Windows first n)
+    → Given windows out out' (std.Ok (record { first = first; count = n }))
 unfolding placed_of counts_of output_after
 given_windows first e begins count same = rw e (record { answer = rw (begins, count); output = same })
 
 -- of the same windows said another way
-pub given_same : {windows windows' : Checked Windows} {out out' : List ℕ} {r : Windowed} → windows ≡ windows' → Given windows out out' r
+pub given_same : {windows windows' : Checked Windows} {out out' : List ℕ} {r : std.Result WindowRun Refusal} → windows ≡ windows' → Given windows out out' r
     → Given windows' out out' r
 given_same e g = rw (← e) g
 
@@ -99,7 +98,8 @@ module _ {s : List ℕ} {h : ListHeader} {contig : List ℕ} {asked : Asked} {w 
 
     pub filled_given : {part : List ℕ} (first : GenomePosition) → first.0 ≡ w.first.0
         → ((r : CountReady s h contig asked w (zeros (length (take count out)))) → part ≡ all_counted r)
-        → Given (filled_with w.first.0 (filled_counts ready) (length out)) out (part ++ drop count out) (windowed.Windows first count)
+        → Given (filled_with w.first.0 (filled_counts ready) (length out)) out (part ++ drop count out)
+        (std.Ok (record { first = first; count = count }))
     unfolding filled_with zero_ready
     filled_given {part} first begins counts =
         let few : length (filled_counts ready) ≤ length out = omega (arith, filled_length) in
@@ -257,7 +257,7 @@ module _ (s contig : List ℕ) (h : ListHeader) (asked : Asked) (places : ℕ) w
 
 -- ---- the contig's extent
 
-pub over_ready : {s : List ℕ} {h : ListHeader} {contig : List ℕ} (e : Extent) → h.samples ≤ max_samples
+pub over_ready : {s : List ℕ} {h : ListHeader} {contig : List ℕ} (e : std.Option GenomeLoc) → h.samples ≤ max_samples
     → accepted (extent_span e) ≡ along_records (span_with contig) none (records_at s h) → OverReady s h contig e
 over_ready {s} {h} {contig} e few is =
     let back = along_back (span_with contig) none (records_at s h) (sym is) in
@@ -268,14 +268,14 @@ over_ready {s} {h} {contig} e few is =
 refused_same : {A B : Type 0} {m n : ℕ} → ◌≡◌ {A = Checked A} (refused m) (refused n) → ◌≡◌ {A = Checked B} (refused m) (refused n)
 refused_same {m = m} {n = n} e = let same : m ≡ n = cc in ap refused same
 
-abbrev outcome_of : Windowed → Outcome
-outcome_of (windowed.Windows first n) = outcome.Written n
-outcome_of (windowed.Refused row) = outcome.Refused row
+abbrev count_of : std.Result WindowRun Refusal → std.Result ℕ Refusal
+count_of (std.Ok run) = std.Ok run.count
+count_of (std.Err r) = std.Err r
 
-pub depth_answered : (windows : Checked Windows) {out out' : List ℕ} (r : Windowed) → Given windows out out' r
-    → Answered (windows >>= λ w. accepted w.counts) out out' (outcome_of r)
+pub depth_answered : (windows : Checked Windows) {out out' : List ℕ} (r : std.Result WindowRun Refusal) → Given windows out out' r
+    → Answered (windows >>= λ w. accepted w.counts) out out' (count_of r)
 unfolding placed_of counts_of written_of output_after ◌>>=◌
-depth_answered (refused n) (windowed.Windows first m) g = not_refused (sym g.answer)
-depth_answered (refused n) (windowed.Refused row) g = record { answer = refused_same g.answer; output = g.output }
-depth_answered (accepted w) (windowed.Windows first m) g = record { answer = ap (λ (p : Placed). accepted p.count) (accepted_same g.answer); output = g.output }
-depth_answered (accepted w) (windowed.Refused row) g = not_refused g.answer
+depth_answered (refused n) (std.Ok run) g = not_refused (sym g.answer)
+depth_answered (refused n) (std.Err r) g = record { answer = refused_same g.answer; output = g.output }
+depth_answered (accepted w) (std.Ok run) g = record { answer = ap (λ (p : Placed). accepted p.count) (accepted_same g.answer); output = g.output }
+depth_answered (accepted w) (std.Err r) g = not_refused g.answer

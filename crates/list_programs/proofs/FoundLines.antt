@@ -22,8 +22,7 @@ use Rattle.definitions.specs.Numbers.{decimal, max_number, number, written_or_mi
 use Rattle.definitions.specs.Records.{Record}
 use Rattle.files.proofs.FileTexts.{read_whole, taken_long, taken_whole, text_or_empty}
 use Rattle.files.proofs.LaidDigits.{length_most}
-use Rattle.files.specs.FileTexts.{read_text, text_length, too_long}
-use Rattle.files.specs.declared.FileRead.{FileRead}
+use Rattle.files.specs.FileTexts.{ReadAnswer, read_text, text_length, too_long}
 use Rattle.kv_write.proofs.Laying.{Left, done, laid_append, recast, room, several, start}
 use Rattle.kv_write.proofs.Lines.{line_keyed}
 use Rattle.kv_write.specs.Keyed.{keyed}
@@ -34,9 +33,11 @@ use Rattle.laws.proofs.Every.{Every, IfThere, also, every_all, every_map, every_
 use Rattle.laws.proofs.Lines.{line_at_back}
 use Rattle.laws.proofs.LookUp.{places_few}
 use Rattle.laws.proofs.SoundValues.{number_sound}
-use Rattle.position_lookup.specs.Found.{Counts, Gives, counts_of, lookup_answer}
-use Rattle.position_lookup.specs.declared.Lookup.TheVariants as lookup
-use Rattle.position_lookup.specs.declared.Lookup.{Lookup}
+use Rattle.answers.specs.Answered.{row_of}
+use Rattle.answers.specs.declared.Refusal.{Refusal}
+use Rattle.position_lookup.specs.Found.{Gives, counts_of}
+use Rattle.position_lookup.specs.declared.LookedUp as looked
+use Rattle.std.specs.Prelude as std
 use Rattle.list_programs.specs.FoundLines.{LookUpWhole, answer_lines, found_lines, most_bytes, record_option}
 
 -- ---- the numbers of an answer
@@ -131,38 +132,38 @@ pub record Found (s asked found : List ℕ) (n groups : ℕ) : Type 0 where
   pub lines : found_lines (take n found) groups ≡ printed_looked_up (accepted answer)
 
 module _ (s asked : List ℕ) {found₀ found : List ℕ} where
-  pub refused_found : (row : ℕ) → Gives (look_up_within s asked max_places) found₀ found (lookup.Refused row) → look_up s asked ≡ refused row
+  pub refused_found : (r : Refusal) → Gives (look_up_within s asked max_places) found₀ found (std.Err r) → look_up s asked ≡ refused (row_of r)
   unfolding counts_of
-  refused_found row g = go (look_up s asked) refl
+  refused_found r g = go (look_up s asked) refl
     where
-      told : refused row ≡ counts_of (look_up s asked)
+      told : refused (row_of r) ≡ counts_of (look_up s asked)
       told = g.answer ∙ ap counts_of (within_all s asked)
 
-      go : (m : Checked LookedUp) → look_up s asked ≡ m → m ≡ refused row
-      go (refused n) e = let k : ◌≡◌ {A = Checked Counts} (refused row) (refused n) = told ∙ ap counts_of e in ap refused (sym (same k))
+      go : (m : Checked LookedUp) → look_up s asked ≡ m → m ≡ refused (row_of r)
+      go (refused n) e = let k : ◌≡◌ {A = Checked looked.LookedUp} (refused (row_of r)) (refused n) = told ∙ ap counts_of e in ap refused (sym (same k))
         where
-          same : {m n : ℕ} → ◌≡◌ {A = Checked Counts} (refused m) (refused n) → m ≡ n
+          same : {m n : ℕ} → ◌≡◌ {A = Checked looked.LookedUp} (refused m) (refused n) → m ≡ n
           same e = cc
       go (accepted l) e = not_refused (told ∙ ap counts_of e)
 
-  pub some_found : (n groups : ℕ) → Gives (look_up_within s asked max_places) found₀ found (lookup.Found n groups) → Found s asked found n groups
+  pub some_found : (c : looked.LookedUp) → Gives (look_up_within s asked max_places) found₀ found (std.Ok c) → Found s asked found c.pairs c.groups
   unfolding counts_of output_after numbers_written printed_looked_up found_numbers
-  some_found n groups g = go (look_up s asked) refl
+  some_found c g = go (look_up s asked) refl
     where
-      told : accepted (record { pairs = n; groups = groups }) ≡ counts_of (look_up s asked)
+      told : accepted c ≡ counts_of (look_up s asked)
       told = g.answer ∙ ap counts_of (within_all s asked)
 
-      go : (m : Checked LookedUp) → look_up s asked ≡ m → Found s asked found n groups
+      go : (m : Checked LookedUp) → look_up s asked ≡ m → Found s asked found c.pairs c.groups
       go (refused row) e = not_refused (sym (told ∙ ap counts_of e))
       go (accepted l) e =
           let same = accepted_same (told ∙ ap counts_of e) in
-          let n_is : n ≡ length l.found = ap (λ (c : Counts). c.pairs) same in
-          let g_is : groups ≡ l.groups = ap (λ (c : Counts). c.groups) same in
+          let n_is : c.pairs ≡ length l.found = ap (λ (c : looked.LookedUp). c.pairs) same in
+          let g_is : c.groups ≡ l.groups = ap (λ (c : looked.LookedUp). c.groups) same in
           let right = right_found s asked l e in
           let written : found ≡ found_numbers l.found ++ drop (length (found_numbers l.found)) found₀ =
           g.written ∙ ap (λ (m : Checked LookedUp). output_after (numbers_written m) found₀) (within_all s asked ∙ e) in
-          let numbers : take n found ≡ found_numbers l.found =
-          ap (take n) written ∙ take_at (found_numbers l.found) _ n (length-map l.found _ ∙ sym n_is) in
+          let numbers : take c.pairs found ≡ found_numbers l.found =
+          ap (take c.pairs) written ∙ take_at (found_numbers l.found) _ c.pairs (length-map l.found _ ∙ sym n_is) in
           let lines = lines_are right.small in
           let short = flat_map_few line_of 28 (every_map line_short right.small) in
           record {
@@ -177,13 +178,13 @@ module _ (s asked : List ℕ) {found₀ found : List ℕ} where
           }
 
   -- the same for a table of 1,024 places
-  pub refused_in : (places row : ℕ) → places ≡ max_places → Gives (look_up_within s asked places) found₀ found (lookup.Refused row)
-      → look_up s asked ≡ refused row
-  refused_in places row e g = refused_found row (rw e at g)
+  pub refused_in : (places : ℕ) (r : Refusal) → places ≡ max_places → Gives (look_up_within s asked places) found₀ found (std.Err r)
+      → look_up s asked ≡ refused (row_of r)
+  refused_in places r e g = refused_found r (rw e at g)
 
-  pub found_in : (places n groups : ℕ) → places ≡ max_places → Gives (look_up_within s asked places) found₀ found (lookup.Found n groups)
-      → Found s asked found n groups
-  found_in places n groups e g = some_found n groups (rw e at g)
+  pub found_in : (places : ℕ) (c : looked.LookedUp) → places ≡ max_places → Gives (look_up_within s asked places) found₀ found (std.Ok c)
+      → Found s asked found c.pairs c.groups
+  found_in places c e g = some_found c (rw e at g)
 
 -- so many numbers stand at the table's front
 pub taken_size : {s asked found : List ℕ} {n groups : ℕ} → Found s asked found n groups → n ≡ length (take n found)
@@ -192,7 +193,7 @@ taken_size f = f.count ∙ sym (length-map f.answer.found _) ∙ sym (ap length 
 
 -- ---- the files
 
-module _ (first second : FileRead) (s t : List ℕ) where
+module _ (first second : ReadAnswer) (s t : List ℕ) where
   pub first_long : too_long first ≡ true → look_up_files (read_text first s) (read_text second t) ≡ refused 2
   unfolding look_up_files
   first_long e = then_refused _ _ (taken_long first s e)

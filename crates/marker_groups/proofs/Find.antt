@@ -8,6 +8,9 @@ use mathlib.Core.Option.{Option, none, some}
 use mathlib.Core.Path.{◌∙◌, ◌≡◌, ap, refl, sym}
 use native.Mathlib.Nat.{add-zero, sub-zero, zero-add}
 use native.Mathlib.Omega.{arith}
+use Rattle.std.specs.Option.{is_some}
+use Rattle.std.specs.Prelude as std
+use Rattle.answers.specs.Options.{option_of}
 use Rattle.definitions.specs.Bytes.{same_bytes}
 use Rattle.definitions.specs.Lists.{any_of, index_where, is_there, numbers_from}
 use Rattle.definitions.specs.SelectionSheet.{Marker, is_named}
@@ -104,6 +107,11 @@ module _ (s rows : List ℕ) (count : ℕ) (n : List ℕ) where
   pub found_none : found s rows count n ≡ none → any_of (same_bytes n) (names_in s rows count) ≡ false
   unfolding is_there
   found_none e = sym (there_any (same_bytes n) (names_in s rows count)) ∙ ap is_there e
+
+  -- whether one was found
+  pub some_found : (r : std.Option ℕ) {b : Bool} → option_of r ≡ found s rows count n → b ≡ is_some r → b ≡ any_of (same_bytes n) (names_in s rows count)
+  some_found (std.Some k) e h = h ∙ sym (found_any k (sym e))
+  some_found std.None e h = h ∙ sym (found_none (sym e))
 
 -- as the definitions have it, the nearest marker first
 pub is_named_lem : (s rows : List ℕ) (count : ℕ) (n : List ℕ) → is_named (reverse (markers_in s rows count)) n ≡ any_of (same_bytes n) (names_in s rows count)

@@ -58,16 +58,8 @@ fn allele_line(s: &[u8], at: usize) -> Option<Part>
 fn all_names(list: &[u8]) -> bool
     ensures { result ≡ all_of (λ f. is_there (name f)) (fields_of comma list.now) }
 {
-    let count = kv_text::count_fields(list, b',');
-    for i in 0..count {
-        let Some(field) = kv_text::field_at(list, b',', i) else {
-            return true;
-        };
-        if !kv_text::is_name(tables::part(list, field.at, field.end)) {
-            return false;
-        }
-    }
-    true
+    list.split(|b| *b == b',')
+        .all(|field| kv_text::is_name(field))
 }
 
 // Whether a value is `.` or up to four names.

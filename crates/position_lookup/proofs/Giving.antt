@@ -14,7 +14,8 @@ use Rattle.definitions.specs.CombinedList.{fits}
 use Rattle.definitions.specs.Lines.{lines_of}
 use Rattle.definitions.specs.ListReader.{record_lines, sample_lines, with_missing}
 use Rattle.definitions.specs.Lists.{groups_of, index_where}
-use Rattle.definitions.specs.LookUp.{LookedUp, Place, found_numbers, holds_place, last_of, look_up, look_up_within, looked_up, numbers_written, places_of, read_to_last}
+use Rattle.definitions.specs.LookUp as definitions
+use Rattle.definitions.specs.LookUp.{Place, found_numbers, holds_place, last_of, look_up, look_up_within, looked_up, numbers_written, places_of, read_to_last}
 use Rattle.kv_write.proofs.Laying.{sets_front}
 use Rattle.laws.proofs.Checked.{accepted_same, after_then, not_refused, not_required, refused_back, required, then, then_refused}
 use Rattle.laws.proofs.LookUp.{InOrder}
@@ -24,22 +25,24 @@ use Rattle.tables.specs.Tables.{names_in}
 use Rattle.position_lookup.proofs.Merged.{search_is}
 use Rattle.position_lookup.specs.Found.{FoundGiven, Gives, PairsFound, counts_of, search_of, with_room}
 use Rattle.position_lookup.specs.Search.{Standing, look_on}
-use Rattle.position_lookup.specs.declared.Lookup.TheVariants as lookup
-use Rattle.position_lookup.specs.declared.Lookup.{Lookup}
+use Rattle.position_lookup.specs.declared.LookedUp.{LookedUp}
+use Rattle.answers.specs.Answered.{row_of}
+use Rattle.answers.specs.declared.Refusal.{Refusal}
+use Rattle.std.specs.Prelude as std
 
 -- ---- the answer
 
-pub gives_refused : {m : Checked LookedUp} {out out' : List ℕ} {row : ℕ} → m ≡ refused row → out' ≡ out → Gives m out out' (lookup.Refused row)
+pub gives_refused : {m : Checked definitions.LookedUp} {out out' : List ℕ} {r : Refusal} → m ≡ refused (row_of r) → out' ≡ out → Gives m out out' (std.Err r)
 unfolding counts_of output_after numbers_written
 gives_refused e same = record { answer = rw e; written = rw e same }
 
-gives_found : {m : Checked LookedUp} {out out' : List ℕ} (l : LookedUp) (n groups : ℕ) → m ≡ accepted l → n ≡ length l.found → groups ≡ l.groups
-    → out' ≡ found_numbers l.found ++ drop (length (found_numbers l.found)) out → Gives m out out' (lookup.Found n groups)
+gives_found : {m : Checked definitions.LookedUp} {out out' : List ℕ} (l : definitions.LookedUp) (n groups : ℕ) → m ≡ accepted l → n ≡ length l.found → groups ≡ l.groups
+    → out' ≡ found_numbers l.found ++ drop (length (found_numbers l.found)) out → Gives m out out' (std.Ok (record { pairs = n; groups = groups }))
 unfolding counts_of output_after numbers_written
 gives_found l n groups e counted read same = record { answer = rw (e, counted, read); written = rw e same }
 
 -- as many answers as places
-pub found_length : (samples records : ℕ) (ps : List Place) (w : Standing) (l : LookedUp) → look_on samples records ps w ≡ accepted l
+pub found_length : (samples records : ℕ) (ps : List Place) (w : Standing) (l : definitions.LookedUp) → look_on samples records ps w ≡ accepted l
     → length l.found ≡ length ps
 unfolding look_on
 found_length samples records [] w l e = rw (← accepted_same e)
@@ -48,11 +51,11 @@ found_length samples records (p ∷ ps) w l e =
     rw (← accepted_same e) (ap suc (found_length samples records ps v rest f))
 
 -- the table keeps its size
-pub stored_size : {search : Checked LookedUp} {found₀ found : List ℕ} {groups : ℕ} → PairsFound search found₀ found groups
+pub stored_size : {search : Checked definitions.LookedUp} {found₀ found : List ℕ} {groups : ℕ} → PairsFound search found₀ found groups
     → length found ≡ length found₀
 stored_size {found₀ = found₀} f = ap length f.stored ∙ length-sets found₀ 0 (found_numbers f.answer.found)
 
-module _ {search : Checked LookedUp} {found₀ found : List ℕ} {groups count : ℕ} (f : PairsFound search found₀ found groups)
+module _ {search : Checked definitions.LookedUp} {found₀ found : List ℕ} {groups count : ℕ} (f : PairsFound search found₀ found groups)
     (counted : count ≡ length f.answer.found) (fit : count ≤ length found₀) where
   abbrev numbers : List ℕ
   numbers = found_numbers f.answer.found
@@ -66,15 +69,15 @@ module _ {search : Checked LookedUp} {found₀ found : List ℕ} {groups count :
       ap (take count) (f.stored ∙ sets_front found₀ numbers (omega (arith, numbers_count)))
       ∙ take_at numbers (drop (length numbers) found₀) count numbers_count
 
-  pub found_given : {out out' : List ℕ} (r : Lookup) → FoundGiven found count groups out out' r → Gives (with_room (length out) search) out out' r
+  pub found_given : {out out' : List ℕ} (r : std.Result LookedUp Refusal) → FoundGiven found count groups out out' r → Gives (with_room (length out) search) out out' r
   unfolding FoundGiven
-  found_given {out} (lookup.Found n g) (n_is, g_is, room, same) =
-      gives_found f.answer n g
+  found_given {out} (std.Ok l) (n_is, g_is, room, same) =
+      gives_found f.answer l.pairs l.groups
       (then _ _ f.value (required 14 _ _ (le-leb (length f.answer.found) (length out) (omega (arith, counted))) refl))
       (n_is ∙ counted)
       (g_is ∙ f.groups_are)
       (same ∙ ap (sets out 0) in_front_lem ∙ sets_front out numbers (omega (arith, numbers_count)))
-  found_given {out} (lookup.Refused row) (row_is, short, same) =
+  found_given {out} (std.Err r) (row_is, short, same) =
       gives_refused
       (then _ _ f.value
       (not_required 14 _ _ (lt-leb (length f.answer.found) (length out) (omega (arith, counted)))) ∙ rw row_is)

@@ -9,6 +9,9 @@ use mathlib.Core.Option.{Option, get_or}
 use mathlib.Core.Path.{◌∙◌, ◌≡◌, ap, refl, sym}
 use native.Mathlib.Nat.{zero-add}
 use native.Mathlib.Omega.{arith}
+use Rattle.std.specs.Option.{unwrap_or}
+use Rattle.std.specs.Prelude as std
+use Rattle.answers.specs.Options.{option_of}
 use Rattle.asked_places.specs.Asked.{PairTo, pair_lines, place_in}
 use Rattle.asked_places.specs.declared.Pair.{Pair}
 use Rattle.definitions.specs.Checked.{Checked, ◌>>=◌, accepted, refused}
@@ -70,6 +73,11 @@ front_next : (done : List (Option ℕ)) (o : Option ℕ) (m : Checked LookedUp)
 unfolding in_front ◌>>=◌
 front_next done o (refused n) = refl
 front_next done o (accepted l) = rw (append_assoc done (o ∷ []) l.found)
+
+-- the number of an answer
+pub number_is : (o : std.Option ℕ) → unwrap_or o no_record ≡ get_or (option_of o) no_record
+number_is std.None = refl
+number_is (std.Some n) = refl
 
 -- the number of one more answer is stored behind the others
 stored_next : (d : List ℕ) (done : List (Option ℕ)) (o : Option ℕ) {found : List ℕ} {count number : ℕ}

@@ -1,15 +1,13 @@
-use Rattle.depth_windows.proofs.Whole.{depth_answered}
 use Rattle.definitions.specs.DepthWindows.{depth_windows}
-use borrow.Author.Rules.{rules}
-use Rattle.depth_windows.proofs.depth_windows.Reads as reads
-use Rattle.depth_windows.proofs.depth_windows.Lts as lts
-use Rattle.depth_windows.proofs.windows_along.Reads as windows-along-reads
+use Rattle.site_groups.proofs.Refusals.{err_is}
+use Rattle.std.specs.Prelude.{Err, Ok}
+use Rattle.depth_windows.proofs.Whole.{depth_answered}
 use Rattle.depth_windows.proofs.depth_windows.Goals as goal
 
-pub returns-in-Refused : goal.returns-in-Refused
+pub returns-in_err-run : goal.returns-in_err-run
 unfolding depth_windows
-returns-in-Refused c = depth_answered _ _ (rw (c.in-Refused.is) at (c.windows_along-given.ensures))
+returns-in_err-run c = rw (err_is _ _ c.from_residual.ensures.1) (depth_answered _ (Err c.in_err-run.field-0.0) c.in_err-run.ensures)
 
-pub returns-in-Windows : goal.returns-in-Windows
+pub returns : goal.returns
 unfolding depth_windows
-returns-in-Windows c = depth_answered _ _ (rw (c.in-Windows.is) at (c.windows_along-given.ensures))
+returns c = depth_answered _ (Ok c.in_ok-run.run) c.in_ok-run.ensures

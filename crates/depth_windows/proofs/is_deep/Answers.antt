@@ -1,13 +1,10 @@
 use Rattle.definitions.specs.DepthWindows.{is_deep}
-use borrow.Author.Rules.{rules}
-use Rattle.depth_windows.proofs.is_deep.Reads as reads
-use Rattle.depth_windows.proofs.is_deep.Lts as lts
 use Rattle.depth_windows.proofs.is_deep.Goals as goal
 
-pub returns-in-Present : goal.returns-in-Present
+pub returns-in-Some : goal.returns-in-Some
 unfolding is_deep
-returns-in-Present c = rw (c.in-Present.is)
+returns-in-Some c = rw c.in-Some.is
 
-pub returns-in-Missing : goal.returns-in-Missing
+pub returns-in-None : goal.returns-in-None
 unfolding is_deep
-returns-in-Missing c = rw (c.in-Missing.is)
+returns-in-None c = rw c.in-None.is

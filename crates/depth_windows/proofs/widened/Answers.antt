@@ -1,11 +1,7 @@
-use borrow.Author.Rules.{rules}
-use Rattle.depth_windows.proofs.widened.Reads as reads
-use Rattle.depth_windows.proofs.widened.Lts as lts
-use Rattle.bio_ids.proofs.GenomeLoc.new.Reads as new-reads
 use Rattle.depth_windows.proofs.widened.Goals as goal
 
-pub returns-in-Nothing : goal.returns-in-Nothing
-returns-in-Nothing c = rw (c.in-Nothing.is, c.new.ensures.0, c.new.ensures.1)
+pub returns-in-Some : goal.returns-in-Some
+returns-in-Some c = rw (c.in-Some.is, c.new.ensures.0, c.new.ensures.1)
 
-pub returns-in-Reach : goal.returns-in-Reach
-returns-in-Reach c = rw (c.in-Reach.is, c.new-in-Reach.ensures.0, c.new-in-Reach.ensures.1)
+pub returns-in-None : goal.returns-in-None
+returns-in-None c = rw (c.in-None.is, c.new-in-None.ensures.0, c.new-in-None.ensures.1)

@@ -1,27 +1,28 @@
--- All fields are names if those from here on are.
-use lib.ListN.{length}
-use mathlib.Core.List.{[]}
-use mathlib.Core.Path.{◌∙◌, sym}
-use native.Mathlib.Omega.{arith}
+-- `all` tells whether every field is a name.
+use Prim.Native.Nat.{ℕ}
+use borrow.Author.Rules.{rules}
+use borrow.Author.Tests.{tests}
+use lib.Dec.{eqb}
+use mathlib.Core.Bool.{Bool}
+use mathlib.Core.List.{List}
+use mathlib.Core.Path.{◌∙◌, ap}
+use Rattle.std.proofs.lemmas.Iterator.{cases_from_all}
+use Rattle.std.proofs.lemmas.Iterator.Splits.{YieldsList-from_slice_split}
+use Rattle.std.specs.List.{slice_split}
+use Rattle.answers.proofs.Chains.{Fails, Passes, all_answer}
 use Rattle.definitions.specs.Bytes.{comma}
-use Rattle.kv_text.specs.Fields.{FieldFound}
-use Rattle.marker_groups.proofs.Values.{all_end, all_fails, all_step}
+use Rattle.definitions.specs.Lists.{all_of, is_there}
+use Rattle.definitions.specs.Numbers.{name}
+use Rattle.kv_text.proofs.Split.{fields_split}
 use Rattle.marker_groups.proofs.all_names.Goals as goal
-
-pub returns-in_default : goal.returns-in_default
-unfolding FieldFound comma
-returns-in_default c = all_end _ _ _ c.loop-i.invariant c.in_default.ensures
-
-pub returns-then-not-is_name : goal.returns-then-not-is_name
-unfolding FieldFound comma
-returns-then-not-is_name c = let h = c.in-Some.ensures in
-    all_fails _ _ _ c.loop-i.invariant [] h.0 (rw h.1 (rw c.part.ensures at (sym c.is_name.ensures ∙ c.if-not-is_name.true)))
-
-pub loop-i-preserved : goal.loop-i-preserved
-unfolding FieldFound comma
-loop-i-preserved c = let h = c.in-Some.ensures in
-    all_step _ _ _ c.loop-i.invariant [] h.0 (rw h.1 (rw c.part.ensures at (sym c.is_name.ensures ∙ c.if-not-is_name.false)))
 
 pub returns : goal.returns
 unfolding comma
-returns c = all_end _ _ c.loop-i.i c.loop-i.invariant (omega (arith, c.count_fields-count.ensures, c.loop-i-test.false))
+returns c =
+    let passes : List ℕ → Bool = λ f. is_there (name f) in
+    all_answer passes (slice_split (λ b. eqb b 44) c.args.list.now) c.all.result
+    (cases_from_all _ _ _ (Passes passes) (Fails passes) c.all.ensures.ran
+    (YieldsList-from_slice_split _ (λ b. eqb b 44) c.args.list.now c.split.ensures.rest c.split.ensures.done c.split.ensures.closure
+    (λ x b q k. search (rules, tests)))
+    (λ x q k. search (rules, tests)) (λ x q k. search (rules, tests)))
+    ∙ ap (all_of passes) (fields_split 44 c.args.list.now)

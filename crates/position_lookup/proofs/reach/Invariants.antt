@@ -1,15 +1,11 @@
 -- In each turn a group is read; what is left for the place is the same.
 use Prim.Native.Nat.{◌-◌}
-use Rattle.asked_places.specs.Asked.{place_with}
-use Rattle.definitions.specs.Records.{Record}
-use Rattle.list_walk.specs.Walk.{SteppedFrom}
-use Rattle.position_lookup.proofs.Reaching.{Reaching, reaching_end, reaching_next, reaching_reached, reaching_refused, reaching_start}
-use Rattle.position_lookup.specs.Found.{Reaches, StandsAt}
-use borrow.Author.Rules.{rules}
 use lib.ListN.{length}
 use mathlib.Core.List.{List}
-use mathlib.Core.Path.{◌∙◌, sym}
-use native.Mathlib.Omega.{arith}
+use Rattle.asked_places.specs.Asked.{place_with}
+use Rattle.definitions.specs.Records.{Record}
+use Rattle.position_lookup.proofs.Reaching.{Reaching}
+use Rattle.position_lookup.specs.Found.{StandsAt}
 use Rattle.position_lookup.proofs.reach.Given as goal
 
 abbrev pub invariant-loop-header : goal.invariant-loop-header

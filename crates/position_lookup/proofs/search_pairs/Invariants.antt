@@ -1,12 +1,8 @@
 -- The places from an offset on are left.
 use Prim.Native.Nat.{◌-◌}
-use Rattle.asked_places.specs.Asked.{PairRead}
-use Rattle.position_lookup.proofs.Searching.{Searching, searching_end, searching_few, searching_next, searching_refused, searching_stands, searching_start, searching_wrong}
-use Rattle.position_lookup.specs.Found.{PairsReady, PairsSearched, Reaches}
-use borrow.Author.Rules.{rules}
 use lib.ListN.{length}
-use mathlib.Core.Path.{refl}
-use native.Mathlib.Omega.{arith}
+use Rattle.position_lookup.proofs.Searching.{Searching}
+use Rattle.position_lookup.specs.Found.{PairsReady}
 use Rattle.position_lookup.proofs.search_pairs.Given as goal
 
 abbrev pub invariant-loop-at : goal.invariant-loop-at
