@@ -133,9 +133,16 @@ fn add_records(
 {
     let mut rows = [0usize; 1408];
     let mut cursor = list_walk::first_group(header);
-    while let Ok(Some((place, next))) = list_walk::step(list, header, cursor, &mut rows) {
-        add_record(list, place, &rows, contig, asked, windows, counts);
-        cursor = next;
+    loop {
+        match list_walk::step(list, header, cursor, &mut rows) {
+            Ok(Some((place, next))) => {
+                add_record(list, place, &rows, contig, asked, windows, counts);
+                cursor = next;
+            }
+            Ok(None) => return,
+            // No row refuses a list that was read before.
+            Err(_) => return,
+        }
     }
 }
 

@@ -1,7 +1,7 @@
 -- The places from an offset on are left.
-use Prim.Native.Nat.{◌-◌}
+use Prim.Native.Nat.{◌-◌, ℕ}
 use lib.ListN.{length}
-use mathlib.Core.Option.{get_or}
+use mathlib.Core.Option.{Option, get_or}
 use mathlib.Core.Path.{◌∙◌, ap, refl}
 use native.Mathlib.Omega.{arith}
 use Rattle.asked_places.specs.Asked.{PairRead}
@@ -19,8 +19,8 @@ unfolding PairRead PairsSearched
 returns-in_err-pair c = λ ready.
     searching_wrong _ _ _ _ ready (c.loop-at.invariant ready) c.loop-at-test.true (rw c.in_err-pair.ensures.ok_part at c.pair_at.ensures)
 
-pub reach-standing-requires : goal.reach-standing-requires
-reach-standing-requires c = c.requires.few
+pub reach-requires : goal.reach-requires
+reach-requires c = c.requires.few
 
 pub returns-in_err-standing : goal.returns-in_err-standing
 unfolding PairRead Reaches PairsSearched
@@ -52,7 +52,7 @@ loop-at-preserved c = λ ready.
     let to = rw c.in_ok-pair.ensures.ok_part at c.pair_at.ensures in
     let reached = rw c.part-contig.ensures at c.in_ok-standing.ensures in
     rw c.store.ensures (searching_next _ _ _ _ ready (c.loop-at.invariant ready) c.loop-at-test.true to reached
-    (λ stands. c.unwrap_or-number.ensures ∙ number_is _ ∙ ap (λ o. get_or o no_record) (rw c.part-contig.ensures at (c.holder.ensures stands))))
+    (λ stands. c.unwrap_or-number.ensures ∙ number_is c.holder.result ∙ ap (λ (o : Option ℕ). get_or o no_record) (rw c.part-contig.ensures at (c.holder.ensures stands))))
 
 pub returns : goal.returns
 unfolding PairsSearched
