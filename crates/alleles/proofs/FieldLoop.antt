@@ -23,14 +23,6 @@ module _ {B : Type 0} (answer : List (List ℕ) → B) (s : List ℕ) where
     pub field_decides_with : (b : B) → end < length s → answer (between s at end ∷ fields_of 44 (drop (end + 1) s)) ≡ b → b ≡ answer (fields_of comma s)
     field_decides_with b l h = sym h ∙ sym (ap answer (field_first 44 s at end ends l)) ∙ left.same
 
-    -- or whatever follows
-    pub field_decides : (b : B) → ((fs : List (List ℕ)) → answer (between s at end ∷ fs) ≡ b) → b ≡ answer (fields_of comma s)
-    field_decides b h = go (dec_lt end (length s))
-      where
-        go : Dec (end < length s) → b ≡ answer (fields_of comma s)
-        go (yes l) = field_decides_with b l (h _)
-        go (no l) = sym (h _) ∙ sym (ap answer (field_last 44 s at end ends left.within (omega arith))) ∙ left.same
-
     -- the answer is that of the fields behind it
     pub field_passed : end < length s
         → answer (between s at end ∷ fields_of 44 (drop (end + 1) s)) ≡ answer (fields_of 44 (drop (end + 1) s)) → FieldsLeft (end + 1)

@@ -93,17 +93,14 @@ fn wide(x: u8) -> u64
 fn is_digit(b: u8) -> bool
     ensures { result ≡ is_digit b }
 {
-    48 <= b && b <= 57
+    b.is_ascii_digit()
 }
 
 // Whether no byte of a list's field is left at an offset: a comma stands there, or nothing.
 fn is_field_end(s: &[u8], at: usize) -> bool
     ensures { result ≡ eqb (field_length comma (drop at s.now)) 0 }
 {
-    if s.len() <= at {
-        return true;
-    }
-    s[at] == b','
+    s.len() <= at || s[at] == b','
 }
 
 // The number in the field at an offset of a list, and where the field ends: decimal digits, 0 to 2147483647, with no leading zero.
@@ -176,23 +173,14 @@ pub fn read_numbers(s: &[u8], out: &mut [u32]) -> Option<usize>
 fn is_name_byte(b: u8) -> bool
     ensures { result ≡ is_name_byte b }
 {
-    if b < 33 {
-        return false;
-    }
-    if 126 < b {
-        return false;
-    }
-    if b == 61 {
-        return false;
-    }
-    b != 44
+    33 <= b && b <= 126 && b != b'=' && b != b','
 }
 
 // Whether a field is a name: 1 to 32 bytes from 33 to 126 without `=` and `,`.
 pub fn is_name(s: &[u8]) -> bool
     ensures { result ≡ is_there (name s.now) }
 {
-    if s.len() < 1 {
+    if s.is_empty() {
         return false;
     }
     if 32 < s.len() {
@@ -225,11 +213,7 @@ pub fn capital(b: u8) -> u8
 fn same_letter(a: u8, b: u8) -> bool
     ensures { result ≡ eqb (capital a) (capital b) }
 {
-    if a == b {
-        return true;
-    }
-    let raised = capital(a);
-    raised == capital(b)
+    b == a || capital(a) == capital(b)
 }
 
 // The same letters in either case: as many, and each with the same capital.
@@ -243,7 +227,7 @@ pub fn same_letters(a: &[u8], b: &[u8]) -> bool
 pub fn is_letters(s: &[u8], most: usize) -> bool
     ensures { result ≡ is_there (letters_of most s.now) }
 {
-    if s.len() < 1 {
+    if s.is_empty() {
         return false;
     }
     if most < s.len() {

@@ -1,4 +1,4 @@
--- Names in a table: one by one, one more behind them, and in any order.
+-- Names in a table: one more behind them, and in any order.
 use Prim.Native.Nat.{◌*◌, ◌+◌, ◌-◌, ◌<◌, ◌≤◌, suc, zero, ℕ}
 use lib.ListN.{length, length-set, set}
 use lib.Seq.{get_or-set_other, get_or-set_same}
@@ -12,34 +12,6 @@ use Rattle.kv_text.specs.Fields.{between}
 use Rattle.laws.proofs.Members.{any_member, member_any, member_reverse, numbers_append, reverse_member}
 use Rattle.laws.proofs.Tests.{bool_ext}
 use Rattle.tables.specs.Tables.{name_at, names_in}
-
--- ---- a search
-
-module _ (p : List ℕ → Bool) (s names : List ℕ) (count : ℕ) where
-  -- some name from this number on passes
-  unfoldable pub any_from : ℕ → Bool
-  any_from i = any_of p (map (name_at s names) (numbers_from i (count - i)))
-
-  pub any_start : any_of p (names_in s names count) ≡ any_from 0
-  unfolding any_from names_in
-  any_start = let e : count - 0 ≡ count = omega arith in rw e
-
-  module _ (i : ℕ) where
-    module _ (known : List ℕ) (here : known ≡ name_at s names i) (h : i < count) where
-      pub any_here : p known ≡ true → any_from i ≡ true
-      unfolding any_from any_of numbers_from
-      any_here e = let m : count - i ≡ suc (count - (i + 1)) = omega arith in rw m (rw (← here, e))
-
-      pub any_next : p known ≡ false → any_from i ≡ any_from (i + 1)
-      unfolding any_from any_of numbers_from
-      any_next e =
-          let m : count - i ≡ suc (count - (i + 1)) = omega arith in
-          let n : suc i ≡ i + 1 = omega arith in
-          rw m (rw (← here, e, n))
-
-    pub any_end : count ≤ i → any_from i ≡ false
-    unfolding any_from any_of numbers_from
-    any_end h = let m : count - i ≡ 0 = omega arith in rw m
 
 -- ---- the order
 

@@ -1,12 +1,7 @@
--- By cases.
-use borrow.Author.Tests.{lt-leb, le-leb}
+-- The library's digits.
 use Rattle.definitions.specs.Numbers.{is_digit}
 use Rattle.kv_text.proofs.is_digit.Goals as goal
 
-pub returns-then-b-ge48 : goal.returns-then-b-ge48
+pub returns : goal.returns
 unfolding is_digit
-returns-then-b-ge48 c = simp (le-leb _ _ c.if-b-ge48.true)
-
-pub returns-else-b-ge48 : goal.returns-else-b-ge48
-unfolding is_digit
-returns-else-b-ge48 c = simp (lt-leb _ _ c.if-b-ge48.false)
+returns c = c.is_ascii_digit.ensures.value

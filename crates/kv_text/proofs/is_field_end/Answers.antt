@@ -1,12 +1,12 @@
 -- The field at an offset is empty where a comma or nothing stands.
 use Prim.Native.Nat.{◌<◌, ◌≤◌, suc, ℕ}
-use borrow.Author.Tests.{eq-eqb, ne_eqb}
+use borrow.Author.Tests.{eq-eqb, le-leb, ne_eqb}
 use lib.Dec.{eqb}
 use lib.ListN.{drop, drop_of_length-le, get_or, length}
 use lib.Seq.{drop-cons}
 use mathlib.Core.Bool.{true}
 use mathlib.Core.List.{List, ◌∷◌}
-use mathlib.Core.Path.{◌≡◌, sym}
+use mathlib.Core.Path.{◌∙◌, ◌≡◌, sym}
 use native.Mathlib.Decide.{ℕ_discrete}
 use native.Mathlib.Omega.{arith}
 use Rattle.definitions.specs.Bytes.{comma}
@@ -29,8 +29,8 @@ module _ (s : List ℕ) (at : ℕ) where
 
 pub returns-then-s-at : goal.returns-then-s-at
 unfolding comma
-returns-then-s-at c = past _ _ c.if-s-at.true
+returns-then-s-at c = le-leb _ _ c.if-s-at.true ∙ past _ _ c.if-s-at.true
 
-pub returns : goal.returns
+pub returns-else-s-at : goal.returns-else-s-at
 unfolding comma
-returns c = here c.args.s.now c.args.at (omega arith)
+returns-else-s-at c = here c.args.s.now c.args.at (omega arith)

@@ -1,22 +1,27 @@
 -- By cases.
-use mathlib.Core.Bool.{and-false}
-use borrow.Author.Tests.{lt-leb, le-leb, eq-eqb, ne_eqb}
+use Prim.Native.Nat.{◌<◌, ◌≤◌, ℕ}
+use borrow.Author.Tests.{eq-eqb, le-leb, lt-leb, ne_eqb}
+use mathlib.Core.Bool.{Bool, and-false, false}
+use mathlib.Core.Logic.{◌⊎◌, inl, inr}
+use mathlib.Core.Path.{◌∙◌, ◌≡◌, sym}
 use Rattle.definitions.specs.Bytes.{comma}
 use Rattle.definitions.specs.Numbers.{is_name_byte}
 use Rattle.kv_text.proofs.is_name_byte.Goals as goal
 
-pub returns-then-b-lt33 : goal.returns-then-b-lt33
+other : (b : ℕ) → ((33 ≤ b) × (b ≤ 126) × (b ≡ 61)) ⊎ (((33 ≤ b) × (126 < b)) ⊎ (b < 33)) → is_name_byte b ≡ false
 unfolding is_name_byte
-returns-then-b-lt33 c = simp (lt-leb _ _ c.if-b-lt33.true)
+other b (inl h) = simp (eq-eqb _ _ h.2, and-false)
+other b (inr (inl h)) = simp (lt-leb _ _ h.1, and-false)
+other b (inr (inr h)) = simp (lt-leb _ _ h)
 
-pub returns-then-b-gt126 : goal.returns-then-b-gt126
-unfolding is_name_byte
-returns-then-b-gt126 c = simp (lt-leb _ _ c.if-b-gt126.true, and-false)
+told : {t r : Bool} → t ≡ false → r ≡ false → t ≡ r
+told p q = p ∙ sym q
 
-pub returns-then-b-eq61 : goal.returns-then-b-eq61
-unfolding is_name_byte
-returns-then-b-eq61 c = simp (eq-eqb _ _ c.if-b-eq61.true, and-false)
-
-pub returns : goal.returns
+pub returns-then-b-ne61 : goal.returns-then-b-ne61
 unfolding is_name_byte comma
-returns c = simp (le-leb _ _ c.if-b-lt33.false, le-leb _ _ c.if-b-gt126.false, ne_eqb _ _ c.if-b-eq61.false)
+returns-then-b-ne61 c =
+    let h = c.if-b-ne61.true in
+    simp (le-leb _ _ h.0, le-leb _ _ h.1, ne_eqb _ _ h.2)
+
+pub returns-else-b-ne61 : goal.returns-else-b-ne61
+returns-else-b-ne61 c = told (cc) (other c.args.b c.if-b-ne61.either)

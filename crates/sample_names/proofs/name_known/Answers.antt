@@ -31,6 +31,6 @@ returns c =
     let known : ℕ → Bool = λ i. same_bytes c.args.name.now (name_at c.args.s.now c.args.names.now i) in
     any_answer known (range_with_len 0 c.args.count) c.any.result
     (cases_from_any _ _ _ (Passes known) (Fails known) c.any.ensures.ran
-     (YieldsList-from_range 0 c.args.count c.args.count refl (omega arith)) (λ x q k. search (rules, tests)) (λ x q k. search (rules, tests)))
+    (YieldsList-from_range 0 c.args.count c.args.count refl (omega arith)) (λ x q k. search (rules, tests)) (λ x q k. search (rules, tests)))
     ∙ ap (any_of known) (numbers 0 c.args.count)
     ∙ any_map (same_bytes c.args.name.now) (name_at c.args.s.now c.args.names.now) (numbers_from 0 c.args.count)
