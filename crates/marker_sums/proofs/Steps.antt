@@ -4,7 +4,8 @@ use lib.Dec.{eqb}
 use lib.ListN.{get_or, length, length-set, set}
 use mathlib.Core.Bool.{Bool, ◌&&◌, cond, false, true}
 use mathlib.Core.List.{List, map}
-use mathlib.Core.Path.{◌∙◌, ◌≡◌, sym}
+use mathlib.Core.Path.{◌∙◌, ◌≡◌, refl, sym}
+use mir.Val.{bool_byte}
 use native.Mathlib.Nat.{add_assoc, sub-zero}
 use native.Mathlib.Omega.{arith}
 use Rattle.definitions.specs.Lists.{all_of, numbers_from}
@@ -37,6 +38,11 @@ module _ (rows met : List ℕ) (marker n j : ℕ) (inv : met_after rows met mark
   met_end h = sym (inv ∙ rw (rows_end (named rows marker) n j h))
 
 -- ---- all markers
+
+-- the flag of a marker that is met or not
+pub flag_is : (b : Bool) → bool_byte b ≡ cond b 1 0
+flag_is true = refl
+flag_is false = refl
 
 pub record Summing (rows shown met₀ : List ℕ) (count : ℕ) (met : List ℕ) (sum m : ℕ) : Type 0 where
   pub whole : sum_over rows shown met₀ (numbers_from 0 count) ≡ sum + sum_over rows shown met (numbers_from m (count - m))

@@ -2,9 +2,9 @@
 use Prim.Native.Nat.{◌-◌, ℕ}
 use borrow.Author.Rules.{rules}
 use lib.ListN.{length-replicate}
-use mathlib.Core.Path.{refl, sym}
+use mathlib.Core.Path.{sym}
 use native.Mathlib.Omega.{arith}
-use Rattle.marker_sums.proofs.Steps.{Summing, light_weight, summing_end, summing_next, summing_start}
+use Rattle.marker_sums.proofs.Steps.{Summing, flag_is, light_weight, summing_end, summing_next, summing_start}
 use Rattle.marker_sums.specs.Sums.{none_met}
 use Rattle.marker_sums.proofs.sample_sum.Goals as goal
 
@@ -32,7 +32,7 @@ pub loop-marker-smaller : goal.loop-marker-smaller
 loop-marker-smaller c = omega (arith, c.loop-marker-test.true)
 
 pub loop-marker-preserved : goal.loop-marker-preserved
-loop-marker-preserved c = summing_next c.loop-marker.invariant c.requires (c.loop-marker-test.true) _ (c.is_met-is.ensures) _ _ refl (c.weighed-sum.ensures)
+loop-marker-preserved c = summing_next c.loop-marker.invariant c.requires (c.loop-marker-test.true) _ (c.is_met-is.ensures) _ _ (flag_is c.is_met-is.result) (c.weighed-sum.ensures)
 
 pub returns : goal.returns
 returns c = summing_end c.loop-marker.invariant (c.loop-marker-test.false)
