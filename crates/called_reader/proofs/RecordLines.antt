@@ -1,20 +1,17 @@
 -- The lines of a called record group, one after the other, and what their answers mean.
-use Prim.Native.Nat.{◌*◌, ◌+◌, ◌<◌, ℕ}
-use lib.ListN.{length}
-use mathlib.Core.List.{List, []}
-use mathlib.Core.Option.{get_or, some}
+use Prim.Native.Nat.{◌*◌, ◌+◌, ℕ}
+use mathlib.Core.List.{List}
+use mathlib.Core.Option.{some}
 use mathlib.Core.Path.{◌≡◌, refl}
 use native.Mathlib.Omega.{arith}
 use Rattle.std.specs.Prelude as std
 use Rattle.answers.specs.Options.{option_of}
 use Rattle.bio_ids.specs.declared.GenomePosition.{GenomePosition}
-use Rattle.definitions.specs.Checked.{refused}
 use Rattle.definitions.specs.Lines.{key_of, line_at}
 use Rattle.definitions.specs.Numbers.{name, number, number_list, or_missing}
 use Rattle.definitions.specs.SelectionSheet.{called_data_read, called_lines, called_record_read}
 use Rattle.kv_text.proofs.Groups.{behind_next, behind_start, line_read, line_unread}
 use Rattle.kv_text.proofs.Lines.{line_within}
-use Rattle.kv_text.specs.Fields.{between}
 use Rattle.kv_text.specs.Lines.{Behind, LineReads, read_to, unread}
 use Rattle.kv_text.specs.declared.Part.{Part}
 use Rattle.laws.proofs.Checked.{then, then_refused}
@@ -131,5 +128,5 @@ module _ (s : List ℕ) (at : ℕ) where
             };
             behind = behind_same (behind_next h₃ "alt" some _ alts.end l₃) (omega arith);
             forward = omega (arith, h₃.forward, l₃.forward);
-            within = let h = line_within s (refs.end + 1) (key_of "alt") some _ e₃ l₃ in omega arith;
+            within = let h = line_within s (refs.end + 1) (key_of "alt") some _ alts.end l₃ in omega arith;
           }

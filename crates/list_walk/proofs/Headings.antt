@@ -10,12 +10,12 @@ use native.Mathlib.Omega.{arith}
 use Rattle.std.specs.Prelude as std
 use Rattle.answers.specs.declared.Refusal.{Refusal}
 use Rattle.cohort.proofs.Whole.{names_count}
-use Rattle.definitions.specs.Checked.{accepted, or_refuse, refused}
+use Rattle.definitions.specs.Checked.{or_refuse, refused}
 use Rattle.definitions.specs.Cohort.{samples_of}
 use Rattle.definitions.specs.Lines.{Line, key_of, line_at, lines_of, value_of}
 use Rattle.definitions.specs.Numbers.{number}
 use Rattle.kv_text.proofs.Groups.{behind_next}
-use Rattle.kv_text.specs.Lines.{Behind, LineReads, line_value}
+use Rattle.kv_text.specs.Lines.{LineReads, line_value}
 use Rattle.laws.proofs.Checked.{then, then_refused}
 use Rattle.sample_names.specs.Header.{HeaderTo}
 use Rattle.tables.proofs.Cleared.{scratch_same}

@@ -5,24 +5,23 @@ use lib.ListN.{drop, length, take}
 use lib.Seq.{take-nil}
 use mathlib.Core.List.{List, [], ◌∷◌, append-nil}
 use mathlib.Core.Option.{get_or}
-use mathlib.Core.Path.{◌∙◌, ◌≡◌, refl, sym}
+use mathlib.Core.Path.{◌≡◌, refl, sym}
 use native.Mathlib.Omega.{arith}
 use Rattle.std.specs.Prelude as std
 use Rattle.bio_ids.specs.declared.GenomePosition.{GenomePosition}
 use Rattle.cohort.proofs.FirstGroups.{some_lines}
 use Rattle.definitions.specs.Answers.{scratch_after}
-use Rattle.definitions.specs.Lines.{Line, lines_of}
+use Rattle.definitions.specs.Lines.{lines_of}
 use Rattle.definitions.specs.ListReader.{record_lines, record_read, sample_lines, with_missing}
 use Rattle.definitions.specs.Lists.{groups_from, groups_of}
-use Rattle.definitions.specs.Records.{Record, record_end}
+use Rattle.definitions.specs.Records.{record_end}
 use Rattle.laws.proofs.Checked.{not_required}
 use Rattle.laws.proofs.Groups.{groups_cons}
 use Rattle.laws.proofs.Lines.{lines_end}
 use Rattle.list_reader.specs.RecordGroups.{PreviousOf, RecordRefused, RecordTo, end_option, group_lines, record_group}
-use Rattle.list_reader.specs.declared.PreviousRecord.{PreviousRecord}
 use Rattle.list_reader.specs.declared.RecordPlace.{RecordPlace}
 use Rattle.list_walk.proofs.MissingGroups.{missing_next}
-use Rattle.list_walk.specs.Walk.{LastStep, RecordStep, RefusedStep, StandsBehind, groups_at, record_at}
+use Rattle.list_walk.specs.Walk.{LastStep, RecordStep, RefusedStep, groups_at, record_at}
 use Rattle.list_walk.specs.declared.ListCursor.{ListCursor}
 use Rattle.list_walk.specs.declared.ListHeader.{ListHeader}
 

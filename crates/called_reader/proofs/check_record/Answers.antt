@@ -1,6 +1,4 @@
 -- Row by row, as the laws of RecordChecks have them.
-use borrow.Author.Rules.{rules}
-use borrow.Author.Tests.{not-false, not-true}
 use mathlib.Core.Path.{◌∙◌, sym}
 use native.Mathlib.Omega.{arith}
 use Rattle.alleles.specs.Alleles.{AllelesFound}

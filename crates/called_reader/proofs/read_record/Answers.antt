@@ -1,5 +1,4 @@
 -- The lines, then the checks.
-use borrow.Author.Rules.{rules}
 use Rattle.site_groups.proofs.Refusals.{err_is, none_is}
 use Rattle.called_reader.proofs.RecordChecks.{record_found, record_refused}
 use Rattle.called_reader.specs.CalledGroups.{RecordFound, TextRead}

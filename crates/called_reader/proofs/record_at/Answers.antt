@@ -1,5 +1,4 @@
 -- A refused record leaves a cleared table.
-use borrow.Author.Rules.{rules}
 use mathlib.Core.Bool.{false, true}
 use mathlib.Core.Path.{◌∙◌, ◌≡◌}
 use Rattle.std.specs.Prelude as std

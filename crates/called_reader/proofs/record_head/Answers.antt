@@ -1,5 +1,4 @@
 -- One line after the other, each behind the one before it.
-use borrow.Author.Rules.{rules}
 use mathlib.Core.Option.{some}
 use native.Mathlib.Omega.{arith}
 use Rattle.definitions.specs.Bytes.{text}

@@ -1,9 +1,7 @@
 -- Sample by sample, each behind those in the table.
-use Prim.Native.Nat.{◌-◌}
-use borrow.Author.Rules.{rules}
 use lib.Seq.{lt-length-set}
 use native.Mathlib.Omega.{arith}
-use Rattle.called_reader.proofs.Samples.{Reading, reading_start, sample_next, sample_wrong, samples_end}
+use Rattle.called_reader.proofs.Samples.{reading_start, sample_next, sample_wrong, samples_end}
 use Rattle.called_reader.specs.CalledGroups.{HeadRead, SampleRead, TextRead}
 use Rattle.definitions.specs.Bytes.{comma}
 use Rattle.called_reader.proofs.record_text.Goals as goal

@@ -1,11 +1,6 @@
 -- Sample by sample, each behind those in the table.
 use Prim.Native.Nat.{◌-◌}
-use borrow.Author.Rules.{rules}
-use lib.Seq.{lt-length-set}
-use native.Mathlib.Omega.{arith}
-use Rattle.called_reader.proofs.Samples.{Reading, reading_start, sample_next, sample_wrong, samples_end}
-use Rattle.called_reader.specs.CalledGroups.{HeadRead, SampleRead, TextRead}
-use Rattle.definitions.specs.Bytes.{comma}
+use Rattle.called_reader.proofs.Samples.{Reading}
 use Rattle.called_reader.proofs.record_text.Given as goal
 
 abbrev pub invariant-loop-i : goal.invariant-loop-i

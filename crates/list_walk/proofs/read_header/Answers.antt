@@ -2,7 +2,6 @@
 use Rattle.list_walk.proofs.Headings.{heading_read, samples_refused}
 use Rattle.list_walk.specs.Walk.{HeaderRead}
 use Rattle.sample_names.specs.Header.{Header}
-use borrow.Author.Rules.{rules}
 use native.Mathlib.Omega.{arith}
 use Rattle.list_walk.proofs.read_header.Goals as goal
 
@@ -12,9 +11,9 @@ returns-in-Ok c = let h = rw c.in-Ok.is at c.read_samples.ensures in heading_rea
 
 pub returns-in-Err-Refused : goal.returns-in-Err-Refused
 unfolding Header HeaderRead
-returns-in-Err-Refused c = let h = rw c.in-Err-Refused.is at c.read_samples.ensures in
+returns-in-Err-Refused c = let h = rw c.in-Err-Refused.field-0-is at c.in-Err-Refused.ensures in
     record { value = samples_refused _ _ h.value; cleared = h.cleared }
 
 pub returns-in-Err-NoRoom : goal.returns-in-Err-NoRoom
 unfolding Header
-returns-in-Err-NoRoom c = let h = rw c.in-Err-NoRoom.is at c.read_samples.ensures in absurd (omega (arith, h.no_room))
+returns-in-Err-NoRoom c = let h = rw c.in-Err-NoRoom.field-0-is at c.in-Err-NoRoom.ensures in absurd (omega (arith, h.no_room))

@@ -4,7 +4,6 @@ use Rattle.definitions.specs.Bytes.{text}
 use Rattle.definitions.specs.Lines.{key_of}
 use Rattle.kv_text.specs.Lines.{LineReads}
 use Rattle.list_walk.specs.Walk.{FigureRead}
-use borrow.Author.Rules.{rules}
 use mathlib.Core.Path.{refl}
 use native.Mathlib.Omega.{arith}
 use Rattle.list_walk.proofs.records_line.Goals as goal

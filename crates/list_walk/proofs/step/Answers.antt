@@ -4,7 +4,6 @@ use Rattle.list_reader.specs.RecordGroups.{RecordRead}
 use Rattle.list_walk.proofs.Steps.{step_end, step_past, step_record, step_refused}
 use Rattle.list_walk.specs.Walk.{SteppedFrom}
 use Rattle.site_groups.proofs.Refusals.{err_is}
-use borrow.Author.Rules.{rules}
 use mathlib.Core.Path.{refl}
 use Rattle.list_walk.proofs.step.Goals as goal
 
@@ -22,4 +21,4 @@ returns-in_err-place c = rw (err_is _ _ c.from_residual.ensures.1) (step_refused
 
 pub returns : goal.returns
 unfolding SteppedFrom RecordRead
-returns c = step_record _ _ _ c.if-header-read.false _ c.in_ok-place.ensures c.record_end-end.ensures
+returns c = step_record _ _ _ c.if-header-read.false _ c.in_ok-place.ensures c.record_end.ensures
