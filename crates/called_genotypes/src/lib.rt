@@ -74,6 +74,7 @@ fn fold_pl(retained: usize, dropped: AlleleIndex, pl: &[u32], out: &mut [u32]) -
     ensures { Filled (folded_pl retained dropped.0 pl.now) out.old out.new result }
 {
     let count = retained * (retained + 1) / 2;
+    // each value is computed from its place: there is no slice to go over
     for place in 0..count {
         let x = folded_pl_at(pl, dropped, place);
         slices::store(out, place, x);

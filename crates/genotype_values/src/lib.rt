@@ -90,6 +90,7 @@ pub fn remap_pl(map: &[u8], pl: &[u32], out: &mut [u32]) -> usize
         return 0;
     }
     let mut at = 0;
+    // by allele number, and each row has its own length: there is no slice to go over
     for number in 0..alleles {
         let high = AlleleIndex::new(number as u8);
         remap_pl_row(map, pl, high, out, at);

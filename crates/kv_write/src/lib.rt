@@ -105,6 +105,7 @@ fn store_digits(to: &mut [u8], n: u32)
 {
     let mut place = to.len();
     let mut left = n;
+    // the digits are computed, from the last to the first: there is no slice to go over
     while 10 <= left {
         place = place - 1;
         to[place] = 48 + (left % 10) as u8;

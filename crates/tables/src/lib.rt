@@ -206,6 +206,7 @@ fn stored_numbers(rows: &[usize], site: usize, k: usize, out: &mut [u32])
     ensures { out.new ≡ sets out.old 0 (stored_numbers k rows.now site) }
 {
     let count = column(rows, site, k);
+    // more may be counted than fit, and two stand in each column: no slice goes along with them
     for i in 0..count {
         let n = column(rows, site, k + 1 + i / 2);
         slices::store(out, i, half_at(n, i));
@@ -266,6 +267,7 @@ fn store_list(rows: &mut [usize], at: usize, words: usize, numbers: &[u32])
     ensures { rows.new ≡ sets rows.old at (list_columns words numbers.now) }
 {
     rows[at] = numbers.len();
+    // each column is computed from two numbers of the list, of which the last may be absent
     for j in 0..words {
         let word = word_of(numbers, j);
         rows[at + 1 + j] = word;

@@ -22,4 +22,7 @@ pub slice_bounds-normalize_pl-end : goal.slice_bounds-normalize_pl-end
 slice_bounds-normalize_pl-end c = filled_length (c.fold_pl-count.ensures) (folded_few (c.args.alleles - 1) (c.args.dropped.0) (c.args.pl.now) (omega (arith, c.if-alleles-gt16.false)))
 
 pub returns : goal.returns
-returns c = dropped_pl (c.if-alleles-lt2.false) (c.if-alleles-gt16.false) (omega (arith, c.get.ensures, c.if-alleles-get.false)) (filled_front (c.fold_pl-count.ensures) (folded_few (c.args.alleles - 1) (c.args.dropped.0) (c.args.pl.now) (omega (arith, c.if-alleles-gt16.false)))) (c.fold_pl-count.ensures.count) (c.normalize_pl.ensures)
+returns c =
+    let few = folded_few (c.args.alleles - 1) c.args.dropped.0 c.args.pl.now (omega (arith, c.if-alleles-gt16.false)) in
+    dropped_pl c.if-alleles-lt2.false c.if-alleles-gt16.false (omega (arith, c.get.ensures, c.if-alleles-get.false)) (filled_front c.fold_pl-count.ensures few)
+    c.fold_pl-count.ensures.count c.normalize_pl.ensures

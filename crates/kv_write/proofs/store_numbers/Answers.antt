@@ -31,7 +31,11 @@ items_fit : (ns : List ℕ) → ((i : ℕ) → get_or ns i 0 < 2 ^ 32) → (i : 
 items_fit ns h i = rw (others_are ns) (rest_fits ns h i)
 
 pub loop-n-init : goal.loop-n-init
-loop-n-init c = (start (fits_rest _ c.store_number-next.ensures (rw (first_then _ c.requires.0) at c.requires.1)), omega (arith, c.store_number-next.ensures.next, laid_length c.store_number-next.ensures, length_others c.args.numbers.now, length_most (get_or c.args.numbers.now 0 0) (omega (arith, c.type_inv.numbers 0))))
+loop-n-init c =
+    let ns = c.args.numbers.now in
+    let first = c.store_number-next.ensures in
+    let most = length_most (get_or ns 0 0) (omega (arith, c.type_inv.numbers 0)) in
+    (start (fits_rest _ first (rw (first_then _ c.requires.0) at c.requires.1)), omega (arith, first.next, laid_length first, length_others ns, most))
 
 pub bounds-out-next : goal.bounds-out-next
 bounds-out-next c = omega (arith, c.loop-n.invariant.1)
