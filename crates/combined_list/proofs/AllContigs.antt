@@ -17,8 +17,10 @@ use Rattle.laws.proofs.Members.{flat_map_append}
 use Rattle.combined_list.specs.Contigs.{AllReady, OneReady, all_records, records_on}
 use Rattle.contig_walk.specs.Walk.{RecordsLaid, RecordsRefused, RecordsWalked}
 use Rattle.coalescing.specs.Steps.{Progress}
-use Rattle.contig_walk.specs.declared.Walked.{Walked}
-use Rattle.contig_walk.specs.declared.Walked.TheVariants as walked
+use Rattle.answers.specs.Answered.{row_of}
+use Rattle.answers.specs.declared.Refusal.{Refusal}
+use Rattle.contig_walk.specs.declared.ListEnd.{ListEnd}
+use Rattle.std.specs.Prelude as std
 
 -- ---- records that are done, and those of the contigs from one on
 
@@ -67,54 +69,51 @@ module _ {s rows : List ℕ} {samples : ℕ} {clipped : Bool} {clip : List ℕ} 
     progress = rw append-nil ready.progress;
   }
 
-  module _ {out : List ℕ} {at count c : ℕ} (g : Going out at count c) where
-    pub going_end : length contigs ≤ c
-        → RecordsWalked (all_records ready.tables) ready.d₀ ready.bytes 0 out (walked.To at count)
-    unfolding RecordsWalked
-    going_end h = record {
-      list = g.done;
-      merged = sym g.left ∙ from_end _ contigs g.done c h;
-      progress = rw zero-add g.progress;
+  pub going_end : {out : List ℕ} {end : ListEnd} {c : ℕ} → Going out end.at end.count c → length contigs ≤ c
+      → RecordsWalked (all_records ready.tables) ready.d₀ ready.bytes 0 out (std.Ok end)
+  unfolding RecordsWalked
+  going_end {c = c} g h = record {
+    list = g.done;
+    merged = sym g.left ∙ from_end _ contigs g.done c h;
+    progress = rw zero-add g.progress;
+  }
+
+  module _ {out : List ℕ} {at count c : ℕ} (g : Going out at count c) (h : c < length contigs) where
+    pub one_ready : OneReady s rows samples clipped clip referenced reference (get_or contigs c 0) order bounds out at count
+    one_ready = record {
+      tables = ready.tables;
+      is_first = every_at c 0 h ready.firsts;
+      d₀ = ready.d₀;
+      bytes = ready.bytes ++ flat_map printed_record g.done;
+      records = length g.done;
+      progress = g.progress;
     }
 
-    module _ (h : c < length contigs) where
-      pub one_ready : OneReady s rows samples clipped clip referenced reference (get_or contigs c 0) order bounds out at count
-      one_ready = record {
-        tables = ready.tables;
-        is_first = every_at c 0 h ready.firsts;
-        d₀ = ready.d₀;
-        bytes = ready.bytes ++ flat_map printed_record g.done;
-        records = length g.done;
-        progress = g.progress;
-      }
+    -- what walking over one contig says
+    abbrev pub OneSays : List ℕ → std.Result ListEnd Refusal → Type 0
+    OneSays out' w =
+        (r : OneReady s rows samples clipped clip referenced reference (get_or contigs c 0) order bounds out at count)
+        → RecordsWalked (records_on r.tables (get_or contigs c 0)) r.d₀ r.bytes r.records out' w
 
-      -- what walking over one contig says
-      abbrev pub OneSays : List ℕ → Walked → Type 0
-      OneSays out' w =
-          (r : OneReady s rows samples clipped clip referenced reference (get_or contigs c 0) order bounds out at count)
-          → RecordsWalked (records_on r.tables (get_or contigs c 0)) r.d₀ r.bytes r.records out' w
+    pub going_next : (out' : List ℕ) (end : ListEnd) → OneSays out' (std.Ok end) → Going out' end.at end.count (c + 1)
+    unfolding RecordsWalked one_ready
+    going_next out' end says =
+        let laid : RecordsLaid (records_on ready.tables (get_or contigs c 0)) ready.d₀
+        (ready.bytes ++ flat_map printed_record g.done) (length g.done) out' end.at end.count = says one_ready in
+        record {
+          done = g.done ++ laid.list;
+          left = sym (from_next _ contigs g.done c h laid.list laid.merged) ∙ g.left;
+          progress = rw (flat_map_append, length-append, ← append_assoc) laid.progress;
+        }
 
-      pub going_next : (out' : List ℕ) (at' count' : ℕ) {w : Walked} → w ≡ walked.To at' count'
-          → OneSays out' w → Going out' at' count' (c + 1)
-      unfolding RecordsWalked one_ready
-      going_next out' at' count' {w} e says =
-          let laid : RecordsLaid (records_on ready.tables (get_or contigs c 0)) ready.d₀
-          (ready.bytes ++ flat_map printed_record g.done) (length g.done) out' at' count' = rw e at (says one_ready) in
-          record {
-            done = g.done ++ laid.list;
-            left = sym (from_next _ contigs g.done c h laid.list laid.merged) ∙ g.left;
-            progress = rw (flat_map_append, length-append, ← append_assoc) laid.progress;
-          }
-
-      pub going_refused : (out' : List ℕ) (row : ℕ) {w : Walked} → w ≡ walked.Refused row
-          → OneSays out' w
-          → RecordsWalked (all_records ready.tables) ready.d₀ ready.bytes 0 out' (walked.Refused row)
-      unfolding RecordsWalked one_ready
-      going_refused out' row {w} e says =
-          let r : RecordsRefused (records_on ready.tables (get_or contigs c 0)) ready.d₀
-          (ready.bytes ++ flat_map printed_record g.done) out' row = rw e at (says one_ready) in
-          record {
-            merged = sym g.left ∙ from_refused _ contigs g.done c h row r.merged;
-            list = g.done ++ r.list;
-            laid = rw (flat_map_append, ← append_assoc) r.laid;
-          }
+    pub going_refused : (out' : List ℕ) (refusal : Refusal) → OneSays out' (std.Err refusal)
+        → RecordsWalked (all_records ready.tables) ready.d₀ ready.bytes 0 out' (std.Err refusal)
+    unfolding RecordsWalked one_ready
+    going_refused out' refusal says =
+        let r : RecordsRefused (records_on ready.tables (get_or contigs c 0)) ready.d₀
+        (ready.bytes ++ flat_map printed_record g.done) out' (row_of refusal) = says one_ready in
+        record {
+          merged = sym g.left ∙ from_refused _ contigs g.done c h (row_of refusal) r.merged;
+          list = g.done ++ r.list;
+          laid = rw (flat_map_append, ← append_assoc) r.laid;
+        }

@@ -11,8 +11,8 @@ use native.Mathlib.Decide.{dec_le}
 use native.Mathlib.Omega.{arith}
 use Rattle.answers.proofs.Answers.{answered_refused}
 use Rattle.answers.specs.Answered.{Answered}
-use Rattle.answers.specs.declared.Outcome.TheVariants as outcome
-use Rattle.answers.specs.declared.Outcome.{Outcome}
+use Rattle.answers.specs.declared.Refusal.{Refusal}
+use Rattle.answers.specs.declared.Refusal.TheVariants as refusal
 use Rattle.contigs.specs.Contigs.{ContigOrder, RowsFor}
 use Rattle.covering_sites.proofs.Keys.{keys_fit}
 use Rattle.covering_sites.specs.Covering.{KeysFit, sample_keys}
@@ -31,6 +31,7 @@ use Rattle.laws.proofs.Every.{every_map}
 use Rattle.laws.proofs.Orders.{ascending_few}
 use Rattle.laws.proofs.ScratchPlaces.{list_without_place, records_placed}
 use Rattle.laws.proofs.Tests.{both, both_of, clash}
+use Rattle.std.specs.Prelude.{Result, Err}
 use Rattle.combined_list.specs.WrittenList.{CallLoaded, ListReady, list_within}
 
 module _ {s names rows : List ℕ} {samples sites : ℕ} {clipped : Bool} {clip : List ℕ} {referenced : Bool} {reference : List ℕ}
@@ -73,7 +74,7 @@ module _ {s names rows : List ℕ} {samples sites : ℕ} {clipped : Bool} {clip 
         names_are = call.names_are;
       }
 
-      pub loaded_answered : {out out' : List ℕ} {r : Outcome}
+      pub loaded_answered : {out out' : List ℕ} {r : Result ℕ Refusal}
           → ((ready : ListReady s names rows samples clipped clip referenced reference (take n firsts) order runs)
           → Answered (list_within ready.tables.loaded 1 (length out)) out out' r)
           → Answered (list_within call.loaded 1 (length out)) out out' r
@@ -83,7 +84,7 @@ module _ {s names rows : List ℕ} {samples sites : ℕ} {clipped : Bool} {clip 
   -- ---- the places of a call
 
   -- row 10 does not come
-  pub placed_answered : (places : ℕ) → eqb places 0 && ltb 0 sites ≡ false → {out out' : List ℕ} {r : Outcome}
+  pub placed_answered : (places : ℕ) → eqb places 0 && ltb 0 sites ≡ false → {out out' : List ℕ} {r : Result ℕ Refusal}
       → Answered (list_within call.loaded 1 (length out)) out out' r
       → Answered (list_within call.loaded places (length out)) out out' r
   unfolding list_of
@@ -94,7 +95,7 @@ module _ {s names rows : List ℕ} {samples sites : ℕ} {clipped : Bool} {clip 
 
   -- it comes: a site and no place
   pub placeless_refused : (places : ℕ) → eqb places 0 && ltb 0 sites ≡ true → (out : List ℕ)
-      → Answered (list_within call.loaded places (length out)) out out (outcome.Refused 10)
+      → Answered (list_within call.loaded places (length out)) out out (Err refusal.Scratch)
   placeless_refused places none out =
       let (zero, some) = both_of (eqb places 0) (ltb 0 sites) none in
       let site = ltb-true 0 sites some in

@@ -7,13 +7,15 @@ use mathlib.Core.Path.{◌≡◌, refl}
 use native.Mathlib.Omega.{arith}
 use Rattle.coalescing.specs.Steps.{Progress}
 use Rattle.contig_walk.specs.Walk.{Begun, RecordsWalked}
-use Rattle.contig_walk.specs.declared.Walked.{Walked}
+use Rattle.answers.specs.declared.Refusal.{Refusal}
+use Rattle.contig_walk.specs.declared.ListEnd.{ListEnd}
 use Rattle.covering_sites.specs.Covering.{contig_sites}
 use Rattle.covering_sites.specs.Runs.{Runs}
 use Rattle.definitions.specs.CombinedList.{Input, contig_records}
 use Rattle.laws.proofs.Checked.{required}
 use Rattle.merged_records.specs.Loaded.{ContigRuns}
 use Rattle.record_laws.specs.Pending.{merged_contig}
+use Rattle.std.specs.Prelude.{Result}
 use Rattle.tables.specs.Tables.{part_at}
 use Rattle.window_walk.proofs.ContigWindows.{windows_ready}
 use Rattle.window_walk.specs.Windows.{WindowsReady}
@@ -45,7 +47,7 @@ module _ {s rows : List ℕ} {samples : ℕ} {clipped : Bool} {clip : List ℕ} 
           record { runs = in_contig_runs; points = rw t w.points }
 
       -- what the walk over windows says is said of the contig's records
-      pub one_walked : (out out' : List ℕ) (at count : ℕ) (w : Walked)
+      pub one_walked : (out out' : List ℕ) (at count : ℕ) (w : Result ListEnd Refusal)
           → ((ready : WindowsReady s rows samples clipped text referenced reference contig chosen parts)
           (begun : Begun out at count)
           → RecordsWalked (merged_contig ready.runs.on.loaded.input contig) begun.d₀ begun.bytes begun.records out' w)

@@ -7,9 +7,9 @@ use mathlib.Core.List.{List, [], ◌++◌, ◌∷◌, flat_map}
 use mathlib.Core.Path.{◌∙◌, ◌≡◌, ap, refl, subst, sym}
 use native.Mathlib.Omega.{arith}
 use Rattle.answers.proofs.Answers.{answered_refused, answered_written, is_within, not_within}
-use Rattle.answers.specs.Answered.{Answered}
-use Rattle.answers.specs.declared.Outcome.TheVariants as outcome
-use Rattle.answers.specs.declared.Outcome.{Outcome}
+use Rattle.answers.specs.Answered.{Answered, row_of}
+use Rattle.answers.specs.declared.Refusal.{Refusal}
+use Rattle.answers.specs.declared.Refusal.TheVariants as refusal
 use Rattle.definitions.specs.Checked.{Checked, accepted, refused, within}
 use Rattle.definitions.specs.CombinedList.{combined_records, list_of}
 use Rattle.definitions.specs.Numbers.{max_number}
@@ -31,8 +31,8 @@ use Rattle.tables.specs.Tables.{names_in}
 use Rattle.combined_list.specs.Contigs.{AllReady, all_records}
 use Rattle.combined_list.specs.WrittenList.{ListReady, Measurement, list_to, list_within}
 use Rattle.contig_walk.specs.Walk.{RecordsLaid, RecordsWalked}
-use Rattle.contig_walk.specs.declared.Walked.TheVariants as walked
-use Rattle.contig_walk.specs.declared.Walked.{Walked}
+use Rattle.contig_walk.specs.declared.ListEnd.{ListEnd}
+use Rattle.std.specs.Prelude.{Result, Ok, Err}
 
 -- nothing is written on an empty part
 pub nothing_laid : {bytes part : List ℕ} {at r : ℕ} → Laid [] at bytes part r → part ≡ []
@@ -72,20 +72,20 @@ module _ {s names rows : List ℕ} {samples : ℕ} {clipped : Bool} {clip : List
   }
 
   -- what walking over the contigs says
-  abbrev pub WalkSays : List ℕ → ℕ → List ℕ → Walked → Type 0
+  abbrev pub WalkSays : List ℕ → ℕ → List ℕ → Result ListEnd Refusal → Type 0
   WalkSays out at out' w = (r : AllReady s rows samples clipped clip referenced reference contigs order bounds out at)
       → RecordsWalked (all_records r.tables) r.d₀ r.bytes 0 out' w
 
-  module _ (part : List ℕ) {w : Walked} (says : WalkSays [] 0 part w) where
-    pub list_refused : {row : ℕ} (room : ℕ) → w ≡ walked.Refused row → list_within ready.tables.loaded 1 room ≡ refused row
+  module _ (part : List ℕ) where
+    pub list_refused : {r : Refusal} (room : ℕ) → WalkSays [] 0 part (Err r) → list_within ready.tables.loaded 1 room ≡ refused (row_of r)
     unfolding RecordsWalked measuring list_of
-    list_refused room e = then_refused _ _ (then_refused _ _ (rw e at (says measuring)).merged)
+    list_refused room says = then_refused _ _ (then_refused _ _ (says measuring).merged)
 
-    pub measurement : {len count : ℕ} → w ≡ walked.To len count
-        → Measurement s names rows samples clipped clip referenced reference contigs order bounds len count
+    pub measurement : (end : ListEnd) → WalkSays [] 0 part (Ok end)
+        → Measurement s names rows samples clipped clip referenced reference contigs order bounds end.at end.count
     unfolding RecordsWalked measuring
-    measurement {len} {count} e =
-        let laid : RecordsLaid (all_records ready.tables) [] [] 0 part len count = rw e at (says measuring) in
+    measurement end says =
+        let laid : RecordsLaid (all_records ready.tables) [] [] 0 part end.at end.count = says measuring in
         let few = records_counted ready.tables.loaded laid.list laid.merged in
         let short = bytes_counted ready.tables.loaded laid.list laid.merged in
         record {
@@ -96,13 +96,13 @@ module _ {s names rows : List ℕ} {samples : ℕ} {clipped : Bool} {clip : List
           count_is = omega (arith, laid.progress.counted.count_is);
         }
 
-    pub list_answered : {len count : ℕ} (out out₁ out₂ : List ℕ) (r : Outcome) → w ≡ walked.To len count → out₁ ≡ out
-        → ((m : Measurement s names rows samples clipped clip referenced reference contigs order bounds len count)
+    pub list_answered : (end : ListEnd) (out out₁ out₂ : List ℕ) (r : Result ℕ Refusal) → WalkSays [] 0 part (Ok end) → out₁ ≡ out
+        → ((m : Measurement s names rows samples clipped clip referenced reference contigs order bounds end.at end.count)
         → Answered (within (length out₁) (list_to m)) out₁ out₂ r)
         → Answered (list_within ready.tables.loaded 1 (length out)) out out₂ r
     unfolding measurement list_of
-    list_answered out out₁ out₂ r e kept writes =
-        let m = measurement e in
+    list_answered end out out₁ out₂ r says kept writes =
+        let m = measurement end says in
         let list : list_of ready.tables.loaded.input 1 ≡ accepted (list_to m) = then _ _ m.merged refl in
         let answer : Answered (within (length out) (list_to m)) out out₂ r = rw kept at (writes m) in
         subst (λ (c : Checked (List ℕ)). Answered c out out₂ r) (sym (then _ (within (length out)) list refl)) answer
@@ -138,7 +138,7 @@ module _ {s names rows : List ℕ} {samples : ℕ} {clipped : Bool} {clip : List
     part_low out = omega (arith, length-take (r + len) out, end_low)
 
     -- there is no room
-    pub full_answered : (out : List ℕ) → length (part ++ out) < r + len → Answered (within (length out) (list_to m)) out (part ++ out) (outcome.Refused 14)
+    pub full_answered : (out : List ℕ) → length (part ++ out) < r + len → Answered (within (length out) (list_to m)) out (part ++ out) (Err refusal.Output)
     full_answered out h =
         let empty : part ≡ [] = nothing_laid header in
         let few : length out < length (list_to m) = omega (arith, ap length (ap (λ (p : List ℕ). p ++ out) empty), list_length) in
@@ -148,7 +148,7 @@ module _ {s names rows : List ℕ} {samples : ℕ} {clipped : Bool} {clip : List
     pub fitting_answered : {written : List ℕ} (out : List ℕ) → r + len ≤ length (part ++ out)
         → ((m : Measurement s names rows samples clipped clip referenced reference contigs order bounds len count)
         → written ≡ sets (take (r + len) (part ++ out)) 0 (list_to m))
-        → Answered (within (length out) (list_to m)) out (written ++ drop (r + len) (part ++ out)) (outcome.Written (r + len))
+        → Answered (within (length out) (list_to m)) out (written ++ drop (r + len) (part ++ out)) (Ok (r + len))
     fitting_answered {written} out h writes =
         let empty : part ++ out ≡ out = ap (λ (p : List ℕ). p ++ out) (nothing_laid header) in
         let exact : length (take (r + len) (part ++ out)) ≡ length (list_to m) = omega (arith, length-take (r + len) (part ++ out), list_length) in
@@ -170,13 +170,13 @@ module _ {s names rows : List ℕ} {samples : ℕ} {clipped : Bool} {clip : List
       };
     }
 
-    pub list_written : {out₂ : List ℕ} (w : Walked) → WalkSays m.ready out₁ at out₂ w → out₂ ≡ sets out 0 (list_to m)
+    pub list_written : {out₂ : List ℕ} (w : Result ListEnd Refusal) → WalkSays m.ready out₁ at out₂ w → out₂ ≡ sets out 0 (list_to m)
     unfolding RecordsWalked writing
     list_written {out₂} w says = go w (says writing)
       where
-        go : (w : Walked) → RecordsWalked (all_records m.ready.tables) out header_of 0 out₂ w → out₂ ≡ sets out 0 (list_to m)
-        go (walked.Refused row) e = not_refused (sym e.merged ∙ m.merged)
-        go (walked.To end records) laid =
+        go : (w : Result ListEnd Refusal) → RecordsWalked (all_records m.ready.tables) out header_of 0 out₂ w → out₂ ≡ sets out 0 (list_to m)
+        go (Err r) e = not_refused (sym e.merged ∙ m.merged)
+        go (Ok end) laid =
             let same : laid.list ≡ m.records = accepted_same (sym laid.merged ∙ m.merged) in
             let bytes : header_of ++ flat_map printed_record laid.list ≡ list_to m = rw same (sym list_parts) in
             laid.progress.measured.laid ∙ ap (sets out 0) bytes

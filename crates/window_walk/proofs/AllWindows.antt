@@ -15,11 +15,10 @@ use Rattle.breakpoint_windows.specs.Breakpoints.{NextBreakpoints, all_breakpoint
 use Rattle.breakpoint_windows.specs.declared.Window.{Window}
 use Rattle.coalescing.proofs.StepLaws.{laid_pending}
 use Rattle.coalescing.specs.Held.{Holds, of_option, pending_bytes, pending_count}
-use Rattle.coalescing.specs.declared.Pending.TheVariants.{Nothing}
 use Rattle.contig_walk.proofs.Behind.{bytes_are, count_is}
 use Rattle.contig_walk.specs.Laying.{TurnRoom}
 use Rattle.contig_walk.specs.Walk.{Begun, RecordsWalked}
-use Rattle.contig_walk.specs.declared.Walked.TheVariants as walked
+use Rattle.std.specs.Prelude as std
 use Rattle.covering_sites.specs.Ended.{Ended}
 use Rattle.definitions.specs.Checked.{accepted}
 use Rattle.definitions.specs.CombinedList.{Input}
@@ -80,7 +79,7 @@ module _ {s rows : List ℕ} {samples : ℕ} {clipped : Bool} {clip : List ℕ} 
 
   pub carried_start : {held out : List ℕ} {at count : ℕ} (begun : Begun out at count)
       → Carried x samples contig begun.d₀ begun.bytes begun.records held out
-      (record { past = 0; depth = 0; state = record { pending = Nothing; at = at; count = count } })
+      (record { past = 0; depth = 0; state = record { pending = std.None; at = at; count = count } })
   unfolding Holds flat_map
   carried_start begun = record {
     done = [];
@@ -107,7 +106,7 @@ module _ {s rows : List ℕ} {samples : ℕ} {clipped : Bool} {clip : List ℕ} 
       (w : Carried x samples contig d₀ bytes records held out along) where
     pub carried_end : filter_by (ltb along.past) read ≡ [] → (out' : List ℕ) (next : ℕ)
         → Laid out along.state.at (pending_bytes contig held along.state.pending) out' next
-        → RecordsWalked (merged_contig x contig) d₀ bytes records out' (walked.To (min limit next) (pending_count along.state.pending along.state.count))
+        → RecordsWalked (merged_contig x contig) d₀ bytes records out' (std.Ok (record { at = min limit next; count = pending_count along.state.pending along.state.count }))
     unfolding RecordsWalked finish of_option
     carried_end none-past out' next l = record {
       list = w.done ++ of_option w.waiting;

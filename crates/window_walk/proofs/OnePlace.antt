@@ -15,7 +15,9 @@ use Rattle.coalescing.specs.declared.Stepped.{Stepped}
 use Rattle.contig_walk.proofs.Behind.{bytes_are, count_is}
 use Rattle.contig_walk.proofs.LaidRecords.{contig_named}
 use Rattle.contig_walk.specs.Laying.{TurnReady, Turns, Underway}
-use Rattle.contig_walk.specs.declared.Turned.TheVariants as turned
+use Rattle.answers.specs.Answered.{row_of}
+use Rattle.answers.specs.declared.Refusal.{Refusal}
+use Rattle.std.specs.Prelude as std
 use Rattle.covering_sites.proofs.Ended.{ended_later, ended_skipped}
 use Rattle.covering_sites.specs.Ended.{Ended, Replaced, behind_ended}
 use Rattle.definitions.specs.Bytes.{same_bytes}
@@ -39,7 +41,6 @@ use Rattle.record_laws.proofs.Walking.{past_turn, points, records_past, with_int
 use Rattle.record_laws.specs.Pending.{finish, merged_contig}
 use Rattle.window_walk.specs.Windows.{Carried, Carrying, WalkedTo, WindowReady}
 use Rattle.window_walk.specs.declared.Along.{Along}
-use Rattle.window_walk.specs.declared.Reached.TheVariants as reached
 
 -- ---- before the first breakpoint
 
@@ -124,7 +125,7 @@ module _ {s rows : List ℕ} {samples : ℕ} {clipped referenced : Bool} {refere
 
   pub walked_past : walked ≡ false
       → WalkedTo x rows samples contig chosen bounds from way.d₀ way.bytes way.records held out (place / 4294967296)
-      (reached.To (record { past = place / 4294967296; depth = along.depth + place % 4294967296 - 2147483648; state = along.state }))
+      (std.Ok (record { past = place / 4294967296; depth = along.depth + place % 4294967296 - 2147483648; state = along.state }))
   unfolding WalkedTo
   walked_past test = record {
     there = refl;
@@ -186,21 +187,21 @@ module _ {s rows : List ℕ} {samples : ℕ} {clipped referenced : Bool} {refere
     left_here = rw (f, l) left
 
     module _ (held' out' : List ℕ) where
-      pub walked_refused : (row : ℕ)
-          → Turns x samples contig held' out' first last w.waiting way.d₀ bytes records (turned.Refused row)
+      pub walked_refused : (refusal : Refusal)
+          → Turns x samples contig held' out' first last w.waiting way.d₀ bytes records (std.Err refusal)
           → WalkedTo x rows samples contig chosen bounds from' way.d₀ way.bytes way.records held' out' (place / 4294967296)
-          (reached.Refused row)
+          (std.Err refusal)
       unfolding WalkedTo Turns
-      walked_refused row t = record {
+      walked_refused refusal t = record {
         merged = sym left_here ∙ t.refuses w.done later;
         list = w.done;
         laid = t.unlaid;
       }
 
       pub walked_on : (stepped : Stepped)
-          → Turns x samples contig held' out' first last w.waiting way.d₀ bytes records (turned.To stepped)
+          → Turns x samples contig held' out' first last w.waiting way.d₀ bytes records (std.Ok stepped)
           → WalkedTo x rows samples contig chosen bounds from' way.d₀ way.bytes way.records held' out' (place / 4294967296)
-          (reached.To (record { past = place / 4294967296; depth = along.depth + place % 4294967296 - 2147483648; state = stepped }))
+          (std.Ok (record { past = place / 4294967296; depth = along.depth + place % 4294967296 - 2147483648; state = stepped }))
       unfolding WalkedTo Turns
       walked_on stepped t = record {
         there = refl;

@@ -17,7 +17,7 @@ walk_contigs-measured-requires c = (
 
 pub write_measured-requires : goal.write_measured-requires
 write_measured-requires c = (
-  measurement c.requires.0 _ c.walk_contigs-measured.ensures c.in-To.is,
+  measurement c.requires.0 _ _ c.in_ok-measured.ensures,
   record {
     for_chosen = omega (arith, c.requires.1, c.walk_contigs-measured.auto.chosen);
     for_window = omega (arith, c.requires.2, c.walk_contigs-measured.auto.scratch);
@@ -29,13 +29,13 @@ write_measured-requires c = (
   },
 )
 
-pub returns-in-Refused : goal.returns-in-Refused
-returns-in-Refused c = λ ready.
-    answered_refused (list_refused ready _ c.walk_contigs-measured.ensures _ c.in-Refused.is)
-    (nothing_left c.walk_contigs-measured.new.out _ c.walk_contigs-measured.auto.out)
+pub returns-in_err-measured : goal.returns-in_err-measured
+returns-in_err-measured c = λ ready.
+    rw c.from_residual.ensures (answered_refused (list_refused ready _ _ c.in_err-measured.ensures)
+    (nothing_left c.walk_contigs-measured.new.out _ c.walk_contigs-measured.auto.out))
 
-pub returns-in-To : goal.returns-in-To
-returns-in-To c = λ ready.
-    list_answered ready _ c.walk_contigs-measured.ensures _ _ _ _ c.in-To.is
+pub returns : goal.returns
+returns c = λ ready.
+    list_answered ready _ _ _ _ _ _ c.in_ok-measured.ensures
     (nothing_left c.walk_contigs-measured.new.out _ c.walk_contigs-measured.auto.out)
     c.write_measured.ensures

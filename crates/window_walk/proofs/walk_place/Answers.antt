@@ -32,27 +32,27 @@ pub skip_ended-requires : goal.skip_ended-requires
 skip_ended-requires c = let (rest, ready, way) = c.requires in
     record { bounded = ready.runs.in_runs.bounded; samples_in_bounds = ready.ended.long }
 
-pub walk_interval-turn-requires : goal.walk_interval-turn-requires
-walk_interval-turn-requires c = let first = c.new-loc.ensures.0 ∙ c.new_1based-first.ensures in
+pub walk_interval-step-requires : goal.walk_interval-step-requires
+walk_interval-step-requires c = let first = c.new-loc.ensures.0 ∙ c.new_1based-first.ensures in
     let last = c.new-loc.ensures.1 ∙ c.new_1based-last.ensures in
     let test = sym c.has_interval.ensures ∙ c.if-not-has_interval.false in
     let (rest, ready, way) = c.requires in
     (turn_ready ready way test _ _ first last c.skip_ended.ensures, underway ready way)
 
-pub returns-in-Refused : goal.returns-in-Refused
+pub returns-in_err-step : goal.returns-in_err-step
 unfolding turn_ready underway
-returns-in-Refused c = λ rest ready way.
+returns-in_err-step c = λ rest ready way.
     let first = c.new-loc.ensures.0 ∙ c.new_1based-first.ensures in
     let last = c.new-loc.ensures.1 ∙ c.new_1based-last.ensures in
     let test = sym c.has_interval.ensures ∙ c.if-not-has_interval.false in
-    let turned = c.walk_interval-turn.ensures (turn_ready ready way test _ _ first last c.skip_ended.ensures) (underway ready way) in
-    walked_refused ready way test _ _ first last c.skip_ended.ensures _ _ _ (rw c.in-Refused.is at turned)
+    let turned = c.in_err-step.ensures (turn_ready ready way test _ _ first last c.skip_ended.ensures) (underway ready way) in
+    rw c.from_residual.ensures (walked_refused ready way test _ _ first last c.skip_ended.ensures _ _ _ turned)
 
-pub returns-in-To : goal.returns-in-To
+pub returns : goal.returns
 unfolding turn_ready underway
-returns-in-To c = λ rest ready way.
+returns c = λ rest ready way.
     let first = c.new-loc.ensures.0 ∙ c.new_1based-first.ensures in
     let last = c.new-loc.ensures.1 ∙ c.new_1based-last.ensures in
     let test = sym c.has_interval.ensures ∙ c.if-not-has_interval.false in
-    let turned = c.walk_interval-turn.ensures (turn_ready ready way test _ _ first last c.skip_ended.ensures) (underway ready way) in
-    walked_on ready way test _ _ first last c.skip_ended.ensures _ _ _ (rw c.in-To.is at turned)
+    let turned = c.in_ok-step.ensures (turn_ready ready way test _ _ first last c.skip_ended.ensures) (underway ready way) in
+    walked_on ready way test _ _ first last c.skip_ended.ensures _ _ _ turned

@@ -22,13 +22,12 @@ pub record Inv (s rows : List ℕ) (samples : ℕ) (clipped referenced : Bool)
   pub owners-long : length owners ≡ length owners₀
   pub alts-long : length alts ≡ length alts₀
   pub out-long : length out ≡ length out₀
-  pub way : (ready : WindowReady s rows samples clipped referenced reference contig chosen from₀ bounds places along₀.past held₀ fresh₀ found₀ owners₀ alts₀)
+  pub way : (ready : WindowReady s rows samples clipped referenced reference contig chosen from₀ bounds places along₀.past
+      held₀ fresh₀ found₀ owners₀ alts₀)
       (way : Carrying ready.runs.on.loaded.input samples contig held₀ out₀ along₀)
       → Through ready way from held out along k
 
-abbrev pub invariant-loop-k : goal.invariant-loop-k
-invariant-loop-k l = Inv l.s l.rows l.samples l.clipped l.referenced l.reference l.contig l.chosen l.initial.from l.bounds l.places l.initial.held l.initial.fresh l.initial.found l.initial.owners l.initial.alts l.initial.out l.initial.along
-    l.from l.held l.fresh l.found l.owners l.alts l.out l.along l.k
-
-abbrev pub decreases-loop-k : goal.decreases-loop-k
-decreases-loop-k l = length l.places - l.k
+abbrev pub invariant-loop-place : goal.invariant-loop-place
+invariant-loop-place l = Inv l.s l.rows l.samples l.clipped l.referenced l.reference l.contig l.chosen l.initial.from l.bounds l.places
+    l.initial.held l.initial.fresh l.initial.found l.initial.owners l.initial.alts l.initial.out l.initial.along
+    l.from l.held l.fresh l.found l.owners l.alts l.out l.along l.place-index

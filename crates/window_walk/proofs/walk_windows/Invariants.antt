@@ -22,7 +22,7 @@ use Rattle.window_walk.proofs.walk_windows.Given as goal
 
 pub record Inv (s rows : List ℕ) (samples : ℕ) (clipped : Bool) (clip : List ℕ) (referenced : Bool)
     (reference contig chosen bounds scratch₀ held₀ fresh₀ alts₀ out₀ : List ℕ)
-    (at count : ℕ) (scratch held fresh alts out found owners from : List ℕ) (along : Along) (more : Bool) : Type 0 where
+    (at count : ℕ) (scratch held fresh alts out found owners from : List ℕ) (along : Along) : Type 0 where
   pub scratch-long : length scratch ≡ length scratch₀
   pub held-long : length held ≡ length held₀
   pub fresh-long : length fresh ≡ length fresh₀
@@ -32,13 +32,14 @@ pub record Inv (s rows : List ℕ) (samples : ℕ) (clipped : Bool) (clip : List
   pub owners-long : length owners ≡ 64
   pub from-long : length from ≡ 64
   pub ended : Ended rows chosen bounds from samples along.past
-  pub none-past : more ≡ false → filter_by (ltb along.past) (all_breakpoints rows (numbers_in samples chosen bounds) (spans_of clip contig)) ≡ []
   pub way : (ready : WindowsReady s rows samples clipped clip referenced reference contig chosen bounds) (begun : Begun out₀ at count)
       → Carried ready.runs.on.loaded.input samples contig begun.d₀ begun.bytes begun.records held out along
 
-abbrev pub invariant-loop-more : goal.invariant-loop-more
-invariant-loop-more l = Inv l.s l.rows l.samples l.clipped l.clip l.referenced l.reference l.contig l.chosen l.bounds l.initial.scratch l.initial.held l.initial.fresh l.initial.alts l.initial.out l.at l.count
-    l.scratch l.held l.fresh l.alts l.out l.found l.owners l.from l.along l.more
+abbrev pub invariant-loop-along : goal.invariant-loop-along
+invariant-loop-along l = Inv l.s l.rows l.samples l.clipped l.clip l.referenced l.reference l.contig l.chosen l.bounds
+    l.initial.scratch l.initial.held l.initial.fresh l.initial.alts l.initial.out l.at l.count
+    l.scratch l.held l.fresh l.alts l.out l.found l.owners l.from l.along
 
-abbrev pub decreases-loop-more : goal.decreases-loop-more
-decreases-loop-more l = length (filter_by (ltb l.along.past) (all_breakpoints l.rows (numbers_in l.samples l.chosen l.bounds) (spans_of l.clip l.contig))) + cond l.more 1 0
+abbrev pub decreases-loop-along : goal.decreases-loop-along
+decreases-loop-along l =
+    length (filter_by (ltb l.along.past) (all_breakpoints l.rows (numbers_in l.samples l.chosen l.bounds) (spans_of l.clip l.contig)))
