@@ -119,7 +119,8 @@ fn write_list<'a>(
         → out.new ≡ sets out.old 0 (list_to m) }
 {
     let at = list_header::put_header(s, names, samples, count as u32, out);
-    walk_contigs(
+    // It was walked before, so nothing refuses it.
+    let _ = walk_contigs(
         s, rows, samples, clipped, clip, referenced, reference, contigs, order, runs, chosen,
         scratch, held, fresh, alts, out, at,
     );

@@ -216,12 +216,12 @@ pub new_block : {s rows : List ℕ} {samples : ℕ} {contig : List ℕ} (loc : G
     → (lines : List ℕ) → lines ≡ flat_map printed_sample_data (record_data r.on loc.start.0 r.to)
     → HeldBlock samples contig lines (record { loc = loc; letter = letter; len = length lines }) (laid_record r)
 new_block {contig = contig} loc {allele = allele} r block letter b lines e =
-    let data = record_data r.on loc.start.0 r.to in
+    let values = record_data r.on loc.start.0 r.to in
     record {
-      values = data;
+      values = values;
       record_is =
-          block_record_lem contig (record { first = loc.start.0; last = loc.end.0 }) (record_alleles r.on loc.start.0 r.to) data block
-          ∙ ap (λ (ref : List ℕ). block_record contig loc.start.0 loc.end.0 ref data)
+          block_record_lem contig (record { first = loc.start.0; last = loc.end.0 }) (record_alleles r.on loc.start.0 r.to) values block
+          ∙ ap (λ (ref : List ℕ). block_record contig loc.start.0 loc.end.0 ref values)
           (sym r.allele_is ∙ ap (map capital) (only_letter allele (one_letter r block)) ∙ ap (λ (c : ℕ). c ∷ []) (sym b));
       derived = derived r block;
       all_samples = samples_count r block;
