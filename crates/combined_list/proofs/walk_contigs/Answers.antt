@@ -1,6 +1,7 @@
 -- In each turn a contig's records are laid; those of the contigs from the next on are left.
 use Prim.Native.Nat.{◌-◌, ℕ}
 use borrow.Author.Rules.{rules}
+use Rattle.std.proofs.lemmas.Result.{err_from_is_err_and}
 use lib.ListN.{length}
 use mathlib.Core.Bool.{Bool}
 use mathlib.Core.List.{List}
@@ -38,24 +39,25 @@ loop-first-init c = record {
   going = λ ready. going_start ready;
 }
 
-pub walk_one-end-requires : goal.walk_one-end-requires
-walk_one-end-requires c = (
+pub walk_one-requires : goal.walk_one-requires
+walk_one-requires c = (
   one_ready c.requires.0 (c.loop-first.invariant.going c.requires.0) c.loop-first-test.true,
   room_here c.loop-first.invariant c.requires.1,
 )
 
 pub returns-in_err-end : goal.returns-in_err-end
 returns-in_err-end c = λ ready.
-    rw c.from_residual.ensures (going_refused ready (c.loop-first.invariant.going ready) c.loop-first-test.true _ _ c.in_err-end.ensures)
+    let p = err_from_is_err_and c.from_residual.result c.from_residual.ensures.1 in
+    rw (p.1, p.2) (going_refused ready (c.loop-first.invariant.going ready) c.loop-first-test.true _ _ c.in_err-end.ensures)
 
 pub loop-first-preserved : goal.loop-first-preserved
 loop-first-preserved c = record {
-  chosen-long = c.walk_one-end.auto.chosen ∙ c.loop-first.invariant.chosen-long;
-  scratch-long = c.walk_one-end.auto.scratch ∙ c.loop-first.invariant.scratch-long;
-  held-long = c.walk_one-end.auto.held ∙ c.loop-first.invariant.held-long;
-  fresh-long = c.walk_one-end.auto.fresh ∙ c.loop-first.invariant.fresh-long;
-  alts-long = c.walk_one-end.auto.alts ∙ c.loop-first.invariant.alts-long;
-  out-long = c.walk_one-end.auto.out ∙ c.loop-first.invariant.out-long;
+  chosen-long = c.walk_one.auto.chosen ∙ c.loop-first.invariant.chosen-long;
+  scratch-long = c.walk_one.auto.scratch ∙ c.loop-first.invariant.scratch-long;
+  held-long = c.walk_one.auto.held ∙ c.loop-first.invariant.held-long;
+  fresh-long = c.walk_one.auto.fresh ∙ c.loop-first.invariant.fresh-long;
+  alts-long = c.walk_one.auto.alts ∙ c.loop-first.invariant.alts-long;
+  out-long = c.walk_one.auto.out ∙ c.loop-first.invariant.out-long;
   going = λ ready. going_next ready (c.loop-first.invariant.going ready) c.loop-first-test.true _ _ c.in_ok-end.ensures;
 }
 

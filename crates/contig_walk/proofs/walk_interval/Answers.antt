@@ -1,5 +1,6 @@
 -- By what is found at the interval's first position.
 use borrow.Author.Rules.{rules}
+use Rattle.std.proofs.lemmas.Result.{err_from_is_err_and}
 use mathlib.Core.List.{map}
 use mathlib.Core.Path.{ap}
 use Rattle.contig_walk.proofs.Turns.{front_within, lay_ready, own_asked, own_known, owners_exact, owners_front, turn_bare, turn_laid, turn_none}
@@ -9,8 +10,8 @@ use Rattle.merged_records.specs.Found.{RecordFound}
 use Rattle.merged_ref.specs.Answers.{ref_bytes}
 use Rattle.contig_walk.proofs.walk_interval.Goals as goal
 
-pub merge_reference_confidence-here-requires : goal.merge_reference_confidence-here-requires
-merge_reference_confidence-here-requires c = (c.requires.0.runs, c.requires.0.room.for_record, c.requires.0.ended)
+pub merge_reference_confidence-requires : goal.merge_reference_confidence-requires
+merge_reference_confidence-requires c = (c.requires.0.runs, c.requires.0.room.for_record, c.requires.0.ended)
 
 pub slice_bounds-own_sites-end : goal.slice_bounds-own_sites-end
 unfolding RecordFound
@@ -54,7 +55,8 @@ pub returns-in_err-here : goal.returns-in_err-here
 unfolding RecordFound
 returns-in_err-here c = λ ready way.
     let f = c.in_err-here.ensures.answer ready.runs in
-    rw c.from_residual.ensures (turn_none ready way.waiting way.begun.d₀ way.begun.bytes way.begun.records way.holds
+    let p = err_from_is_err_and c.from_residual.result c.from_residual.ensures.1 in
+    rw (p.1, p.2) (turn_none ready way.waiting way.begun.d₀ way.begun.bytes way.begun.records way.holds
     _ f.0 f.1 _ way.begun.progress.measured.laid)
 
 pub returns : goal.returns

@@ -1,5 +1,6 @@
 -- By whether there is an interval to walk, then by its turn.
 use borrow.Author.Rules.{rules}
+use Rattle.std.proofs.lemmas.Result.{err_from_is_err_and}
 use borrow.Author.Tests.{not-false, not-true}
 use mathlib.Core.Path.{◌∙◌, sym}
 use native.Mathlib.Omega.{arith}
@@ -32,8 +33,8 @@ pub skip_ended-requires : goal.skip_ended-requires
 skip_ended-requires c = let (rest, ready, way) = c.requires in
     record { bounded = ready.runs.in_runs.bounded; samples_in_bounds = ready.ended.long }
 
-pub walk_interval-step-requires : goal.walk_interval-step-requires
-walk_interval-step-requires c = let first = c.new-loc.ensures.0 ∙ c.new_1based-first.ensures in
+pub walk_interval-requires : goal.walk_interval-requires
+walk_interval-requires c = let first = c.new-loc.ensures.0 ∙ c.new_1based-first.ensures in
     let last = c.new-loc.ensures.1 ∙ c.new_1based-last.ensures in
     let test = sym c.has_interval.ensures ∙ c.if-not-has_interval.false in
     let (rest, ready, way) = c.requires in
@@ -46,7 +47,8 @@ returns-in_err-step c = λ rest ready way.
     let last = c.new-loc.ensures.1 ∙ c.new_1based-last.ensures in
     let test = sym c.has_interval.ensures ∙ c.if-not-has_interval.false in
     let turned = c.in_err-step.ensures (turn_ready ready way test _ _ first last c.skip_ended.ensures) (underway ready way) in
-    rw c.from_residual.ensures (walked_refused ready way test _ _ first last c.skip_ended.ensures _ _ _ turned)
+    let p = err_from_is_err_and c.from_residual.result c.from_residual.ensures.1 in
+    rw (p.1, p.2) (walked_refused ready way test _ _ first last c.skip_ended.ensures _ _ _ turned)
 
 pub returns : goal.returns
 unfolding turn_ready underway

@@ -1,6 +1,7 @@
 -- Place by place.
 use Prim.Native.Nat.{◌-◌, ℕ}
 use borrow.Author.Rules.{rules}
+use Rattle.std.proofs.lemmas.Result.{err_from_is_err_and}
 use lib.ListN.{length}
 use mathlib.Core.Bool.{Bool}
 use mathlib.Core.List.{List}
@@ -33,9 +34,9 @@ loop-place-init c = record {
   way = λ ready way. through_start ready way;
 }
 
-pub walk_place-along-requires : goal.walk_place-along-requires
+pub walk_place-requires : goal.walk_place-requires
 unfolding place_ready
-walk_place-along-requires c = let (ready, way) = c.requires in
+walk_place-requires c = let (ready, way) = c.requires in
     let t = c.loop-place.invariant.way ready way in
     (_, place_ready ready way t c.loop-place-test.true (room_here c.loop-place.invariant ready.room), carrying ready way t)
 
@@ -44,18 +45,19 @@ unfolding place_ready carrying WalkedTo
 returns-in_err-along c = λ ready way.
     let t = c.loop-place.invariant.way ready way in
     let room = room_here c.loop-place.invariant ready.room in
-    rw c.from_residual.ensures (c.in_err-along.ensures _ (place_ready ready way t c.loop-place-test.true room) (carrying ready way t))
+    let p = err_from_is_err_and c.from_residual.result c.from_residual.ensures.1 in
+    rw (p.1, p.2) (c.in_err-along.ensures _ (place_ready ready way t c.loop-place-test.true room) (carrying ready way t))
 
 pub loop-place-preserved : goal.loop-place-preserved
 unfolding place_ready carrying WalkedTo
 loop-place-preserved c = record {
-  from-long = c.walk_place-along.auto.from ∙ c.loop-place.invariant.from-long;
-  held-long = c.walk_place-along.auto.held ∙ c.loop-place.invariant.held-long;
-  fresh-long = c.walk_place-along.auto.fresh ∙ c.loop-place.invariant.fresh-long;
-  found-long = c.walk_place-along.auto.found ∙ c.loop-place.invariant.found-long;
-  owners-long = c.walk_place-along.auto.owners ∙ c.loop-place.invariant.owners-long;
-  alts-long = c.walk_place-along.auto.alts ∙ c.loop-place.invariant.alts-long;
-  out-long = c.walk_place-along.auto.out ∙ c.loop-place.invariant.out-long;
+  from-long = c.walk_place.auto.from ∙ c.loop-place.invariant.from-long;
+  held-long = c.walk_place.auto.held ∙ c.loop-place.invariant.held-long;
+  fresh-long = c.walk_place.auto.fresh ∙ c.loop-place.invariant.fresh-long;
+  found-long = c.walk_place.auto.found ∙ c.loop-place.invariant.found-long;
+  owners-long = c.walk_place.auto.owners ∙ c.loop-place.invariant.owners-long;
+  alts-long = c.walk_place.auto.alts ∙ c.loop-place.invariant.alts-long;
+  out-long = c.walk_place.auto.out ∙ c.loop-place.invariant.out-long;
   way = λ ready way.
       let t = c.loop-place.invariant.way ready way in
       let room = room_here c.loop-place.invariant ready.room in

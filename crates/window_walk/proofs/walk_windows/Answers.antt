@@ -1,6 +1,7 @@
 -- Window by window; then what is held back is laid.
 use Prim.Native.Nat.{◌+◌, ◌≤◌, ℕ}
 use borrow.Author.Rules.{rules}
+use Rattle.std.proofs.lemmas.Result.{err_from_is_err_and}
 use borrow.Author.Tests.{not-false, not-true}
 use lib.Dec.{ltb}
 use lib.ListN.{length}
@@ -82,9 +83,9 @@ slice_bounds-walk_window-end-in-loop-along c = stored_within c.next_breakpoints-
 pub slice_bounds-walk_window-end-in-loop-along-2 : goal.slice_bounds-walk_window-end-in-loop-along-2
 slice_bounds-walk_window-end-in-loop-along-2 c = stored_exactly c.next_breakpoints-window.ensures
 
-pub walk_window-along-requires : goal.walk_window-along-requires
+pub walk_window-requires : goal.walk_window-requires
 unfolding window_ready
-walk_window-along-requires c = let room = room_here c.loop-along.invariant c.requires.0.runs.on.loaded.few c.requires.2 in (
+walk_window-requires c = let room = room_here c.loop-along.invariant c.requires.0.runs.on.loaded.few c.requires.2 in (
   window_ready c.requires.0 c.next_breakpoints-window.ensures c.loop-along.invariant.ended room,
   carrying c.loop-along.invariant c.requires.0 c.requires.1,
 )
@@ -93,7 +94,8 @@ pub returns-in_err-along : goal.returns-in_err-along
 unfolding window_ready WalkedTo RecordsWalked
 returns-in_err-along c = λ ready begun.
     let room = room_here c.loop-along.invariant ready.runs.on.loaded.few c.requires.2 in
-    rw c.from_residual.ensures (c.in_err-along.ensures
+    let p = err_from_is_err_and c.from_residual.result c.from_residual.ensures.1 in
+    rw (p.1, p.2) (c.in_err-along.ensures
     (window_ready ready c.next_breakpoints-window.ensures c.loop-along.invariant.ended room)
     (carrying c.loop-along.invariant ready begun))
 
@@ -115,13 +117,13 @@ loop-along-preserved c =
     (carrying c.loop-along.invariant c.requires.0 c.requires.1) in
     record {
       scratch-long = c.next_breakpoints-window.ensures.long ∙ c.loop-along.invariant.scratch-long;
-      held-long = c.walk_window-along.auto.held ∙ c.loop-along.invariant.held-long;
-      fresh-long = c.walk_window-along.auto.fresh ∙ c.loop-along.invariant.fresh-long;
-      alts-long = c.walk_window-along.auto.alts ∙ c.loop-along.invariant.alts-long;
-      out-long = c.walk_window-along.auto.out ∙ c.loop-along.invariant.out-long;
-      found-long = c.walk_window-along.auto.found ∙ c.loop-along.invariant.found-long;
-      owners-long = c.walk_window-along.auto.owners ∙ c.loop-along.invariant.owners-long;
-      from-long = c.walk_window-along.auto.from ∙ c.loop-along.invariant.from-long;
+      held-long = c.walk_window.auto.held ∙ c.loop-along.invariant.held-long;
+      fresh-long = c.walk_window.auto.fresh ∙ c.loop-along.invariant.fresh-long;
+      alts-long = c.walk_window.auto.alts ∙ c.loop-along.invariant.alts-long;
+      out-long = c.walk_window.auto.out ∙ c.loop-along.invariant.out-long;
+      found-long = c.walk_window.auto.found ∙ c.loop-along.invariant.found-long;
+      owners-long = c.walk_window.auto.owners ∙ c.loop-along.invariant.owners-long;
+      from-long = c.walk_window.auto.from ∙ c.loop-along.invariant.from-long;
       ended = walked.ended;
       way = λ ready begun. (c.in_ok-along.ensures
           (window_ready ready c.next_breakpoints-window.ensures c.loop-along.invariant.ended (room_here c.loop-along.invariant ready.runs.on.loaded.few c.requires.2))
