@@ -85,10 +85,8 @@ pub fn read_file<R: Files + Eprint>(rt: &R, name: &[u8], buffer: &mut [u8]) -> F
             let count = read_to_end(rt, &mut file, name, buffer)?;
             Ok(Some(count))
         }
+        Err(error) if error.kind() == ErrorKind::NotFound => Ok(None),
         Err(error) => {
-            if error.kind() == ErrorKind::NotFound {
-                return Ok(None);
-            }
             fail(rt, name, error);
             Err(ReadError::Failed)
         }
@@ -182,18 +180,8 @@ pub fn put_answer(outcome: Result<usize, Refusal>, list: &mut [u8; 65536]) -> us
 }
 
 // Writes the first bytes of a buffer to standard output.
-fn print_part<R: Print + Eprint>(rt: &R, bytes: &[u8], count: usize) {
+pub fn print_first<R: Print + Eprint>(rt: &R, bytes: &[u8], count: usize) {
     if let Err(error) = rt.write_all(tables::part(bytes, 0, count)) {
         fail(rt, "standard output", error);
     }
-}
-
-// Writes the first bytes of a list's buffer to standard output.
-pub fn print_first<R: Print + Eprint>(rt: &R, list: &[u8; 65536], count: usize) {
-    print_part(rt, list, count);
-}
-
-// The same for a line.
-pub fn print_line<R: Print + Eprint>(rt: &R, line: &[u8; 32], count: usize) {
-    print_part(rt, line, count);
 }

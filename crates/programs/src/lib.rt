@@ -281,7 +281,7 @@ pub fn looks_named<R: Files + Print + Eprint>(
         &mut scratch,
         &mut line,
     );
-    files::print_line(rt, &line, count);
+    files::print_first(rt, &line, count);
 }
 
 // The looks of the contig that contig.kv asks for, for cohort.kv, clip.kv and reference.kv.
