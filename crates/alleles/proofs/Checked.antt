@@ -4,7 +4,7 @@ use lib.Dec.{leb}
 use lib.ListN.{length}
 use mathlib.Core.Bool.{◌&&◌}
 use mathlib.Core.List.{List, [], ◌∷◌, map}
-use mathlib.Core.Path.{◌∙◌, ◌≡◌, refl, sym}
+use mathlib.Core.Path.{◌≡◌, refl}
 use Rattle.definitions.specs.Alleles.{allele_of, has_non_ref, letters_of, non_ref, ref_alts_of, same_allele, spelled}
 use Rattle.definitions.specs.Bytes.{comma, fields_of, same_bytes, text}
 use Rattle.definitions.specs.Lists.{all_of, any_of, is_there, only_if}

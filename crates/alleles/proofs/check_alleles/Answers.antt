@@ -1,8 +1,7 @@
 -- Test by test, as `checked` has them.
 use Prim.Native.Nat.{suc}
-use borrow.Author.Rules.{rules}
-use borrow.Author.Tests.{le-leb, lt-leb, not-false, not-true}
-use mathlib.Core.Path.{◌∙◌, ap, sym}
+use borrow.Author.Tests.{le-leb, lt-leb}
+use mathlib.Core.Path.{◌∙◌, sym}
 use native.Mathlib.Omega.{arith}
 use Rattle.alleles.proofs.Checked.{checked, has_non_ref_lem}
 use Rattle.alleles.specs.Alleles.{AllelesFound}

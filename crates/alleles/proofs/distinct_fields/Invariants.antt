@@ -1,16 +1,11 @@
 -- Each field with those behind it, up to the first that is among them.
-use Prim.Native.Nat.{◌+◌, ◌-◌, ◌≤◌, ℕ}
-use borrow.Author.Rules.{rules}
-use lib.ListN.{drop, length, length-drop, take}
-use lib.Seq.{take_all}
+use Prim.Native.Nat.{◌+◌, ◌-◌, ℕ}
+use lib.ListN.{drop, length}
 use mathlib.Core.List.{List}
-use mathlib.Core.Path.{◌∙◌, ◌≡◌, refl, sym}
-use native.Mathlib.Omega.{arith}
-use Rattle.alleles.proofs.FieldLoop.{FieldsLeft, field_decides_with, field_ends, field_passed, fields_start}
-use Rattle.definitions.specs.Bytes.{comma}
-use Rattle.definitions.specs.Lists.{all_distinct, any_of}
+use mathlib.Core.Path.{◌≡◌}
+use Rattle.alleles.proofs.FieldLoop.{FieldsLeft}
+use Rattle.definitions.specs.Lists.{all_distinct}
 use Rattle.laws.proofs.Capitals.{same_letters}
-use Rattle.kv_text.proofs.Fields.{field_forward, field_within}
 use Rattle.kv_text.specs.Fields.{field_length}
 use Rattle.alleles.proofs.distinct_fields.Given as goal
 

@@ -1,5 +1,4 @@
 -- The bytes of `<NON_REF>`.
-use borrow.Author.Rules.{rules}
 use Rattle.definitions.specs.Bytes.{text}
 use Rattle.alleles.proofs.is_non_ref.Goals as goal
 

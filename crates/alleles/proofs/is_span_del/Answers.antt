@@ -1,5 +1,4 @@
 -- The byte of `*`.
-use borrow.Author.Rules.{rules}
 use Rattle.definitions.specs.Bytes.{text}
 use Rattle.alleles.proofs.is_span_del.Goals as goal
 

@@ -1,10 +1,10 @@
 -- `any` tells whether one of the names, by their numbers, is the same.
-use Prim.Native.Nat.{◌-◌, suc, zero, ℕ}
+use Prim.Native.Nat.{suc, zero, ℕ}
 use borrow.Author.Rules.{rules}
 use borrow.Author.Tests.{tests}
 use mathlib.Core.Bool.{Bool, ◌||◌}
 use mathlib.Core.List.{List, [], ◌∷◌, map}
-use mathlib.Core.Path.{◌∙◌, ◌≡◌, ap, refl, sym}
+use mathlib.Core.Path.{◌∙◌, ◌≡◌, ap, refl}
 use native.Mathlib.Numerals.{add-one}
 use native.Mathlib.Omega.{arith}
 use Rattle.std.proofs.lemmas.Iterator.{YieldsList-from_range, cases_from_any}
