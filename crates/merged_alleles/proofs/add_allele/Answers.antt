@@ -1,5 +1,4 @@
 -- The candidate is laid behind the list, and looked for before it.
-use borrow.Author.Rules.{rules}
 use native.Mathlib.Omega.{arith}
 use Rattle.merged_alleles.proofs.Listing.{comma_short}
 use Rattle.merged_alleles.proofs.Turns.{adds_fresh, adds_no_more, adds_old, from_before, list_before, next_length, next_within, short_capitals}

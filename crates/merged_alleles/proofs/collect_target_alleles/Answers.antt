@@ -1,5 +1,4 @@
 -- The letter ALTs, and behind them `*`, if it is shown, and `<NON_REF>`.
-use borrow.Author.Rules.{rules}
 use Rattle.merged_alleles.proofs.Ends.{merged_added, merged_too_many}
 use Rattle.merged_alleles.specs.Alts.{Added, AltsLaid}
 use Rattle.merged_alleles.proofs.collect_target_alleles.Goals as goal

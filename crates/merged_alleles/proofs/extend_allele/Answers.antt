@@ -1,5 +1,4 @@
 -- `*` and `<NON_REF>` are no letters.
-use borrow.Author.Rules.{rules}
 use mathlib.Core.Path.{◌∙◌, sym}
 use Rattle.definitions.specs.Alleles.{spelled}
 use Rattle.definitions.specs.Bytes.{text}

@@ -1,14 +1,11 @@
 -- Field by field.
-use Prim.Native.Nat.{◌-◌, ℕ}
 use borrow.Author.Rules.{rules}
-use lib.ListN.{length}
-use mathlib.Core.List.{List, flat_map}
 use mathlib.Core.Path.{◌∙◌, refl}
 use native.Mathlib.Omega.{arith}
-use Rattle.definitions.specs.Bytes.{comma, fields_of}
+use Rattle.definitions.specs.Bytes.{comma}
 use Rattle.kv_text.proofs.Fields.{field_within}
-use Rattle.merged_alleles.proofs.Turns.{FieldsLeft, field_short, fields_done, fields_more, fields_too_many}
-use Rattle.merged_alleles.specs.Alts.{Added, add_all, extended_letters, listed}
+use Rattle.merged_alleles.proofs.Turns.{field_short, fields_done, fields_more, fields_too_many}
+use Rattle.merged_alleles.specs.Alts.{Added}
 use Rattle.merged_alleles.proofs.extend_alleles.Goals as goal
 
 pub loop-laid-init : goal.loop-laid-init

@@ -1,5 +1,4 @@
 -- No ALT is listed, or the fields of the text are looked at.
-use borrow.Author.Rules.{rules}
 use lib.ListN.{length-take}
 use mathlib.Core.Path.{◌∙◌, sym}
 use native.Mathlib.Nat.{min-eq_left}

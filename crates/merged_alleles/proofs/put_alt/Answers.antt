@@ -1,5 +1,4 @@
 -- A comma, and the ALT.
-use borrow.Author.Rules.{rules}
 use native.Mathlib.Omega.{arith}
 use Rattle.kv_write.proofs.Laying.{laid_append}
 use Rattle.merged_alleles.proofs.Listing.{comma_short}

@@ -1,5 +1,4 @@
 -- None behind no ALTs.
-use borrow.Author.Rules.{rules}
 use Rattle.kv_write.proofs.Laying.{laid_none}
 use Rattle.merged_alleles.proofs.Listing.{a_comma, no_comma}
 use Rattle.merged_alleles.proofs.put_comma.Goals as goal

@@ -1,6 +1,4 @@
 -- `<NON_REF>`, or `*` and `<NON_REF>`.
-use borrow.Author.Rules.{rules}
-use borrow.Author.Tests.{not-false, not-true}
 use lib.ListN.{length-append}
 use mathlib.Core.List.{[], ◌∷◌}
 use native.Mathlib.Omega.{arith}

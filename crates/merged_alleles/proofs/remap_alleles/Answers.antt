@@ -1,6 +1,4 @@
 -- None of a site that starts earlier; of another, those of its ALTs with the end of REF behind its own.
-use borrow.Author.Rules.{rules}
-use borrow.Author.Tests.{not-false, not-true}
 use mathlib.Core.Path.{◌∙◌, sym}
 use Rattle.merged_alleles.proofs.Turns.{adds_nothing, end_short, letters_there, no_letters_earlier}
 use Rattle.merged_alleles.specs.Alts.{Added}

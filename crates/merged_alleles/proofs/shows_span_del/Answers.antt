@@ -1,5 +1,4 @@
 -- By whether it starts there.
-use borrow.Author.Rules.{rules}
 use mathlib.Core.Bool.{not}
 use mathlib.Core.Path.{◌∙◌, ap, sym}
 use Rattle.definitions.specs.Alleles.{spelled}

@@ -1,5 +1,4 @@
 -- Two numbers are compared.
-use borrow.Author.Rules.{rules}
 use Rattle.merged_alleles.proofs.starts_at.Goals as goal
 
 pub returns : goal.returns
