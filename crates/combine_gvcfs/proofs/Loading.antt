@@ -295,6 +295,17 @@ unfolding ReadTo TriedWith
 not_loaded s clipped clip referenced reference names rows places scratch out (Refused refusal) h = texts_refused h refl
 not_loaded s clipped clip referenced reference names rows places scratch out NoRoom h = (refl, h)
 
+-- tables that refused the texts, or had no room for them
+pub tried_refused : (t : Texts) (scratch places : ℕ) (out out' : List ℕ) {r : Result ℕ LoadError} {error : LoadError} {refusal : Refusal} → r ≡ Err error
+    → error ≡ Refused refusal → TriedWith t scratch out out' places r → TextsAnswered t scratch out out' (Err refusal)
+unfolding TriedWith
+tried_refused t scratch places out out' e f tried = rw (e, f) at tried
+
+pub tried_full : (t : Texts) (scratch places : ℕ) (out out' : List ℕ) {r : Result ℕ LoadError} {error : LoadError} → r ≡ Err error → error ≡ NoRoom
+    → TriedWith t scratch out out' places r → (out' ≡ out) × (places < max_sites * 22)
+unfolding TriedWith
+tried_full t scratch places out out' e f tried = rw (e, f) at tried
+
 -- the table for all has rows for all sites
 pub full_table : {R : Type 0} (places : ℕ) → places ≡ table_length → places < max_sites * 22 → R
 full_table places e h = absurd (omega arith)

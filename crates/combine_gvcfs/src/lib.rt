@@ -246,8 +246,10 @@ fn combine_long<'a>(
     );
     match tried {
         Ok(written) => Ok(written),
-        Err(LoadError::Refused(refusal)) => Err(refusal),
-        Err(LoadError::NoRoom) => Err(Refusal::Size),
+        Err(error) => match error {
+            LoadError::Refused(refusal) => Err(refusal),
+            LoadError::NoRoom => Err(Refusal::Size),
+        },
     }
 }
 
@@ -297,10 +299,12 @@ fn combine_fitting<'a>(
     let tried = combine_small(cohort, clipped, clip, referenced, reference, scratch, out);
     match tried {
         Ok(written) => Ok(written),
-        Err(LoadError::Refused(refusal)) => Err(refusal),
-        Err(LoadError::NoRoom) => {
-            combine_long(cohort, clipped, clip, referenced, reference, scratch, out)
-        }
+        Err(error) => match error {
+            LoadError::Refused(refusal) => Err(refusal),
+            LoadError::NoRoom => {
+                combine_long(cohort, clipped, clip, referenced, reference, scratch, out)
+            }
+        },
     }
 }
 

@@ -216,7 +216,9 @@ pub fn call(list: &[u8], out: &mut [u8]) -> Result<usize, Refusal>
     let mut names = [0usize; 128];
     match sample_names::read_samples(list, &mut names) {
         Ok(lines) => call_samples(list, &names, lines.count, lines.next, out),
-        Err(LoadError::Refused(refusal)) => Err(refusal),
-        Err(LoadError::NoRoom) => Err(Refusal::Size),
+        Err(error) => match error {
+            LoadError::Refused(refusal) => Err(refusal),
+            LoadError::NoRoom => Err(Refusal::Size),
+        },
     }
 }

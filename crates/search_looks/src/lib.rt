@@ -214,8 +214,10 @@ fn fitting_looks<'a>(
         cohort, clipped, clip, referenced, reference, &mut names, &mut rows,
     );
     match read {
-        Err(LoadError::NoRoom) => Err(Refusal::Size),
-        Err(LoadError::Refused(refusal)) => Err(refusal),
+        Err(error) => match error {
+            LoadError::NoRoom => Err(Refusal::Size),
+            LoadError::Refused(refusal) => Err(refusal),
+        },
         Ok(size) => loaded_looks(
             cohort,
             &rows,

@@ -1,7 +1,7 @@
 -- The tables have room for all.
 use borrow.Author.Rules.{rules}
 use mathlib.Core.Path.{refl}
-use Rattle.combine_gvcfs.proofs.Loading.{full_table, long_fit}
+use Rattle.combine_gvcfs.proofs.Loading.{full_table, long_fit, tried_full, tried_refused}
 use Rattle.combine_gvcfs.specs.Combined.{TriedWith}
 use Rattle.combine_gvcfs.proofs.combine_long.Goals as goal
 
@@ -12,11 +12,8 @@ pub returns-in-Ok : goal.returns-in-Ok
 unfolding TriedWith
 returns-in-Ok c = c.in-Ok.ensures
 
-pub returns-in-Err-Refused : goal.returns-in-Err-Refused
-unfolding TriedWith
-returns-in-Err-Refused c = rw c.in-Err-Refused.field-0-is at c.in-Err-Refused.ensures
+pub returns-in-Refused : goal.returns-in-Refused
+returns-in-Refused c = tried_refused _ _ _ _ _ c.in-Err.is c.in-Refused.is c.combine_with-tried.ensures
 
-pub returns-in-Err-NoRoom : goal.returns-in-Err-NoRoom
-unfolding TriedWith
-returns-in-Err-NoRoom c = let no_room = rw c.in-Err-NoRoom.field-0-is at c.in-Err-NoRoom.ensures in
-    full_table _ refl no_room.1
+pub returns-in-NoRoom : goal.returns-in-NoRoom
+returns-in-NoRoom c = full_table _ refl (tried_full _ _ _ _ _ c.in-Err.is c.in-NoRoom.is c.combine_with-tried.ensures).1

@@ -21,13 +21,13 @@ call_samples-requires c = let h = rw c.in-Ok.is at c.read_samples.ensures in
       in_table = omega (arith, h.few, c.read_samples.auto.names);
     }
 
-pub returns-in-Err-NoRoom : goal.returns-in-Err-NoRoom
+pub returns-in-NoRoom : goal.returns-in-NoRoom
 unfolding Header
-returns-in-Err-NoRoom c = let h = rw c.in-Err-NoRoom.field-0-is at c.in-Err-NoRoom.ensures in absurd (omega (arith, h.no_room))
+returns-in-NoRoom c = let h = rw c.in-NoRoom.is at (rw c.in-Err.is at c.read_samples.ensures) in absurd (omega (arith, h.no_room))
 
-pub returns-in-Err-Refused : goal.returns-in-Err-Refused
+pub returns-in-Refused : goal.returns-in-Refused
 unfolding Header
-returns-in-Err-Refused c = let h = rw c.in-Err-Refused.field-0-is at c.in-Err-Refused.ensures in
+returns-in-Refused c = let h = rw c.in-Refused.is at (rw c.in-Err.is at c.read_samples.ensures) in
     answered_refused (header_refused _ _ (short_enough _ c.if-list-gt16777216.false) h.value) refl
 
 pub returns-in-Ok : goal.returns-in-Ok

@@ -16,13 +16,13 @@ unfolding ReadTo
 loaded_looks-requires c = let few = c.in-Ok.ensures.few_sites in
     (tables_ready c.in-Ok.ensures, record { for_order = omega arith; for_firsts = omega arith; for_chosen = omega arith })
 
-pub returns-in-Err-NoRoom : goal.returns-in-Err-NoRoom
+pub returns-in-NoRoom : goal.returns-in-NoRoom
 unfolding ReadTo
-returns-in-Err-NoRoom c = full_table _ refl (rw c.in-Err-NoRoom.field-0-is at c.in-Err-NoRoom.ensures)
+returns-in-NoRoom c = full_table _ refl (rw c.in-NoRoom.is at (rw c.in-Err.is at c.read_texts-read.ensures))
 
-pub returns-in-Err-Refused : goal.returns-in-Err-Refused
+pub returns-in-Refused : goal.returns-in-Refused
 unfolding ReadTo
-returns-in-Err-Refused c = texts_refused _ _ _ (rw c.in-Err-Refused.field-0-is at c.in-Err-Refused.ensures)
+returns-in-Refused c = texts_refused _ _ _ (rw c.in-Refused.is at (rw c.in-Err.is at c.read_texts-read.ensures))
 
 pub returns-in-Ok : goal.returns-in-Ok
 unfolding ReadTo
