@@ -9,8 +9,8 @@ use Rattle.genotype_gvcfs.proofs.genotype_gvcf_records.Goals as goal
 pub loop-read-init : goal.loop-read-init
 loop-read-init c = λ ready. going_start _ _ _ _ ready
 
-pub record_at-place-requires : goal.record_at-place-requires
-record_at-place-requires c = omega (arith, c.requires.few, c.requires.room)
+pub record_at-requires : goal.record_at-requires
+record_at-requires c = omega (arith, c.requires.few, c.requires.room)
 
 pub returns-in_err-place : goal.returns-in_err-place
 unfolding RecordRead
@@ -24,7 +24,7 @@ genotype_one_record-list-requires c = lay_ready _ _ _ _ c.requires (c.loop-read.
 
 pub loop-read-preserved : goal.loop-read-preserved
 unfolding RecordRead
-loop-read-preserved c = λ ready. going_next _ _ _ _ ready (c.loop-read.invariant ready) c.loop-read-test.true c.in_ok-place.ensures (rw c.unwrap_or.ensures (last_position _ _))
+loop-read-preserved c = λ ready. going_next _ _ _ _ ready (c.loop-read.invariant ready) c.loop-read-test.true c.in_ok-place.ensures (rw c.unwrap_or.ensures (last_position c.in_ok-place.place.end c.in_ok-place.place.pos))
     c.genotype_one_record-list.ensures
 
 pub returns-then-next-s : goal.returns-then-next-s
