@@ -1,10 +1,7 @@
 -- The loop's invariant: the text is in order if it is from here on.
 use Prim.Native.Nat.{◌-◌}
-use borrow.Author.Rules.{rules}
 use lib.ListN.{length}
-use native.Mathlib.Omega.{arith}
-use Rattle.clip_and_reference.proofs.Groups.{Left, left_end, left_faulty, left_next, left_start}
-use Rattle.clip_and_reference.specs.Groups.{SpanRead}
+use Rattle.clip_and_reference.proofs.Groups.{Left}
 use Rattle.definitions.specs.ClipAndReference.{span_of}
 use Rattle.clip_and_reference.proofs.check_clip.Given as goal
 

@@ -1,9 +1,6 @@
 -- The loop's invariant: the text is in order if it is from here on.
-use Prim.Native.Nat.{◌-◌}
-use borrow.Author.Rules.{rules}
-use lib.ListN.{length}
 use native.Mathlib.Omega.{arith}
-use Rattle.clip_and_reference.proofs.Groups.{Left, left_end, left_faulty, left_next, left_start}
+use Rattle.clip_and_reference.proofs.Groups.{left_end, left_faulty, left_next, left_start}
 use Rattle.clip_and_reference.specs.Groups.{SegmentRead}
 use Rattle.definitions.specs.ClipAndReference.{segment_of}
 use Rattle.clip_and_reference.proofs.check_reference.Goals as goal

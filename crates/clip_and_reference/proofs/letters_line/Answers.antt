@@ -2,7 +2,6 @@
 use borrow.Author.Rules.{rules}
 use mathlib.Core.Option.{some}
 use mathlib.Core.Path.{◌∙◌, sym}
-use native.Mathlib.Omega.{arith}
 use Rattle.definitions.specs.Alleles.{letters_of}
 use Rattle.definitions.specs.Numbers.{max_number}
 use Rattle.laws.proofs.Capitals.{letters_raised}

@@ -1,6 +1,5 @@
 -- Three lines: a contig, a number and letters, the last of which stands at a position that is a number.
 use Prim.Native.Nat.{◌+◌, ◌-◌, ◌<◌, ◌≤◌, ℕ}
-use borrow.Author.Rules.{rules}
 use lib.ListN.{length, length-map}
 use mathlib.Core.List.{List, map}
 use mathlib.Core.Path.{◌≡◌}

@@ -1,5 +1,4 @@
 -- Three lines: a contig, and two numbers in order.
-use borrow.Author.Rules.{rules}
 use mathlib.Core.Path.{◌∙◌}
 use native.Mathlib.Omega.{arith}
 use Rattle.clip_and_reference.proofs.ThreeLines.{clip_group, first_unread, group_read, number_zero, out_of_order, part_read, second_unread, third_unread, three_lines}
