@@ -73,10 +73,10 @@ module _ {s names : List ℕ} {samples : ℕ} (header : HeaderNames s names samp
   measuring = record { few = header.few; room = room; d₀ = []; bytes = []; measured = measured_none (omega arith) }
 
   module _ (records at : ℕ) (part : List ℕ) where
-    pub list_refused : {r : Refusal} (space : ℕ) → WalkSays s at samples records rows [] 0 part (Err r)
+    pub list_refused : (r : Refusal) (space : ℕ) → WalkSays s at samples records rows [] 0 part (Err r)
         → called_from s names samples records at space ≡ refused (row_of r)
     unfolding RecordsWalked measuring called_from
-    list_refused space says = then_refused _ _ (says measuring)
+    list_refused r space says = then_refused _ _ (says measuring)
 
     pub measurement : {rows₁ : List ℕ} {end : ListEnd} → length rows₁ ≡ length rows → records ≤ 4294967295
         → WalkSays s at samples records rows [] 0 part (Ok end) → Measurement s names samples records at rows₁ end.at end.count

@@ -39,17 +39,17 @@ module _ {s rows : List ℕ} {samples sites : ℕ} {clipped : Bool} {clip : List
   sites_ready = record { referenced = referenced; reference = reference; tables = ready.list.tables; all_sites = ready.all_sites }
 
   module _ (contig part : List ℕ) where
-    pub walk_refused : {r : Refusal} → WalkSays ready.list [] 0 part (Err r) → refused (row_of r) ≡ looks_with ready.list.tables.loaded.input 1 contig
+    pub walk_refused : (r : Refusal) → WalkSays ready.list [] 0 part (Err r) → refused (row_of r) ≡ looks_with ready.list.tables.loaded.input 1 contig
     unfolding RecordsWalked measuring ◌>>◌
-    walk_refused {r} says =
+    walk_refused r says =
         let walked : RecordsRefused (all_records ready.list.tables) [] [] part (row_of r) = says (measuring ready.list) in
         sym (then_refused _ _ walked.merged)
 
-    pub walk_accepted : {end : ListEnd} {figure : ℕ} → WalkSays ready.list [] 0 part (Ok end)
+    pub walk_accepted : (end : ListEnd) {figure : ℕ} → WalkSays ready.list [] 0 part (Ok end)
         → ((lent : SitesReady s rows samples sites clipped clip order runs) → figure ≡ contig_looks lent.tables.loaded.input contig)
         → accepted figure ≡ looks_with ready.list.tables.loaded.input 1 contig
     unfolding RecordsWalked measuring ◌>>◌ sites_ready
-    walk_accepted {end} says counted =
+    walk_accepted end says counted =
         let laid : RecordsLaid (all_records ready.list.tables) [] [] 0 part end.at end.count = says (measuring ready.list) in
         sym (then _ _ laid.merged (ap accepted (sym (counted sites_ready))))
 

@@ -15,7 +15,7 @@ write_measured-requires c = measurement c.requires _ (omega arith) _ _ _ c.genot
 
 pub returns-in_err-measured : goal.returns-in_err-measured
 returns-in_err-measured c = let p = err_from_is_err_and c.from_residual.result c.from_residual.ensures.1 in
-    rw (p.1, p.2) (answered_refused (list_refused c.requires _ (omega arith) _ _ _ _ c.in_err-measured.ensures)
+    rw (p.1, p.2) (answered_refused (list_refused c.requires _ (omega arith) _ _ _ _ _ c.in_err-measured.ensures)
     (nothing_left c.genotype_gvcf_records.new.out _ c.genotype_gvcf_records.auto.out))
 
 pub returns : goal.returns

@@ -20,7 +20,7 @@ pub returns-in_default : goal.returns-in_default
 unfolding key_of text
 returns-in_default c = answered_refused (records_unread _ _ c.requires (rw (c.in_default.is) at c.number_line.ensures)) refl
 
-pub returns-in-Some : goal.returns-in-Some
+pub returns : goal.returns
 unfolding key_of text LineReads
-returns-in-Some c = let l = rw (c.in-Some.is) at c.number_line.ensures in rw (called_is _ _ c.requires l)
+returns c = let l = rw (c.in-Some.is) at c.number_line.ensures in rw (called_is _ _ c.requires l)
     c.call_records.ensures

@@ -26,7 +26,7 @@ asked_looks-requires c = (
 pub returns-in_err-walk_contigs : goal.returns-in_err-walk_contigs
 returns-in_err-walk_contigs c = λ ready.
     let p = err_from_is_err_and c.from_residual.result c.from_residual.ensures.1 in
-    rw (p.1, p.2) (walk_refused ready _ _ c.in_err-walk_contigs.ensures)
+    rw (p.1, p.2) (walk_refused ready _ _ _ c.in_err-walk_contigs.ensures)
 
 pub returns : goal.returns
-returns c = λ ready. walk_accepted ready _ _ c.in_ok-walk_contigs.ensures c.asked_looks.ensures
+returns c = λ ready. walk_accepted ready _ _ _ c.in_ok-walk_contigs.ensures c.asked_looks.ensures
