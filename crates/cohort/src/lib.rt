@@ -34,17 +34,15 @@ pub fn put_site(
     requires { site * 22 + 22 ≤ length rows.old }
     ensures { rows.new ≡ sets rows.old (site * 22) (row_of place contig alleles values block) }
 {
-    let gq = values.gq.unwrap_or(MISSING);
-    let dp = values.dp.unwrap_or(MISSING);
-    let mindp = values.mindp.unwrap_or(MISSING);
     let row = [
         place.sample.get(),
         contig,
         place.start.get() as usize,
         place.end.get() as usize,
         flag(block),
-        gq as usize,
-        dp as usize + mindp as usize * 4294967296,
+        values.gq.unwrap_or(MISSING) as usize,
+        values.dp.unwrap_or(MISSING) as usize
+            + values.mindp.unwrap_or(MISSING) as usize * 4294967296,
         place.contig.at,
         place.contig.end,
         alleles.refs.at,

@@ -7,7 +7,7 @@ returns c = rw (
   ← c.get.ensures,
   ← c.get-2.ensures,
   ← c.get-3.ensures,
-  ← c.unwrap_or-gq.ensures,
-  ← c.unwrap_or-dp.ensures,
-  ← c.unwrap_or-mindp.ensures,
+  ← c.unwrap_or.ensures,
+  ← c.unwrap_or-2.ensures,
+  ← c.unwrap_or-3.ensures,
 ) c.store_row.ensures
