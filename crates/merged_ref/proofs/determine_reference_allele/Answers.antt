@@ -1,5 +1,4 @@
 -- The letter where no site starts; else the longest REF, if the others are its prefixes.
-use borrow.Author.Rules.{rules}
 use Rattle.merged_ref.proofs.Refs.{by_letter, conflict, shared}
 use Rattle.merged_ref.proofs.Starting.{longest_is}
 use Rattle.tables.specs.Tables.{part_at}

@@ -1,5 +1,4 @@
 -- The front of the text, as long as the prefix, is compared, in either case.
-use borrow.Author.Rules.{rules}
 use mathlib.Core.Path.{◌∙◌, sym}
 use native.Mathlib.Nat.{sub-zero}
 use Rattle.laws.proofs.Capitals.{prefix_capitals}

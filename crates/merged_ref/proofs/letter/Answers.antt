@@ -1,5 +1,4 @@
 -- By the place.
-use borrow.Author.Rules.{rules}
 use Rattle.merged_ref.specs.Answers.{letter_bytes}
 use Rattle.merged_ref.proofs.letter.Goals as goal
 

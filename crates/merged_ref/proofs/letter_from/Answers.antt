@@ -1,11 +1,8 @@
 -- The loop's invariant: the segments from here on give the letter as all do.
-use Prim.Native.Nat.{◌-◌}
-use borrow.Author.Rules.{rules}
-use lib.ListN.{length}
 use mathlib.Core.Path.{◌∙◌, sym}
 use native.Mathlib.Omega.{arith}
 use Rattle.clip_and_reference.specs.Groups.{SegmentRead}
-use Rattle.merged_ref.proofs.LetterPlaces.{LetterLeft, letter_end, letter_faulty, letter_found, letter_passed, letter_start}
+use Rattle.merged_ref.proofs.LetterPlaces.{letter_end, letter_faulty, letter_found, letter_passed, letter_start}
 use Rattle.merged_ref.proofs.Letters.{there_is, there_is_none}
 use Rattle.merged_ref.proofs.letter_from.Goals as goal
 

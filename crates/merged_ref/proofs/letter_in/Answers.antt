@@ -1,6 +1,4 @@
 -- By the tests.
-use borrow.Author.Rules.{rules}
-use borrow.Author.Tests.{not-false, not-true}
 use mathlib.Core.Path.{◌∙◌, sym}
 use native.Mathlib.Omega.{arith}
 use Rattle.merged_ref.proofs.LetterPlaces.{at_index, off_contig, too_early, too_late}

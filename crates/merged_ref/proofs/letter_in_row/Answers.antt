@@ -1,5 +1,4 @@
 -- The row's numbers are those of the segment.
-use borrow.Author.Rules.{rules}
 use mathlib.Core.Path.{◌∙◌}
 use Rattle.indexed_groups.specs.Indexed.{placed_at}
 use Rattle.tables.specs.Tables.{segment_at}

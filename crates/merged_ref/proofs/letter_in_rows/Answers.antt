@@ -1,8 +1,6 @@
 -- The loop's invariant: the rows from here on give the letter as all do.
-use Prim.Native.Nat.{◌-◌, ◌≤◌, ◌<◌}
 use mathlib.Core.Path.{◌∙◌, sym}
-use Rattle.merged_ref.proofs.LetterPlaces.{RowsLeft, rows_absent, rows_found, rows_passed, rows_start}
-use Rattle.tables.specs.Tables.{segment_count}
+use Rattle.merged_ref.proofs.LetterPlaces.{rows_absent, rows_found, rows_passed, rows_start}
 use Rattle.merged_ref.proofs.Letters.{there_is, there_is_none}
 use Rattle.merged_ref.proofs.letter_in_rows.Goals as goal
 

@@ -1,5 +1,4 @@
 -- By whether the site starts there, and by the lengths.
-use borrow.Author.Rules.{rules}
 use mathlib.Core.Path.{◌∙◌, sym}
 use Rattle.merged_ref.proofs.Starting.{site_longer, site_not_longer, site_only, site_passed, start_elsewhere, start_there}
 use Rattle.merged_ref.proofs.longer_ref.Goals as goal

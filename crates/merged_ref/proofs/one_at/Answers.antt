@@ -1,6 +1,5 @@
 -- One byte, if the text goes so far.
 use Prim.Native.Nat.{◌+◌, ◌-◌}
-use borrow.Author.Rules.{rules}
 use lib.ListN.{drop_of_length-le}
 use mathlib.Core.Path.{◌≡◌}
 use native.Mathlib.Omega.{arith}

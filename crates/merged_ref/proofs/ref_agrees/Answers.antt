@@ -1,5 +1,4 @@
 -- By whether the site starts there.
-use borrow.Author.Rules.{rules}
 use mathlib.Core.Path.{◌∙◌, sym}
 use Rattle.definitions.specs.MergedRef.{site_ref}
 use Rattle.laws.proofs.AllelesAsRead.{ref_alts_as_read}

@@ -1,5 +1,4 @@
 -- By the answer.
-use borrow.Author.Rules.{rules}
 use Rattle.merged_ref.specs.Answers.{ref_or}
 use Rattle.merged_ref.proofs.ref_bytes.Goals as goal
 

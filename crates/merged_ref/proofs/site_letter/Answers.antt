@@ -1,5 +1,4 @@
 -- By whether REF is longer than the position lies behind the start.
-use borrow.Author.Rules.{rules}
 use lib.ListN.{length}
 use mathlib.Core.Path.{ap}
 use native.Mathlib.Omega.{arith}
