@@ -1,14 +1,13 @@
 -- When a site of a table shows `*`.
-use Prim.Native.Nat.{◌<◌, ℕ}
+use Prim.Native.Nat.{◌+◌, ◌<◌, ◌≤◌, ℕ}
 use lib.Dec.{eqb}
-use lib.ListN.{length}
+use lib.ListN.{drop, drop_of_length-le, get_or, length}
+use lib.Seq.{drop-cons}
 use mathlib.Core.Bool.{Bool, ◌&&◌, ◌||◌, cond, false, not, true}
 use mathlib.Core.List.{List, [], ◌∷◌, map}
 use mathlib.Core.Option.{none, some}
-use mathlib.Core.Path.{◌∙◌, ◌≡◌, refl, sym}
-use Rattle.std.specs.Bool.{MatchBool}
-use Rattle.std.specs.List.{AllWithin, HoldsAt}
-use Rattle.answers.proofs.Chains.{any_answer}
+use mathlib.Core.Path.{◌∙◌, ◌≡◌, ap, refl, sym}
+use native.Mathlib.Numerals.{add-one}
 use Rattle.definitions.specs.Alleles.{RefAlts, capital, is_block, letters, non_ref, same_allele, span_del, spelled}
 use Rattle.definitions.specs.Bytes.{comma, fields_of, same_bytes}
 use Rattle.definitions.specs.Lists.{any_of}
@@ -17,11 +16,9 @@ use Rattle.definitions.specs.MergedRef.{site_ref, starts_at}
 use Rattle.laws.proofs.Alleles.{block_is}
 use Rattle.laws.proofs.AllelesAsRead.{allele_as_read, ref_alts_as_read}
 use Rattle.laws.proofs.Bytes.{same_flip}
-use Rattle.laws.proofs.Every.{Every, every_at}
 use Rattle.tables.specs.Tables.{column, part_at, site_at}
 use Rattle.merged_alleles.proofs.Adding.{or_false, or_true}
 use Rattle.merged_alleles.specs.Alts.{sites_at}
-use Rattle.merged_alleles.specs.SoundSites.{SoundRow}
 
 -- a site that starts there
 starting : (ref own : List ℕ) (fs : List (List ℕ))
@@ -62,24 +59,29 @@ module _ (s rows : List ℕ) (position site : ℕ) (ref : List ℕ) where
   unfolding shows_span_del remapped_alleles site_ref starts_at site_at
   shows_spanning e = rw e (sym (spanning _ (site_at s rows site).alleles))
 
--- ---- all sites
+-- ---- the sites from one on
 
-any_map : {A B : Type 0} (f : A → B) (p : B → Bool) (l : List A) → any_of p (map f l) ≡ any_of (λ a. p (f a)) l
-unfolding any_of
-any_map f p [] = refl
-any_map f p (x ∷ l) = rw (any_map f p l)
+-- whatever REF is, the answer for those from i on is that for all
+abbrev pub ShownFrom : List ℕ → List ℕ → ℕ → List ℕ → ℕ → Type 0
+ShownFrom s rows position found i =
+    (ref : List ℕ) → any_of (shows_span_del ref position) (sites_at s rows (drop i found)) ≡ any_of (shows_span_del ref position) (sites_at s rows found)
 
-module _ (s rows : List ℕ) (position : ℕ) (ref : List ℕ) where
-  abbrev shows : ℕ → Bool
-  shows site = shows_span_del ref position (site_at s rows site)
+module _ (s rows : List ℕ) (position : ℕ) (found : List ℕ) (i : ℕ) (left : ShownFrom s rows position found i) where
+  module _ (below : i < length found) {b : Bool} (shown : (ref : List ℕ) → b ≡ shows_span_del ref position (site_at s rows (get_or found i 0))) where
+    from_here : (ref : List ℕ) → (b || any_of (shows_span_del ref position) (sites_at s rows (drop (i + 1) found)))
+        ≡ any_of (shows_span_del ref position) (sites_at s rows found)
+    unfolding any_of
+    from_here ref =
+        rw (shown ref, add-one i)
+        (ap (λ (l : List ℕ). any_of (shows_span_del ref position) (sites_at s rows l)) (sym (drop-cons found i 0 below)) ∙ left ref)
 
-  -- what `any` answers, where each site is sound
-  pub any_shown : (found : List ℕ) → Every (SoundRow s rows) found → (r : Bool)
-      → MatchBool r ((k : ℕ) × (k < length found) × HoldsAt (λ x. SoundRow s rows x → true ≡ shows x) found k)
-      (AllWithin (λ x. SoundRow s rows x → false ≡ shows x) found 0 (length found))
-      → r ≡ any_of (shows_span_del ref position) (sites_at s rows found)
-  any_shown found sound true h =
-      any_answer shows found true (h.0, h.1, λ d. sym (h.2 d (every_at h.0 d h.1 sound))) ∙ sym (any_map (site_at s rows) (shows_span_del ref position) found)
-  any_shown found sound false h =
-      any_answer shows found false (λ k d up below. sym (h k d up below (every_at k d below sound)))
-      ∙ sym (any_map (site_at s rows) (shows_span_del ref position) found)
+    pub shown_here : b ≡ true → (ref : List ℕ) → true ≡ any_of (shows_span_del ref position) (sites_at s rows found)
+    shown_here e ref = rw e at (from_here ref)
+
+    pub shown_later : b ≡ false → ShownFrom s rows position found (i + 1)
+    shown_later e ref = rw e at (from_here ref)
+
+  pub none_shown : length found ≤ i → (ref : List ℕ) → false ≡ any_of (shows_span_del ref position) (sites_at s rows found)
+  unfolding any_of
+  none_shown past ref =
+      ap (λ (l : List ℕ). any_of (shows_span_del ref position) (sites_at s rows l)) (sym (drop_of_length-le found past)) ∙ left ref

@@ -172,8 +172,8 @@ fn letter_alts(
 // Whether a site shows `*`, whatever REF is: it starts here and has it, or it starts earlier and is no block.
 // (No ALT of a block reads as `*`.)
 fn shows_span_del(s: &[u8], rows: &[usize], site: usize, position: GenomePosition) -> bool
-    ensures { SoundRow s.now rows.now site
-        → (ref : List ℕ) → result ≡ shows_span_del ref position.0 (site_at s.now rows.now site) }
+    requires { SoundRow s.now rows.now site }
+    ensures { (ref : List ℕ) → result ≡ shows_span_del ref position.0 (site_at s.now rows.now site) }
 {
     if starts_at(rows, site, position) {
         return alleles::among_fields(b"*", tables::alternate_alleles(s, rows, site));
@@ -186,9 +186,13 @@ fn any_span_del(s: &[u8], rows: &[usize], found: &[usize], position: GenomePosit
     requires { Every (SoundRow s.now rows.now) found.now }
     ensures { (ref : List ℕ) → result ≡ any_of (shows_span_del ref position.0) (sites_at s.now rows.now found.now) }
 {
-    found
-        .iter()
-        .any(|site| shows_span_del(s, rows, *site, position))
+    // `any` would call a closure of which its requirement has to be shown: no plainer
+    for site in found {
+        if shows_span_del(s, rows, *site, position) {
+            return true;
+        }
+    }
+    false
 }
 
 // Lays `*`, if it is shown, and `<NON_REF>` behind letter ALTs.

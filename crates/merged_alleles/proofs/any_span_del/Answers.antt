@@ -1,17 +1,22 @@
--- The answer of `any`, where each site is sound.
-use Rattle.std.proofs.Common.{◌≡◌, true, false, rules, tests, ℕ}
-use Rattle.std.proofs.lemmas.Iterator.{YieldsList-from_slice, cases_from_any}
-use Rattle.definitions.specs.MergedAlleles.{shows_span_del}
-use Rattle.tables.specs.Tables.{site_at}
-use Rattle.merged_alleles.proofs.SpanDel.{any_shown}
-use Rattle.merged_alleles.specs.SoundSites.{SoundRow}
+-- Site by site, up to the first that shows it.
+use Prim.Native.Nat.{◌-◌}
+use borrow.Author.Rules.{rules}
+use mathlib.Core.Path.{refl}
+use Rattle.laws.proofs.Every.{every_at}
+use Rattle.merged_alleles.proofs.SpanDel.{ShownFrom, none_shown, shown_here, shown_later}
 use Rattle.merged_alleles.proofs.any_span_del.Goals as goal
 
+pub loop-site-init : goal.loop-site-init
+loop-site-init c = λ ref. refl
+
+pub shows_span_del-requires : goal.shows_span_del-requires
+shows_span_del-requires c = every_at _ 0 c.loop-site-test.true c.requires
+
+pub returns-then-shows_span_del : goal.returns-then-shows_span_del
+returns-then-shows_span_del c = shown_here _ _ _ _ _ c.loop-site.invariant c.loop-site-test.true (c.shows_span_del.ensures) c.if-shows_span_del.true
+
+pub loop-site-preserved : goal.loop-site-preserved
+loop-site-preserved c = shown_later _ _ _ _ _ c.loop-site.invariant c.loop-site-test.true (c.shows_span_del.ensures) c.if-shows_span_del.false
+
 pub returns : goal.returns
-returns c = λ ref.
-    let s = c.args.s.now in
-    let rows = c.args.rows.now in
-    let shows = λ (site : ℕ). shows_span_del ref c.args.position.0 (site_at s rows site) in
-    any_shown s rows c.args.position.0 ref c.args.found.now c.requires _
-    (cases_from_any _ _ _ (λ x. SoundRow s rows x → true ≡ shows x) (λ x. SoundRow s rows x → false ≡ shows x) c.any.ensures.ran
-    (YieldsList-from_slice c.args.found.now cc) (λ x q k. search (rules, tests)) (λ x q k. search (rules, tests)))
+returns c = none_shown _ _ _ _ _ c.loop-site.invariant c.loop-site-test.false
