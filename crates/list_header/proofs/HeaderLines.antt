@@ -14,7 +14,7 @@ use Rattle.kv_text.specs.Fields.{between}
 use Rattle.kv_write.specs.Keyed.{keyed}
 use Rattle.laws.proofs.Decimals.{decimal_length}
 use Rattle.laws.proofs.Members.{length_numbers}
-use Rattle.core.specs.Simd.{first_chunks}
+use Rattle.std.specs.Simd.{first_chunks}
 use Rattle.list_header.specs.HeaderNames.{HeaderNames}
 use Rattle.record_laws.proofs.Lengths.{header_few, most_header}
 use Rattle.tables.specs.Tables.{name_at, names_in}

@@ -6,8 +6,8 @@ use mathlib.Core.Bool.{true}
 use mathlib.Core.List.{List}
 use mathlib.Core.Path.{◌≡◌, sym}
 use native.Mathlib.Omega.{arith}
-use Rattle.core.specs.Option.{option_copied}
-use Rattle.core.specs.Slice.{IsItemAt}
+use Rattle.std.specs.Option.{option_copied}
+use Rattle.std.specs.Slice.{IsItemAt}
 use Rattle.std.specs.Borrow.{Bor}
 use Rattle.std.specs.Prelude.{None, Option, Some}
 use Rattle.definitions.specs.Alleles.{genotype_count}

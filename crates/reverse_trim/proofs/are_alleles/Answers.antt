@@ -4,7 +4,7 @@ use lib.ListN.{drop, length, take}
 use mathlib.Core.Bool.{Bool}
 use mathlib.Core.List.{List}
 use mathlib.Core.Path.{◌∙◌, ◌≡◌}
-use Rattle.core.specs.Option.{is_some}
+use Rattle.std.specs.Option.{is_some}
 use Rattle.std.specs.Prelude as std
 use Rattle.alleles.specs.Alleles.{AllelesFound}
 use Rattle.alleles.specs.declared.CheckedAlleles.{CheckedAlleles}

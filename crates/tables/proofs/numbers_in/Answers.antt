@@ -4,7 +4,7 @@ use lib.ListN.{length}
 use mathlib.Core.List.{List, []}
 use mathlib.Core.Option.{get_or}
 use mathlib.Core.Path.{◌∙◌, ◌≡◌}
-use Rattle.core.specs.Option.{unwrap_or}
+use Rattle.std.specs.Option.{unwrap_or}
 use Rattle.std.specs.Prelude.{None, Option, Some}
 use Rattle.definitions.specs.Numbers.{number_list}
 use Rattle.kv_text.specs.Fields.{numbers_read}
