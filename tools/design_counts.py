@@ -77,7 +77,7 @@ def twins():
 
 def index_loops():
     yield from lines_with(r"^\s*(while|loop)\b")
-    yield from lines_with(r"^\s*(?:'\w+: )?for \w+ in [^{]*\.\.")
+    yield from lines_with(r"^\s*(?:'\w+: )?for \w+ in [^{&]*\.\.")
 
 
 BY_HAND = r"\bfn (same_bytes|compare_bytes|same_letters|lesser\w*|greater\w*|copy_\w+|flag|wide|store\w*|put_value|put_index|put_allele|value_at|likelihood_at|number_at|clear\w*|is_zero|set_bytes|set_places|at_most|is_set|is_either|behind)\b|enum Order\b"

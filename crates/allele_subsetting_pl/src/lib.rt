@@ -85,6 +85,7 @@ fn pick_likelihoods(map: &[u8], gl: &[f64], picked: &mut [f64])
     ensures { picked.new ≡ sets picked.old 0 (at_mapped_pairs absent_likelihood map.now gl.now) }
 {
     let count = num_genotype_likelihoods(map.len());
+    // places of PL are gone through, not a slice
     for place in 0..count {
         let x = mapped_likelihood(map, gl, place);
         slices::store(picked, place, x);
@@ -174,6 +175,7 @@ fn output_allele_keep_indices_from_assigned_gt(
     ensures { Laid keep.old 0 (assigned_alleles alleles gt.now) keep.new result }
 {
     let mut count = 0;
+    // numbers of alleles are gone through, not a slice
     for number in 0..alleles {
         let allele = AlleleIndex::new(number as u8);
         let assigned = is_assigned(gt, allele);

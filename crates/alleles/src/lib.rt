@@ -46,6 +46,7 @@ pub fn distinct_fields(list: &[u8]) -> bool
 {
     let mut at = 0;
     let mut end = kv_text::field_end(list, 0, b',');
+    // by offsets: each field is compared with what is behind it, which `split` does not tell
     while end < list.len() {
         if among_alleles(&list[at..end], &list[end + 1..]) {
             return false;

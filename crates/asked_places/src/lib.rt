@@ -57,6 +57,7 @@ pub fn count_pairs(s: &[u8]) -> Result<usize, Refusal>
     let mut count = 0;
     let mut last = Part { at: 0, end: 0 };
     let mut position = GenomePosition::new_1based(0);
+    // a pair says where the next begins
     while at < s.len() {
         let pair = pair_at(s, at).ok_or(Refusal::Spelling)?;
         if 1024 <= count {

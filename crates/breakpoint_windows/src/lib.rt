@@ -138,6 +138,7 @@ fn add_positions(places: &mut [u64], taken: Taken, past: u64, first: u64, behind
     }
     let from = later_of(past, first);
     let mut now = taken;
+    // positions are gone through, not a slice
     for position in from..behind {
         if now.limit <= position {
             return now;
@@ -269,6 +270,7 @@ fn add_spans(clip: &[u8], contig: &[u8], past: u64, places: &mut [u64], taken: T
 {
     let mut now = taken;
     let mut at = 0;
+    // a group says where the next begins
     while at < clip.len() {
         let Some(group) = clip_and_reference::span_at(clip, at) else {
             return now;

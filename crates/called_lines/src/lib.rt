@@ -82,6 +82,7 @@ pub fn non_ref_number(alts: &[u8]) -> AlleleIndex
 {
     let mut at = 0;
     let mut number: u8 = 1;
+    // by offsets: what is before the field is the answer too
     loop {
         let end = kv_text::field_end(alts, at, b',');
         if kv_text::same_bytes(&alts[at..end], b"<NON_REF>") {
@@ -128,6 +129,7 @@ fn alleles_without_non_ref(out: &mut [u8], at: usize, alts: &[u8]) -> usize
     let mut next = at;
     let mut others = false;
     let mut from = 0;
+    // by offsets: the fields are laid as they are found
     loop {
         let end = kv_text::field_end(alts, from, b',');
         let dropped = kv_text::same_bytes(&alts[from..end], b"<NON_REF>");
@@ -221,6 +223,7 @@ fn put_called_samples(
         out.new result }
 {
     let mut next = at;
+    // samples are gone through by their numbers, not by a slice
     for sample in 0..samples {
         let index = SampleIndex::new(sample);
         next = put_called_sample(s, alleles, dropped, rows, index, out, next);

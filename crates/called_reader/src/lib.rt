@@ -80,6 +80,7 @@ fn record_text(
     let alts = kv_text::count_fields(tables::part(s, alleles.alts.at, alleles.alts.end), b',');
     let mut next = alleles.next;
     let mut fit = true;
+    // `i` is the sample whose offsets are stored
     for i in 0..samples {
         let values = sample_lines(s, next)?;
         pls[2 * i] = values.pl.at;

@@ -49,6 +49,7 @@ pub fn check_clip(s: &[u8]) -> bool
     ensures { result ≡ is_accepted (optional_groups span_of (some s.now)) }
 {
     let mut at = 0;
+    // a group says where the next begins
     while at < s.len() {
         let Some(group) = span_at(s, at) else {
             return false;
@@ -108,6 +109,7 @@ pub fn check_reference(s: &[u8]) -> bool
     ensures { result ≡ is_accepted (optional_groups segment_of (some s.now)) }
 {
     let mut at = 0;
+    // a group says where the next begins; one function of both would take a closure, and a contract of what it answers: no plainer
     while at < s.len() {
         let Some(group) = segment_at(s, at) else {
             return false;

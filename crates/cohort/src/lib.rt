@@ -89,6 +89,7 @@ pub fn contig_number(s: &[u8], rows: &[usize], count: usize, contig: &[u8]) -> u
     requires { ContigsNumbered s.now rows.now count }
     ensures { result ≡ first_on s.now rows.now count contig.now }
 {
+    // the rows are read by their numbers, and the count is no slice's length
     for site in 0..count {
         if is_first_on(s, rows, site, contig) {
             return site;
@@ -107,6 +108,7 @@ fn read_sites(s: &[u8], at: usize, samples: usize, rows: &mut [usize]) -> Result
     let mut pl = [0u32; 10];
     let mut next = at;
     let mut count = 0;
+    // a group says where the next begins
     while next < s.len() {
         let group = site_groups::site_at(s, next, samples, count, &mut ad, &mut pl)?;
         if rows.len() < count * 22 + 22 {

@@ -65,6 +65,7 @@ fn count_intervals(
         depth: 0,
         intervals: 0,
     };
+    // how many windows there are is known only when the last one is read
     loop {
         let window = breakpoint_windows::next_breakpoints(
             rows, sites, clip, contig, along.past, scratch,

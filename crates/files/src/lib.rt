@@ -51,6 +51,7 @@ fn read_to_end(
     ensures { IfOk result (λ n. n < length buffer.old) }
 {
     let mut count = 0;
+    // a read says how far the next one begins behind
     while count < buffer.len() {
         let more = match read_behind(file, buffer, count) {
             Ok(more) => more,

@@ -29,6 +29,7 @@ fn gather(list: &mut [Found], sites: &[usize], owners: &[usize])
     requires { (length owners.now ≤ length list.old) × (length sites.now ≡ length owners.now) }
     ensures { list.new ≡ sets list.old 0 (found_list sites.now owners.now) }
 {
+    // three lists in step: a zip of them is no plainer
     for i in 0..owners.len() {
         list[i] = found_at(sites, owners, i);
     }

@@ -87,6 +87,7 @@ fn genotype_gvcf_records(
     let mut next = at;
     let mut previous = None;
     let mut list = ListEnd { at: from, count: 0 };
+    // so many groups are asked for; each says where the next begins
     for read in 0..records {
         let place = list_reader::record_at(s, next, samples, previous, rows)?;
         list = genotype_one_record(s, place, rows, samples, out, list);

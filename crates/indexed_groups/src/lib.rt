@@ -20,6 +20,7 @@ fn store_segments(reference: &[u8], rows: &mut [usize]) -> Stored
     ensures counted { result.count ≡ rows_for (segments_read reference.now 0) }
 {
     let mut at = 0;
+    // `count` is the number of the row that is stored
     for count in 0..1024 {
         let Some(group) = clip_and_reference::segment_at(reference, at) else {
             return Stored { count, next: at };

@@ -65,6 +65,7 @@ pub fn field_at(s: &[u8], separator: u8, number: usize) -> Option<Part>
 {
     let mut at = 0;
     let mut end = field_end(s, 0, separator);
+    // by offsets: where the field stands is the answer, which `split` does not tell
     for _ in 0..number {
         if s.len() <= end {
             return None;
@@ -122,6 +123,7 @@ fn read_digits(s: &[u8], at: usize) -> Option<(u32, usize)>
         return None;
     }
     let mut n = wide(first - 48);
+    // where it stops is the answer
     for i in at + 1..s.len() {
         let b = s[i];
         if !is_digit(b) {
@@ -157,6 +159,7 @@ pub fn read_numbers(s: &[u8], out: &mut [u32]) -> Option<usize>
 {
     let mut at = 0;
     let mut count = 0;
+    // by offsets: `split` would go over the bytes twice
     loop {
         let (n, end) = read_digits(s, at)?;
         store(out, count, n);

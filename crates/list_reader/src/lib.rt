@@ -193,6 +193,7 @@ fn record_text(
     };
     let mut has_pl = false;
     let mut fit = true;
+    // `i` is the row that is stored
     for i in 0..samples {
         let values = sample_lines(s, next, alts)?;
         cohort::put_site(rows, i, place, 0, alleles, values, false);

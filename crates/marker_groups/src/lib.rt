@@ -151,6 +151,7 @@ pub fn part_at<'a>(s: &'a [u8], rows: &[usize], marker: usize, from: usize, to: 
 fn find_marker(s: &[u8], rows: &[usize], count: usize, name: &[u8]) -> Option<usize>
     ensures { option_of result ≡ index_where (same_bytes name.now) (names_in s.now rows.now count) }
 {
+    // the rows are read by their numbers, and the count is no slice's length
     for i in 0..count {
         if kv_text::same_bytes(name, part_at(s, rows, i, 0, 1)) {
             return Some(i);
@@ -183,6 +184,7 @@ fn after_markers(
     ensures { AftersFound s.now rows.now count list.now numbers.new result }
 {
     let names = count_names(list);
+    // `i` is the place that is stored
     for i in 0..names {
         let field = kv_text::field_at(list, b',', i)?;
         let found = find_marker(s, rows, count, tables::part(list, field.at, field.end))?;
@@ -252,6 +254,7 @@ pub fn read_markers(s: &[u8], rows: &mut [usize]) -> Result<usize, LoadError>
     }
     let mut at = 0;
     let mut count = 0;
+    // a group says where the next begins
     while at < s.len() {
         match marker_at(s, at, rows, count) {
             Ok(next) => {

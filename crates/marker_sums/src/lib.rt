@@ -19,6 +19,7 @@ fn all_met(rows: &[usize], marker: usize, met: &[u8]) -> bool
     ensures { result ≡ met_after rows.now met.now marker }
 {
     let names = marker_groups::column(rows, marker, 8);
+    // columns of a row are gone through by their numbers
     for j in 0..names {
         let named = marker_groups::column(rows, marker, 9 + j);
         if !is_set(met, named) {
@@ -56,6 +57,7 @@ pub fn sample_sum(rows: &[usize], count: usize, shown: &[u8]) -> usize
 {
     let mut met = [0u8; 500];
     let mut sum = 0;
+    // the rows are read by their numbers, and the count is no slice's length
     for marker in 0..count {
         let is = is_met(rows, marker, shown, &met);
         met[marker] = is as u8;

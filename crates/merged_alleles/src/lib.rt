@@ -105,6 +105,7 @@ fn extend_alleles(list: &[u8], end: &[u8], alts: &mut [u8], so_far: AltList) -> 
 {
     let mut laid = so_far;
     let mut at = 0;
+    // by offsets: an iterator of `split` would need a loop invariant over what it has given; no plainer
     loop {
         let stop = kv_text::field_end(list, at, b',');
         laid = extend_allele(&list[at..stop], end, alts, laid)?;

@@ -90,6 +90,7 @@ fn letter_in_rows(
         (placed_in reference.now rows.now) }
 {
     let count = tables::segment_count(rows);
+    // the rows are read by their numbers, and the count is no slice's length
     for segment in 0..count {
         let letter = letter_in_row(reference, rows, segment, contig, position);
         if letter.is_some() {
@@ -109,6 +110,7 @@ fn letter_from(
     ensures { option_of result ≡ letter_place contig.now position.0 (segments_placed reference.now from) }
 {
     let mut at = from;
+    // a group says where the next begins
     while at < reference.len() {
         let group = clip_and_reference::segment_at(reference, at)?;
         let letter = letter_in(

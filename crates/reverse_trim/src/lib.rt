@@ -45,6 +45,7 @@ fn common_ending(reference: &[u8], allele: &[u8], most: usize) -> usize
     ensures { result ≡ min most (common_ending (map capital reference.now) (map capital allele.now)) }
 {
     let mut n = 0;
+    // two texts from behind, in step, up to a limit
     while n < most {
         if reference.len() <= n {
             return n;
@@ -84,6 +85,7 @@ fn common_clip(reference: &[u8], alts: &[u8]) -> usize
     }
     let mut clip = reference.len() - 1;
     let mut at = 0;
+    // by offsets: an iterator of `split` would need a loop invariant over what it has given; no plainer
     loop {
         let end = kv_text::field_end(alts, at, b',');
         clip = clip_with(reference, &alts[at..end], clip);
@@ -130,6 +132,7 @@ fn put_trimmed(list: &[u8], clip: usize, out: &mut [u8]) -> usize
 {
     let mut next = 0;
     let mut at = 0;
+    // by offsets: a comma is laid only where a field follows
     loop {
         let end = kv_text::field_end(list, at, b',');
         let trimmed = without_suffix(&list[at..end], clip);

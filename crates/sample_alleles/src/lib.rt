@@ -27,6 +27,7 @@ pub fn split_alts(alts: &[u8], fields: &mut [usize]) -> usize
 {
     let mut at = 0;
     let mut count = 0;
+    // by offsets: they are what is stored
     loop {
         let end = kv_text::field_end(alts, at, b',');
         fields[2 * count] = at;
@@ -89,6 +90,7 @@ fn put_absent(index: AlleleIndex, count: usize, map: &mut [u8])
     ensures { map.new ≡ sets map.old 1 (each_of (λ _. index.0) count) }
 {
     let byte = index.get() as u8;
+    // so many places are stored from the second on
     for i in 0..count {
         slices::store(map, i + 1, byte);
     }
@@ -101,6 +103,7 @@ fn put_span_del(index: AlleleIndex, alts: &[u8], fields: &[usize], count: usize,
         (λ i. same_bytes (name_at alts.now fields.now i) (text "*"))
         index.0 0 count map.old }
 {
+    // ALTs are read by their numbers; one function with `put_extended` would carry a closure's contract: no plainer
     for i in 0..count {
         let same = alleles::is_span_del(alt_at(alts, fields, i));
         put_index_if(same, map, i + 1, index);
@@ -122,6 +125,7 @@ fn put_extended(
         (λ i. same_allele (allele_as_read (name_at alts.now fields.now i)) (letters (capitals (bases.now ++ tail.now))))
         index.0 0 count map.old }
 {
+    // ALTs are read by their numbers
     for i in 0..count {
         let same = is_extended(alt_at(alts, fields, i), bases, tail);
         put_index_if(same, map, i + 1, index);

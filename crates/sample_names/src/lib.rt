@@ -39,6 +39,7 @@ fn sample_lines(s: &[u8], at: usize, count: usize, names: &mut [usize]) -> Resul
     ensures { NamesRead s.now at count names.old names.new result }
 {
     let mut next = at;
+    // `i` is the name whose offsets are stored
     for i in 0..count {
         let name = sample_at(s, next, names, i)?;
         names[2 * i] = name.at;

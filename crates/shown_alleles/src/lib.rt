@@ -92,6 +92,7 @@ pub fn shows_allele<'a>(
     requires { IfThere (λ l. length l ≤ 136) (number_list value.now) }
     ensures { result ≡ shows_any wanted.now (reference.now ∷ fields_of comma alts.now) (number_list value.now) 0 alleles }
 {
+    // alleles are gone through by their numbers: REF is none of the list's fields
     for number in 0..alleles {
         let allele = allele_at(reference, alts, number);
         if is_shown(wanted, allele, value, number) {

@@ -16,6 +16,7 @@ pub fn read_input(rt: &impl Input, buffer: &mut [u8]) -> usize
 {
     let mut reader = rt.reader();
     let mut count = 0;
+    // a read says how far the next one begins behind
     while count < buffer.len() {
         match files::read_behind(&mut reader, buffer, count) {
             Ok(0) | Err(_) => return count,

@@ -28,4 +28,3 @@ pub record Inv (rows sites : List ℕ) (past : ℕ) (places₀ places : List ℕ
 
 abbrev pub invariant-loop-site : goal.invariant-loop-site
 invariant-loop-site l = Inv l.rows l.sites l.past l.initial.places l.places l.adding l.site-index
-
