@@ -39,6 +39,8 @@ def own_option_or_result():
     """Enums of which a variant stands for 'none' or for a refusal, beside what was found."""
     none = r"^(Absent|Fault|Wrong|Missing|NoPair|TooMany|Faulty|None|Unnamed|Nothing|NoneStarts|NoSites|End|NoRoom|Nowhere|Failed)$|^Refused\("
     for path, name, variants in enums():
+        if name.endswith("Error"):
+            continue
         if any(re.search(none, v) for v in variants) and any("(" in v or "{" in v for v in variants):
             if re.search(none, " ".join(v for v in variants if v.startswith("Refused("))) or len(variants) >= 2:
                 yield f"{path}: enum {name} {{ {', '.join(variants)} }}"

@@ -265,6 +265,7 @@ fn reached_letter(
 // ---- REF
 
 // Where a letter stands: at an offset of the reference text, or of the cohort text; or nowhere, where no REF reaches the position.
+// Three kinds side by side: an `Option` around two of them would be matched in two steps, and is no plainer.
 #[derive(Clone, Copy)]
 pub enum Place {
     Reference(usize),
