@@ -133,6 +133,7 @@ fn add_records(
 {
     let mut rows = [0usize; 1408];
     let mut cursor = list_walk::first_group(header);
+    // `while let Ok(Some(..))` was tried, and the proof did not close: its exit has no name for the end of the list
     loop {
         match list_walk::step(list, header, cursor, &mut rows) {
             Ok(Some((place, next))) => {

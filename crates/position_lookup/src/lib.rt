@@ -54,6 +54,7 @@ fn reach(
 {
     let mut cursor = search.cursor;
     let mut first = search.first;
+    // the test stands before the step: no group is read for a position that the last record reaches
     loop {
         if is_reached(list, cursor.previous, contig, position) {
             return Ok(Search { cursor, first });
@@ -109,6 +110,7 @@ fn search_pairs(
     };
     let mut at = 0;
     let mut count = 0;
+    // a pair says where the next begins
     while at < asked.len() {
         let pair = asked_places::pair_at(asked, at).ok_or(Refusal::Spelling)?;
         let contig = tables::part(asked, pair.contig.at, pair.contig.end);

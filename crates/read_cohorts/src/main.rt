@@ -118,6 +118,7 @@ fn run_cases(
     rows: &mut [usize],
 ) {
     let mut at = 0;
+    // a case says where the next begins; one function of all programs would take a closure, and a contract of its answer: no plainer
     while at < input.len() {
         at = run_case(rt, input, at, text, names, rows);
     }

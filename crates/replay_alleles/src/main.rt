@@ -303,6 +303,7 @@ fn run_case(rt: &impl Print, line: &[u8]) {
 
 fn run_cases(rt: &impl Print, input: &[u8]) {
     let mut at = 0;
+    // by offsets: the edit case_read_again is of this step
     while at < input.len() {
         run_case(rt, line_at(input, at));
         at = after_line(input, at);

@@ -39,6 +39,7 @@ fn run_case(rt: &impl Print, input: &[u8], at: usize, out: &mut [u8]) -> usize
 
 fn run_cases(rt: &impl Print, input: &[u8], out: &mut [u8]) {
     let mut at = 0;
+    // a case says where the next begins; one function of all programs would take a closure, and a contract of its answer: no plainer
     while at < input.len() {
         at = run_case(rt, input, at, out);
     }

@@ -98,6 +98,7 @@ fn run_case(rt: &impl Print, input: &[u8], at: usize, numbers: &mut [u32]) -> us
 
 fn run_cases(rt: &impl Print, input: &[u8], numbers: &mut [u32]) {
     let mut at = 0;
+    // a case says where the next begins; one function of all programs would take a closure, and a contract of its answer: no plainer
     while at < input.len() {
         at = run_case(rt, input, at, numbers);
     }
