@@ -39,7 +39,7 @@ unfolding count_ready contig_window
 loop-along-smaller c = let found = c.next_breakpoints-window.ensures in
     let ready = c.requires.0 in
     let counted = c.count_window-along.ensures (count_ready ready (c.loop-along.invariant.so_far ready) found) in
-    fewer_left ready.points found counted.there (not-false c.if-not-window.false)
+    fewer_left ready.points found counted.there (not-false _ c.if-not-window.false)
 
 pub loop-along-preserved : goal.loop-along-preserved
 unfolding count_ready
@@ -55,4 +55,4 @@ unfolding count_ready
 returns-then-not-window c = λ ready.
     let found = c.next_breakpoints-window.ensures in
     let counted = c.count_window-along.ensures (count_ready ready (c.loop-along.invariant.so_far ready) found) in
-    so_far_end ready counted.so_far (none_left ready.points found counted.there (not-true c.if-not-window.true))
+    so_far_end ready counted.so_far (none_left ready.points found counted.there (not-true _ c.if-not-window.true))

@@ -106,7 +106,7 @@ loop-along-smaller c =
     let walked = c.in_ok-along.ensures
     (window_ready c.requires.0 c.next_breakpoints-window.ensures c.loop-along.invariant.ended room)
     (carrying c.loop-along.invariant c.requires.0 c.requires.1) in
-    fewer_left c.requires.0.points c.next_breakpoints-window.ensures walked.there (not-false c.if-not-window.false)
+    fewer_left c.requires.0.points c.next_breakpoints-window.ensures walked.there (not-false _ c.if-not-window.false)
 
 pub loop-along-preserved : goal.loop-along-preserved
 unfolding window_ready WalkedTo
@@ -146,5 +146,5 @@ returns c = λ ready begun.
     let walked = c.in_ok-along.ensures
     (window_ready ready c.next_breakpoints-window.ensures c.loop-along.invariant.ended room)
     (carrying c.loop-along.invariant ready begun) in
-    let none-past = none_left ready.points c.next_breakpoints-window.ensures walked.there (not-true c.if-not-window.true) in
+    let none-past = none_left ready.points c.next_breakpoints-window.ensures walked.there (not-true _ c.if-not-window.true) in
     rw (c.cap.ensures, c.count_pending.ensures) (carried_end ready walked.carried none-past _ _ c.put_pending-next.ensures)
