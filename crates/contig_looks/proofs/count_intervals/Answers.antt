@@ -51,7 +51,7 @@ loop-along-preserved c = let found = c.next_breakpoints-window.ensures in
     }
 
 pub returns-then-not-window : goal.returns-then-not-window
-unfolding count_ready
+unfolding count_ready contig_window
 returns-then-not-window c = λ ready.
     let found = c.next_breakpoints-window.ensures in
     let counted = c.count_window-along.ensures (count_ready ready (c.loop-along.invariant.so_far ready) found) in
