@@ -86,19 +86,22 @@ pub holds_joined : (samples : ℕ) (contig held : List ℕ) (block : PendingBloc
 unfolding Holds joined_to
 holds_joined samples contig held block p h position last' letter vs ordered in_range_lem joins =
     let tests = sym (coalesce_by samples contig held block p h position last'.0 letter vs) ∙ joins in
-    let touches : position ≡ suc block.loc.end.0 = eqb-true _ _ (both_of _ _ (both_of _ _ tests).0).0 in
-    (_, refl, record {
-      values = h.values;
-      record_is =
-          ap (λ (q : Record). coalesced q (block_record contig position last'.0 (letter ∷ []) vs)) h.record_is
-          ∙ block_records_coalesced contig block.loc.start.0 block.loc.end.0 (block.letter ∷ []) h.values
-          contig position last'.0 (letter ∷ []) vs (omega (arith, h.ordered)) ordered;
-      derived = h.derived;
-      all_samples = h.all_samples;
-      printed = h.printed;
-      ordered = omega (arith, h.ordered);
-      in_range_lem = in_range_lem;
-    })
+    let touches : position ≡ suc block.loc.end.0 = eqb-true _ _ (both_of _ _ (both_of _ _ tests).0).0 in (
+      _,
+      refl,
+      record {
+        values = h.values;
+        record_is =
+            ap (λ (q : Record). coalesced q (block_record contig position last'.0 (letter ∷ []) vs)) h.record_is
+            ∙ block_records_coalesced contig block.loc.start.0 block.loc.end.0 (block.letter ∷ []) h.values
+            contig position last'.0 (letter ∷ []) vs (omega (arith, h.ordered)) ordered;
+        derived = h.derived;
+        all_samples = h.all_samples;
+        printed = h.printed;
+        ordered = omega (arith, h.ordered);
+        in_range_lem = in_range_lem;
+      },
+    )
 
 -- ---- its length
 
