@@ -77,9 +77,9 @@ module _ {s names rows : List ℕ} {samples : ℕ} {clipped : Bool} {clip : List
       → RecordsWalked (all_records r.tables) r.d₀ r.bytes 0 out' w
 
   module _ (part : List ℕ) where
-    pub list_refused : {r : Refusal} (room : ℕ) → WalkSays [] 0 part (Err r) → list_within ready.tables.loaded 1 room ≡ refused (row_of r)
+    pub list_refused : (r : Refusal) (room : ℕ) → WalkSays [] 0 part (Err r) → list_within ready.tables.loaded 1 room ≡ refused (row_of r)
     unfolding RecordsWalked measuring list_of
-    list_refused room says = then_refused _ _ (then_refused _ _ (says measuring).merged)
+    list_refused r room says = then_refused _ _ (then_refused _ _ (says measuring).merged)
 
     pub measurement : (end : ListEnd) → WalkSays [] 0 part (Ok end)
         → Measurement s names rows samples clipped clip referenced reference contigs order bounds end.at end.count

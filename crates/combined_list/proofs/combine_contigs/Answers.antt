@@ -33,7 +33,7 @@ write_measured-requires c = (
 pub returns-in_err-measured : goal.returns-in_err-measured
 returns-in_err-measured c = λ ready.
     let p = err_from_is_err_and c.from_residual.result c.from_residual.ensures.1 in
-    rw (p.1, p.2) (answered_refused (list_refused ready _ _ c.in_err-measured.ensures)
+    rw (p.1, p.2) (answered_refused (list_refused ready _ _ _ c.in_err-measured.ensures)
     (nothing_left c.walk_contigs.new.out _ c.walk_contigs.auto.out))
 
 pub returns : goal.returns
