@@ -1,7 +1,7 @@
 /* Wintabol: combined and called lists of gVCF sites.
  *
  * Link target/staticlib/libwintabol.a, which tools/static_library.sh makes of the crate wintabol_c (x86-64 Linux). Every function takes every
- * input, allocates nothing, keeps no state and calls nothing but memset, memcpy and memmove. A slice is a pointer and a number of elements; a slice of
+ * input, allocates nothing, keeps no state and calls nothing but memset and memcpy. A slice is a pointer and a number of elements; a slice of
  * no elements has any pointer that is not null and fits its alignment. Slices that are written must not overlap any other slice of the call.
  *
  * A function that writes gives back the number of the row of the refusal table (README.md), 0 for none, and stores how many values it wrote,

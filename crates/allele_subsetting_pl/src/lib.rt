@@ -297,9 +297,9 @@ fn copy_record(
     ) {
         return Err(Refusal::Output);
     }
-    alts_out[..alts_len].copy_from_slice(alts);
-    gl_out[..gl_len].copy_from_slice(gl);
-    ad_out[..ad_len].copy_from_slice(ad);
+    slices::copy_over(&mut alts_out[..alts_len], alts);
+    slices::copy_over(&mut gl_out[..gl_len], gl);
+    slices::copy_over(&mut ad_out[..ad_len], ad);
     Ok(UnusedAlts {
         alts: alts_len,
         likelihoods: gl_len,

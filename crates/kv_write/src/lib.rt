@@ -35,11 +35,11 @@ pub fn put_bytes(out: &mut [u8], at: usize, bytes: &[u8]) -> usize
         return end;
     }
     if end <= out.len() {
-        out[at..end].copy_from_slice(bytes);
+        slices::copy_over(&mut out[at..end], bytes);
         return end;
     }
     let room = out.len() - at;
-    out[at..].copy_from_slice(&bytes[..room]);
+    slices::copy_over(&mut out[at..], &bytes[..room]);
     end
 }
 

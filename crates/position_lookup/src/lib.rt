@@ -146,7 +146,7 @@ fn give_found(
     if out.len() < count {
         return Err(Refusal::Output);
     }
-    out[..count].copy_from_slice(&found[..count]);
+    slices::copy_over(&mut out[..count], &found[..count]);
     Ok(LookedUp {
         pairs: count,
         groups,

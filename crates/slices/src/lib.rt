@@ -1,7 +1,8 @@
-// Reading and storing at any place of a slice: outside it a value that was given is read, and nothing is stored.
+// Reading and storing at any place of a slice: outside it a value that was given is read, and nothing is stored. Copies that call nothing from
+// outside the library.
 #![tactic(auto)]
 
-ghost use Rattle.std.specs.Prelude.{get_or, map, set, ◌≡◌};
+ghost use Rattle.std.specs.Prelude.{get_or, length, map, set, ◌≡◌};
 
 // The value at a place; `absent` if there is none.
 pub fn value_or<T: Copy>(values: &[T], place: usize, absent: T) -> T
@@ -19,6 +20,16 @@ pub fn store<T: Copy>(out: &mut [T], place: usize, value: T)
 {
     if place < out.len() {
         out[place] = value;
+    }
+}
+
+// Copies values over as many. It is a loop, since `copy_from_slice` is a call of memmove, which a board's library may lack.
+pub fn copy_over<T: Copy>(to: &mut [T], from: &[T])
+    requires { length to.old ≡ length from.now }
+    ensures { to.new ≡ from.now }
+{
+    for (i, value) in from.iter().enumerate() {
+        to[i] = *value;
     }
 }
 

@@ -18,7 +18,7 @@ pub fn store_row(rows: &mut [usize], first: usize, row: &[usize])
     requires { first + length row.now ≤ length rows.old }
     ensures { rows.new ≡ sets rows.old first row.now }
 {
-    rows[first..first + row.len()].copy_from_slice(row);
+    slices::copy_over(&mut rows[first..first + row.len()], row);
 }
 
 // A part of a text, as far as the text goes.

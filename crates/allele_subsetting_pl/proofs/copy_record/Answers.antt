@@ -26,7 +26,7 @@ returns c = let whole = whole_record c.args.alts.now c.args.gl.now c.args.ad.now
     let room = room_of whole out fits in
     answered_written (with_room_lem whole out fits refl) refl refl refl room
     (record {
-      alts = copied out.alts whole.alts room.alts c.copy_from_slice.ensures.after;
-      likelihoods = copied out.likelihoods whole.likelihoods room.likelihoods c.copy_from_slice-2.ensures.after;
-      ad = copied out.ad whole.ad room.ad c.copy_from_slice-3.ensures.after;
+      alts = copied out.alts whole.alts room.alts c.copy_over.ensures;
+      likelihoods = copied out.likelihoods whole.likelihoods room.likelihoods c.copy_over-2.ensures;
+      ad = copied out.ad whole.ad room.ad c.copy_over-3.ensures;
     })

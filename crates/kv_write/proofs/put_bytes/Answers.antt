@@ -10,7 +10,7 @@ pub returns-then-out-at : goal.returns-then-out-at
 returns-then-out-at c = laid_past refl c.if-out-at.true
 
 pub returns-then-end-out : goal.returns-then-end-out
-returns-then-end-out c = laid_whole refl c.if-end-out.true c.copy_from_slice.ensures.after
+returns-then-end-out c = laid_whole refl c.if-end-out.true c.copy_over.ensures
 
 pub returns : goal.returns
-returns c = laid_start (omega arith) (omega arith) c.copy_from_slice-2.ensures.after
+returns c = laid_start (omega arith) (omega arith) c.copy_over-2.ensures

@@ -18,7 +18,7 @@ unfolding FoundGiven
 returns c =
     let count : length (take c.args.count c.args.found.now) ≡ c.args.count = length-take-le c.args.count c.args.found.now c.requires in
     let laid =
-    ap (λ (xs : List ℕ). xs ++ drop c.args.count c.args.out.now) c.copy_from_slice.ensures.after
+    ap (λ (xs : List ℕ). xs ++ drop c.args.count c.args.out.now) c.copy_over.ensures
     ∙ ap (λ (n : ℕ). take c.args.count c.args.found.now ++ drop n c.args.out.now) (sym count)
     ∙ sym (sets_front c.args.out.now (take c.args.count c.args.found.now) (omega (arith, c.if-out-count.false))) in
     (refl, refl, c.if-out-count.false, laid)

@@ -4,4 +4,4 @@ use Rattle.kv_write.proofs.Laying.{laid_whole}
 use Rattle.tables.proofs.store_row.Goals as goal
 
 pub returns : goal.returns
-returns c = (laid_whole refl c.requires c.copy_from_slice.ensures.after).laid
+returns c = (laid_whole refl c.requires c.copy_over.ensures).laid
