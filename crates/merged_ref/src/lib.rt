@@ -11,7 +11,7 @@ ghost use Rattle.definitions.specs.Bytes.{is_prefix};
 ghost use Rattle.definitions.specs.Lists.{all_of, only_if};
 ghost use Rattle.definitions.specs.MergedRef.{merged_ref, ref_letter};
 ghost use Rattle.indexed_groups.specs.Indexed.{placed_at};
-ghost use Rattle.merged_ref.specs.Answers.{letter_bytes, letter_place, longer_site, longest_site, part_or, placed_by, placed_in, reached_offset, reached_place, ref_answer, ref_or, reference_placed, reference_segments, sites_at, starting_refs};
+ghost use Rattle.merged_ref.specs.Answers.{letter_bytes, letter_place, longer_site, longest_site, part_or, placed_by, placed_in, reached_offset, reached_place, ref_answer, ref_or, ref_or_none, reference_placed, reference_segments, sites_at, starting_refs};
 
 use answers::Refusal;
 use bio_ids::GenomePosition;
@@ -20,7 +20,8 @@ use kv_text::Part;
 // ---- the reference letter
 
 // The letter that a segment gives whose contig's name and bases stand in these parts of the reference, if it is on the contig and has one
-// at the position.
+// at the position. It is tried for row after row, and a call for each takes a third longer.
+#[inline(always)]
 fn letter_in(
     reference: &[u8],
     name: Part,
@@ -364,12 +365,27 @@ fn part_or<'a>(part: &'a [u8], other: &'a [u8]) -> &'a [u8]
     part
 }
 
-// REF, as the part of the text that holds it; `unknown`, which callers lend as `N`, for a letter that stands nowhere.
-pub fn ref_bytes<'a>(s: &'a [u8], reference: &'a [u8], unknown: &'a [u8], at: RefAt) -> &'a [u8]
+// REF, as the part of the text that holds it; `unknown` for a letter that stands nowhere.
+fn ref_part<'a>(s: &'a [u8], reference: &'a [u8], unknown: &'a [u8], at: RefAt) -> &'a [u8]
     ensures { result.now ≡ ref_or unknown.now s.now reference.now at }
 {
     match at {
         RefAt::Allele(from, to) => tables::part(s, from, to),
         RefAt::Letter(place) => part_or(letter(reference, s, place), unknown),
+    }
+}
+
+// The same where it may be refused: none then. Callers lend `N` for a letter that stands nowhere.
+pub fn ref_bytes<'a>(
+    s: &'a [u8],
+    reference: &'a [u8],
+    unknown: &'a [u8],
+    at: Result<RefAt, Refusal>,
+) -> &'a [u8]
+    ensures { result.now ≡ ref_or_none unknown.now s.now reference.now at }
+{
+    match at {
+        Ok(at) => ref_part(s, reference, unknown, at),
+        Err(_) => &s[..0],
     }
 }

@@ -1,6 +1,6 @@
 -- By the answer.
 use Rattle.merged_ref.specs.Answers.{ref_or}
-use Rattle.merged_ref.proofs.ref_bytes.Goals as goal
+use Rattle.merged_ref.proofs.ref_part.Goals as goal
 
 pub returns-in-Allele : goal.returns-in-Allele
 unfolding ref_or
