@@ -38,6 +38,14 @@ impl Refusal {
     }
 }
 
+impl From<Refusal> for usize {
+    ghost from_gives = { λ refusal row. row ≡ row_of refusal };
+
+    fn from(refusal: Refusal) -> usize {
+        refusal.row()
+    }
+}
+
 // Why a text is not read into tables: a row of the refusal table, or a table that is too short.
 #[derive(Clone, Copy)]
 pub enum LoadError {

@@ -6,8 +6,6 @@
 
 ghost use Rattle.std.specs.Prelude.{◌≡◌, ◌+◌, ◌≤◌, min, length};
 
-use answers::Refusal;
-
 // ---- the cases
 
 // Reads standard input until the buffer is full, the input ends or a read fails. The answer is how many bytes it has put at the start.
@@ -116,14 +114,18 @@ pub fn print_number(rt: &impl Print, n: usize) {
 }
 
 // The end of a line that tells of a refusal.
-pub fn print_refused(rt: &impl Print, refusal: Refusal) {
+pub fn print_refused(rt: &impl Print, row: impl Into<usize>) {
     print(rt, b" refused=");
-    print_number(rt, refusal.row());
+    print_number(rt, row.into());
     print(rt, b"\n");
 }
 
 // Prints the answer behind the case's name. The answer is how many bytes the list has.
-pub fn print_outcome(rt: &impl Print, outcome: Result<usize, Refusal>, out: &[u8]) -> usize {
+pub fn print_outcome(
+    rt: &impl Print,
+    outcome: Result<usize, impl Into<usize>>,
+    out: &[u8],
+) -> usize {
     match outcome {
         Ok(count) => {
             print(rt, b" written=");
@@ -132,8 +134,8 @@ pub fn print_outcome(rt: &impl Print, outcome: Result<usize, Refusal>, out: &[u8
             print(rt, tables::part(out, 0, count));
             count
         }
-        Err(refusal) => {
-            print_refused(rt, refusal);
+        Err(row) => {
+            print_refused(rt, row);
             0
         }
     }
