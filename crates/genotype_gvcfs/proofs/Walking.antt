@@ -10,7 +10,6 @@ use Rattle.answers.specs.Answered.{row_of}
 use Rattle.answers.specs.declared.Refusal.{Refusal}
 use Rattle.answers.specs.declared.Refusal.TheVariants as refusal
 use Rattle.bio_ids.specs.declared.GenomePosition.{GenomePosition}
-use Rattle.std.specs.Option.{unwrap_or}
 use Rattle.std.specs.Prelude as std
 use Rattle.cohort.proofs.FirstGroups.{some_lines}
 use Rattle.definitions.specs.CalledList.{called_records}
@@ -30,11 +29,6 @@ use Rattle.list_reader.specs.declared.RecordPlace.{RecordPlace}
 use Rattle.list_walk.proofs.MissingGroups.{all_accepted, all_ended, all_refused, more_refused}
 use Rattle.genotype_gvcfs.specs.Walk.{CalledLaid, LayReady, RecordsWalked, WalkReady, read_with, records_from}
 use Rattle.genotype_gvcfs.specs.declared.ListEnd.{ListEnd}
-
--- the last position of a record
-pub last_position : (end : std.Option GenomePosition) (pos : GenomePosition) → (unwrap_or end pos).0 ≡ get_or (end_option end) pos.0
-last_position std.None pos = refl
-last_position (std.Some last) pos = refl
 
 module _ (s : List ℕ) (at₀ samples records : ℕ) where
   -- what the groups from an offset on read as, behind these records, with which they are all

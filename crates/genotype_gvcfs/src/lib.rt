@@ -93,7 +93,7 @@ fn genotype_gvcf_records(
         list = genotype_one_record(s, place, rows, samples, out, list);
         previous = Some(PreviousRecord {
             contig: place.contig,
-            end: place.end.unwrap_or(place.pos),
+            end: list_walk::record_end(place.pos, place.end),
         });
         next = place.next;
     }

@@ -2,7 +2,7 @@
 use borrow.Author.Rules.{rules}
 use native.Mathlib.Omega.{arith}
 use Rattle.std.proofs.lemmas.Result.{err_from_is_err_and}
-use Rattle.genotype_gvcfs.proofs.Walking.{going_end, going_next, going_past, going_refused, going_start, last_position, lay_ready}
+use Rattle.genotype_gvcfs.proofs.Walking.{going_end, going_next, going_past, going_refused, going_start, lay_ready}
 use Rattle.list_reader.specs.RecordGroups.{RecordRead}
 use Rattle.genotype_gvcfs.proofs.genotype_gvcf_records.Goals as goal
 
@@ -24,7 +24,7 @@ genotype_one_record-list-requires c = lay_ready _ _ _ _ c.requires (c.loop-read.
 
 pub loop-read-preserved : goal.loop-read-preserved
 unfolding RecordRead
-loop-read-preserved c = λ ready. going_next _ _ _ _ ready (c.loop-read.invariant ready) c.loop-read-test.true c.in_ok-place.ensures (rw c.unwrap_or.ensures (last_position c.in_ok-place.place.end c.in_ok-place.place.pos))
+loop-read-preserved c = λ ready. going_next _ _ _ _ ready (c.loop-read.invariant ready) c.loop-read-test.true c.in_ok-place.ensures c.record_end.ensures
     c.genotype_one_record-list.ensures
 
 pub returns-then-next-s : goal.returns-then-next-s
