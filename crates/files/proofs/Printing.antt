@@ -21,7 +21,7 @@ use Rattle.kv_write.specs.Laid.{Laid}
 use Rattle.laws.proofs.Checked.{accepted_same}
 use Rattle.std.specs.Prelude.{Err, Ok, Result}
 use Rattle.files.proofs.LaidDigits.{length_most}
-use Rattle.files.specs.Printing.{Printed, written_values}
+use Rattle.files.specs.Printing.{AnswerPrinted, Printed, written_values}
 
 -- ---- bytes in a buffer
 
@@ -92,6 +92,12 @@ same_behind : (values : Checked (List ℕ)) (out : List ℕ) {out' : List ℕ} {
 unfolding output_after printed_answer
 same_behind (refused n) out {r = r} e count = ap (drop r) e
 same_behind (accepted list) out {r = r} e count = rw e (drop_at list _ r (sym count) ∙ rw count)
+
+-- what is printed where the number is the refusal's row
+pub row_printed : (o : Result ℕ Refusal) {before after : List ℕ} {r : ℕ} → AnswerPrinted (λ refusal row. row ≡ row_of refusal) o before after r
+    → Printed (printed_answer (written_values o before)) before after r
+row_printed (Ok count) p = p
+row_printed (Err refusal) p = rw p.1 at p.2
 
 -- so printing what it wrote prints them
 pub answered_printed : (values : Checked (List ℕ)) {out out' out'' : List ℕ} (o : Result ℕ Refusal) {r : ℕ} → Answered values out out' o

@@ -7,11 +7,10 @@ ghost use Rattle.definitions.specs.Answers.{printed_answer, printed_looks};
 ghost use Rattle.definitions.specs.Checked.{accepted, refused};
 ghost use Rattle.definitions.specs.Numbers.{decimal};
 ghost use Rattle.files.specs.FileTexts.{Below, has_failed, has_text, text_length, too_long};
-ghost use Rattle.files.specs.Printing.{Printed, written_values};
+ghost use Rattle.files.specs.Printing.{AnswerPrinted};
 ghost use Rattle.kv_write.specs.Keyed.{keyed};
 ghost use Rattle.kv_write.specs.Laid.{Laid};
 
-use answers::Refusal;
 use std::io::{ErrorKind, Read};
 use std::rt::Files;
 use std::{fs, io};
@@ -171,12 +170,15 @@ pub fn put_figure(out: &mut [u8], figure: usize) -> usize
 
 // Makes what a program prints, in the buffer that a call wrote its list to: the list, or the refusal over its start. The answer is how many
 // bytes that is.
-pub fn put_answer(outcome: Result<usize, Refusal>, list: &mut [u8; 65536]) -> usize
-    ensures { Printed (printed_answer (written_values outcome list.old)) list.old list.new result }
+pub fn put_answer<R: Into<usize>>(outcome: Result<usize, R>, list: &mut [u8; 65536]) -> usize
+    ensures { AnswerPrinted R.converts outcome list.old list.new result }
 {
     match outcome {
         Ok(count) => count.min(list.len()),
-        Err(refusal) => put_refusal(list, refusal.row()),
+        Err(refusal) => {
+            let row = refusal.into();
+            put_refusal(list, row)
+        }
     }
 }
 

@@ -7,8 +7,9 @@ use Rattle.files.proofs.put_answer.Goals as goal
 
 pub returns-in-Ok : goal.returns-in-Ok
 unfolding printed_answer
-returns-in-Ok c = let count = c.in-Ok.count in let list = c.args.list.now in
+returns-in-Ok g c = let count = c.in-Ok.count in let list = c.args.list.now in
     rw c.in-Ok.is (front_printed list count (rw length-take (omega arith)))
 
 pub returns-in-Err : goal.returns-in-Err
-returns-in-Err c = rw (c.in-Err.is, ← c.row.ensures) (laid_printed (omega (arith, refusal_short c.row.result (omega arith))) c.put_refusal.ensures)
+returns-in-Err g c = let row = c.into-row.result in
+    rw c.in-Err.is (row, c.into-row.ensures, laid_printed (omega (arith, refusal_short row (omega (arith, c.into-row.type_inv)))) c.put_refusal.ensures)
