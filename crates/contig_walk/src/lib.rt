@@ -186,7 +186,7 @@ pub fn walk_interval<'a>(
     let mut own = [rows.len(); 64];
     found_sites::own_sites(&found[..n], &owners[..n], &mut own);
     let text = tables::part(alts, 0, record.alts.len);
-    let allele = merged_ref::ref_bytes(s, reference, b"N", Ok(record.reference));
+    let allele = merged_ref::ref_bytes(s, reference, b"N", Some(record.reference));
     let step = lay_record(
         s,
         rows,

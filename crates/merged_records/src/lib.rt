@@ -35,7 +35,7 @@ fn alts_at<'a>(
     requires { (4096 ≤ length alts.old) × SoundSites s.now rows.now found.now (ref_bytes s.now reference.now at) }
     ensures { AltsFound s.now rows.now reference.now position.0 at found.now alts.new result }
 {
-    let allele = merged_ref::ref_bytes(s, reference, b"N", Ok(at));
+    let allele = merged_ref::ref_bytes(s, reference, b"N", Some(at));
     let laid = merged_alleles::collect_target_alleles(s, rows, found, position, allele, alts);
     let list = laid.ok_or(Refusal::TooManyAlleles)?;
     Ok(FoundRecord {

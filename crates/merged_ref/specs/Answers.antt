@@ -112,9 +112,9 @@ ref_or unknown s reference (answer.Allele from to) = between s from to
 ref_or unknown s reference (answer.Letter place) = part_or unknown (letter_bytes reference s place)
 
 -- the same where it may be refused: nothing then
-abbrev pub ref_or_none : List ℕ → List ℕ → List ℕ → Result RefAt Refusal → List ℕ
-ref_or_none unknown s reference (Ok at) = ref_or unknown s reference at
-ref_or_none unknown s reference (Err r) = []
+abbrev pub ref_or_none : List ℕ → List ℕ → List ℕ → std.Option RefAt → List ℕ
+ref_or_none unknown s reference (std.Some at) = ref_or unknown s reference at
+ref_or_none unknown s reference std.None = []
 
 -- REF: `N` for a letter that stands nowhere
 unfoldable pub ref_bytes : List ℕ → List ℕ → RefAt → List ℕ

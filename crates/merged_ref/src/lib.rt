@@ -380,12 +380,12 @@ pub fn ref_bytes<'a>(
     s: &'a [u8],
     reference: &'a [u8],
     unknown: &'a [u8],
-    at: Result<RefAt, Refusal>,
+    at: Option<RefAt>,
 ) -> &'a [u8]
     ensures { result.now ≡ ref_or_none unknown.now s.now reference.now at }
 {
     match at {
-        Ok(at) => ref_part(s, reference, unknown, at),
-        Err(_) => &s[..0],
+        Some(at) => ref_part(s, reference, unknown, at),
+        None => &s[..0],
     }
 }
